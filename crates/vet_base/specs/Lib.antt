@@ -1,0 +1,5 @@
+pub mod MemoryFiles
+pub mod MemorySink
+pub mod Numbers
+pub mod Outside
+pub mod Script
