@@ -1,0 +1,38 @@
+use vet_base::{Name, Seq};
+
+/// The parameters and the result of a method, each the descriptor of a type.
+#[derive(Debug, Drop)]
+pub struct Proto {
+    pub params: Seq<Name>,
+    /// `V` where there is none.
+    pub ret: Name,
+}
+
+/// A method as an instruction names it.
+#[derive(Debug, Drop)]
+pub struct MethodRef {
+    pub class: Name,
+    pub name: Name,
+    pub proto: Proto,
+}
+
+/// The five ways in which Dalvik bytecode calls a method.
+#[derive(Clone, Copy, Debug, PartialEq, Eq)]
+pub enum CallKind {
+    Virtual,
+    Super,
+    Direct,
+    Static,
+    Interface,
+}
+
+/// What a call comes to.
+#[derive(Clone, Copy, Debug)]
+pub enum Target<'a> {
+    /// The number of a method of the app.
+    Body(u32),
+    /// A class of the library.
+    Library(&'a Name),
+    /// The call can only raise.
+    Nothing,
+}
