@@ -1,0 +1,91 @@
+-- The events that may come while no frame is there.
+-- Android documentation: as in `LifeEvents`; "Input events overview" for clicks; "Processes and threads" for callbacks.
+use Rattle.std.specs.Prelude.{◌≡◌, ◌≢◌, ◌==◌, ◌⊎◌, ℕ, suc, ◌+◌, IsTrue, if◌then◌else◌, List, [], ◌∷◌, ◌++◌, length, map, Option, Some, None, filter_map}
+use Rattle.vet_base.specs.declared.key_id.KeyId.{KeyId}
+use Rattle.app_model.specs.declared.component.Kind.TheVariants.{Application, Activity}
+use Rattle.app_model.specs.declared.component.Component.{Component}
+use Rattle.app_model.specs.declared.lists.Callback.{Callback}
+use Rattle.app_model.specs.declared.lists.Lists.{Lists}
+use Rattle.app_model.specs.declared.app.App.{App}
+use Rattle.app_model.specs.Members.{In, IsAt}
+use Rattle.app_model.specs.Names.{Name, is_wide, is_reference, click_descriptor}
+use Rattle.app_model.specs.Lookups.{find_body, body_named, initialisers_from, elem_key}
+use Rattle.app_model.specs.Summaries.{Below}
+use Rattle.app_model.specs.Heap.{Value, Object, blank, labelled, ClassAt}
+use Rattle.app_model.specs.State.{World, Component_state, object_at, new_object}
+use Rattle.app_model.specs.LifeEvents.{LifeEvent, life_events}
+
+-- the component is the application object
+pub record IsApplication (app : App) (c : ℕ) : Type 0 where
+  pub component : Component
+  pub there : IsAt app.components c component
+  pub kind : component.kind ≡ Application
+
+-- The application comes first: where there is one, the others come to life only after its `onCreate`.
+abbrev pub MayBegin : App → World → ℕ → Type 0
+MayBegin app w c = (a : ℕ) → IsApplication app a → (a ≡ c) ⊎ ((w.components a).state ≡ 2)
+
+abbrev pub set_component : (ℕ → Component_state) → ℕ → Component_state → ℕ → Component_state
+set_component components c new d = if d == c then new else components d
+
+-- a component after an event: without its object where the state is 0
+abbrev pub after_event : LifeEvent → Option ℕ → Component_state
+after_event life place = record { state = life.to; place = if life.to == 0 then None else place }
+
+-- An event with a receiver that may come: the body, where there is one, the place of the receiver, the positions whose
+-- values come labelled, and the world as it is when the body begins.
+pub data Comes (app : App) (lists : Lists) (w : World) : Option ℕ → Option ℕ → List (ℕ × ℕ) → World → Type 0 where
+  lives : {c e : ℕ} {component : Component} {life : LifeEvent} → IsAt app.components c component → IsAt (life_events component.kind) e life →
+      (w.components c).state ≡ life.from → life.from ≢ 0 →
+      Comes app lists w (body_named app component.class life.name life.descriptor) (w.components c).place [] (record w { components = set_component w.components c (after_event life (w.components c).place) })
+  is_born : {c e : ℕ} {component : Component} {life : LifeEvent} → IsAt app.components c component → IsAt (life_events component.kind) e life →
+      (w.components c).state ≡ 0 → life.from ≡ 0 → MayBegin app w c →
+      Comes app lists w (body_named app component.class life.name life.descriptor) (Some (length w.heap)) [] (record w { heap = w.heap ++ new_object component.class ∷ []; components = set_component w.components c (after_event life (Some (length w.heap))) })
+  calls_back : {c q body : ℕ} {component : Component} {callback : Callback} → IsAt app.components c component → IsAt lists.callbacks q callback →
+      (w.components c).state ≢ 0 → Below app lists component.class callback.class → find_body app component.class callback.name callback.proto ≡ Some body →
+      Comes app lists w (Some body) (w.components c).place callback.sources w
+  is_clicked : {c i body : ℕ} {component : Component} {name : Name} → IsAt app.components c component → IsAt app.clicks i name →
+      component.kind ≡ Activity → (w.components c).state ≢ 0 → body_named app component.class name click_descriptor ≡ Some body →
+      Comes app lists w (Some body) (w.components c).place [] w
+  is_handed : {p q body : ℕ} {class : Name} {callback : Callback} → In p w.handed → ClassAt w.heap p class → IsAt lists.callbacks q callback →
+      Below app lists class callback.class → find_body app class callback.name callback.proto ≡ Some body →
+      Comes app lists w (Some body) (Some p) callback.sources w
+
+-- an initialiser of the class of a component that is not there, or of an app class above it, may come
+pub record MayInitialise (app : App) (w : World) (body : ℕ) : Type 0 where
+  pub c : ℕ
+  pub component : Component
+  pub there : IsAt app.components c component
+  pub absent : (w.components c).state ≡ 0
+  pub begins : MayBegin app w c
+  pub is_one : In body (initialisers_from app component.class)
+
+-- The position of each argument register of an event's body: of the receiver 0, and then of each parameter, a wide one twice.
+abbrev pub layout_from : ℕ → List Name → List ℕ
+layout_from i [] = []
+layout_from i (type ∷ types) = if is_wide type then i ∷ i ∷ layout_from (i + 1) types else i ∷ layout_from (i + 1) types
+
+unfoldable pub layout : List Name → List ℕ
+layout types = 0 ∷ layout_from 1 types
+
+-- the categories with which the value of a position comes
+abbrev pub labels_at : List (ℕ × ℕ) → ℕ → List ℕ
+labels_at sources i = filter_map (λ (s : ℕ × ℕ). if s.0 == i then Some s.1 else None) sources
+
+-- an element with the labels, where there are some
+abbrev pub labelled_element : List ℕ → List (KeyId × Value)
+labelled_element [] = []
+labelled_element (l ∷ ls) = (elem_key, labelled (l ∷ ls)) ∷ []
+
+-- The value of a parameter of the type, with these labels, and the heap with it: a blank; or, for a class, a fresh library
+-- object or a handed object of that type.
+pub data Parameter (app : App) (lists : Lists) (handed : List ℕ) (labels : List ℕ) (type : Name) (heap : List Object) : Value → List Object → Type 0 where
+  is_blank : Parameter app lists handed labels type heap (labelled labels) heap
+  is_fresh : IsTrue (is_reference type) → Parameter app lists handed labels type heap (record { place = Some (length heap); labels = labels }) (heap ++ record { class = type; entries = labelled_element labels } ∷ [])
+  is_given : {p : ℕ} {class : Name} → IsTrue (is_reference type) → In p handed → ClassAt heap p class → Below app lists class type → Parameter app lists handed labels type heap (record { place = Some p; labels = labels }) heap
+
+-- The values of the parameters from position i on, and the heap with all of them.
+pub data Parameters (app : App) (lists : Lists) (handed : List ℕ) (sources : List (ℕ × ℕ)) (value : ℕ → Value) : ℕ → List Name → List Object → List Object → Type 0 where
+  no_more : {i : ℕ} {heap : List Object} → Parameters app lists handed sources value i [] heap heap
+  one_more : {i : ℕ} {type : Name} {types : List Name} {heap heap1 heap2 : List Object} → Parameter app lists handed (labels_at sources i) type heap (value i) heap1 → Parameters app lists handed sources value (i + 1) types heap1 heap2 →
+      Parameters app lists handed sources value i (type ∷ types) heap heap2

@@ -1,0 +1,47 @@
+-- Steps of the running frame within its method.
+-- Android documentation, Dalvik bytecode: "Summary of bytecode set".
+use Rattle.std.specs.Prelude.{◌≡◌, ◌↔◌, ℕ, List, [], ◌∷◌, ◌++◌, length, Option, Some, None}
+use Rattle.vet_base.specs.declared.key_id.KeyId.{KeyId}
+use Rattle.app_model.specs.declared.app.App.{App}
+use Rattle.app_model.specs.declared.method.Act.TheVariants.{Skip, Join, Move, Blank, New, Fill, Get, Put, GetStatic, PutStatic, TakeResult, TakeException, Go}
+use Rattle.app_model.specs.Members.{In}
+use Rattle.app_model.specs.Names.{Name}
+use Rattle.app_model.specs.Lookups.{elem_key, ActAt, Goes}
+use Rattle.app_model.specs.Heap.{Value, Object, blank, labelled, put_to, Gets}
+use Rattle.app_model.specs.State.{result_register, exception_register, write_all, write, World, Frame, object_at, new_object}
+
+-- the elements of a filled array are the values of the registers
+abbrev pub AreElements : Frame → List ℕ → List (KeyId × Value) → Type 0
+AreElements f xs entries = (e : KeyId × Value) → In e entries ↔ ((x : ℕ) × In x xs × (e ≡ (elem_key, f.registers x)))
+
+-- the labels are those that the registers' values have themselves
+abbrev pub AreOwnLabels : Frame → List ℕ → List ℕ → Type 0
+AreOwnLabels f xs labels = (l : ℕ) → In l labels ↔ ((x : ℕ) × In x xs × In l (f.registers x).labels)
+
+pub data Local (app : App) : World → Frame → World → Frame → Type 0 where
+  skips : {w : World} {f : Frame} {pc : ℕ} → ActAt app f.method f.pc Skip → Goes app f.method f.pc pc →
+      Local app w f w (record f { pc = pc })
+  goes : {w : World} {f : Frame} {pc : ℕ} → ActAt app f.method f.pc Go → Goes app f.method f.pc pc →
+      Local app w f w (record f { pc = pc })
+  blanks : {w : World} {f : Frame} {pc : ℕ} {ds : List ℕ} → ActAt app f.method f.pc (Blank ds) → Goes app f.method f.pc pc →
+      Local app w f w (record f { pc = pc; registers = write_all f.registers ds blank })
+  moves : {w : World} {f : Frame} {pc x : ℕ} {ds : List ℕ} → ActAt app f.method f.pc (Move ds x) → Goes app f.method f.pc pc →
+      Local app w f w (record f { pc = pc; registers = write_all f.registers ds (f.registers x) })
+  takes_result : {w : World} {f : Frame} {pc : ℕ} {ds : List ℕ} → ActAt app f.method f.pc (TakeResult ds) → Goes app f.method f.pc pc →
+      Local app w f w (record f { pc = pc; registers = write_all f.registers ds (f.registers result_register) })
+  takes_exception : {w : World} {f : Frame} {pc d : ℕ} → ActAt app f.method f.pc (TakeException d) → Goes app f.method f.pc pc →
+      Local app w f w (record f { pc = pc; registers = write f.registers d (f.registers exception_register) })
+  joins : {w : World} {f : Frame} {pc : ℕ} {ds xs : List ℕ} (labels : List ℕ) → ActAt app f.method f.pc (Join ds xs) → Goes app f.method f.pc pc → AreOwnLabels f xs labels →
+      Local app w f w (record f { pc = pc; registers = write_all f.registers ds (labelled labels) })
+  makes : {w : World} {f : Frame} {pc d : ℕ} {class : Name} → ActAt app f.method f.pc (New d class) → Goes app f.method f.pc pc →
+      Local app w f (record w { heap = w.heap ++ new_object class ∷ [] }) (record f { pc = pc; registers = write f.registers d (object_at (Some (length w.heap))) })
+  fills : {w : World} {f : Frame} {pc : ℕ} {xs : List ℕ} {class : Name} (entries : List (KeyId × Value)) → ActAt app f.method f.pc (Fill xs class) → Goes app f.method f.pc pc → AreElements f xs entries →
+      Local app w f (record w { heap = w.heap ++ record { class = class; entries = entries } ∷ [] }) (record f { pc = pc; registers = write f.registers result_register (object_at (Some (length w.heap))) })
+  gets : {w : World} {f : Frame} {pc o : ℕ} {ds : List ℕ} {k : KeyId} {v : Value} → ActAt app f.method f.pc (Get ds o k) → Goes app f.method f.pc pc → Gets w.heap (f.registers o) k v →
+      Local app w f w (record f { pc = pc; registers = write_all f.registers ds v })
+  puts : {w : World} {f : Frame} {pc o x : ℕ} {k : KeyId} → ActAt app f.method f.pc (Put o k x) → Goes app f.method f.pc pc →
+      Local app w f (record w { heap = put_to w.heap (f.registers o).place k (f.registers x) }) (record f { pc = pc })
+  gets_static : {w : World} {f : Frame} {pc g : ℕ} {ds : List ℕ} → ActAt app f.method f.pc (GetStatic ds g) → Goes app f.method f.pc pc →
+      Local app w f w (record f { pc = pc; registers = write_all f.registers ds (w.statics g) })
+  puts_static : {w : World} {f : Frame} {pc g x : ℕ} → ActAt app f.method f.pc (PutStatic g x) → Goes app f.method f.pc pc →
+      Local app w f (record w { statics = write w.statics g (f.registers x) }) (record f { pc = pc })

@@ -1,0 +1,102 @@
+-- What the lists say of library classes and of calls of their methods.
+use Rattle.std.specs.Prelude.{◌≡◌, ℕ, zero, suc, ◌+◌, Bool, true, false, ◌&&◌, IsTrue, List, [], ◌∷◌, ◌++◌, length, map, Option, Some, None, option_map, slice_get, find, flat_map, filter_map, is_some, if◌then◌else◌, ◌==◌}
+use Rattle.app_model.specs.declared.call.Proto.{Proto}
+use Rattle.app_model.specs.declared.call.MethodRef.{MethodRef}
+use Rattle.app_model.specs.declared.app.Class.{Class}
+use Rattle.app_model.specs.declared.app.App.{App}
+use Rattle.app_model.specs.declared.summary.Gives.{Gives}
+use Rattle.app_model.specs.declared.summary.Gives.TheVariants as gives
+use Rattle.app_model.specs.declared.summary.Summary.{Summary}
+use Rattle.app_model.specs.declared.lists.FallbackWord.{FallbackWord}
+use Rattle.app_model.specs.declared.lists.FallbackWord.TheVariants as fallback
+use Rattle.app_model.specs.declared.lists.SummaryId.{SummaryId}
+use Rattle.app_model.specs.declared.lists.SummaryId.TheVariants.{Row, Fallback}
+use Rattle.app_model.specs.declared.lists.LibClass.{LibClass}
+use Rattle.app_model.specs.declared.lists.Lists.{Lists}
+use Rattle.app_model.specs.Members.{In, first_given, first_index}
+use Rattle.app_model.specs.Names.{Name, same_name, same_proto, is_array, object_class}
+use Rattle.app_model.specs.Lookups.{class_named, directly_above}
+
+-- the listed class of this name
+unfoldable pub listed_class : Lists → Name → Option LibClass
+listed_class lists name = find (λ (c : LibClass). same_name c.name name) lists.classes
+
+-- the listed classes above the class, itself first
+unfoldable pub listed_above : Lists → Name → List Name
+listed_above lists name = elim (listed_class lists name) [ None ↦ [] | Some c ↦ c.above ]
+
+-- the library classes of a class: the nearest above an app class, `Object` for an array, itself otherwise
+unfoldable pub library_classes : App → Name → List Name
+library_classes app name = elim (class_named app name) [ Some c ↦ c.outer | None ↦ if is_array name then object_class ∷ [] else name ∷ [] ]
+
+-- the classes at which a row is looked for, in order
+unfoldable pub row_walk : App → Lists → Name → List Name
+row_walk app lists class = flat_map (λ name. listed_above lists name) (library_classes app class)
+
+abbrev pub same_word : Bool → Bool → Bool
+same_word true b = b
+same_word false true = false
+same_word false false = true
+
+-- the number of the class's own row of the method, and of the class with its default
+unfoldable pub row_of : Lists → Name → Name → Proto → Bool → Option ℕ
+row_of lists class name proto is_static = first_index (λ (s : Summary). same_name s.class class && same_name s.name name && same_proto s.proto proto && same_word s.is_static is_static) lists.methods
+
+unfoldable pub default_of : Lists → Name → Option ℕ
+default_of lists class = first_index (λ (c : LibClass). same_name c.name class && is_some c.fallback) lists.classes
+
+-- what a call of the method on the library class does: the first row on the walk, else the first default
+unfoldable pub library_key : App → Lists → Name → Name → Proto → Bool → Option SummaryId
+library_key app lists class name proto is_static =
+    elim (first_given (λ above. row_of lists above name proto is_static) (row_walk app lists class)) [
+      | Some i ↦ Some (Row i)
+      | None ↦ option_map (λ i. Fallback i) (first_given (λ above. default_of lists above) (row_walk app lists class))
+    ]
+
+-- the numbers from i on, so many
+abbrev pub numbers_from : ℕ → ℕ → List ℕ
+numbers_from i zero = []
+numbers_from i (suc n) = i ∷ numbers_from (i + 1) n
+
+-- how many positions a call has: its parameters, and the receiver
+abbrev pub position_count : Bool → Proto → ℕ
+position_count is_static proto = if is_static then length proto.params else suc (length proto.params)
+
+-- what a default says of a method: joined from all positions, and mixed besides puts every argument into the receiver
+abbrev pub default_gives : FallbackWord → Bool → Proto → Gives
+default_gives fallback.Blank is_static proto = gives.Blank
+default_gives fallback.Joined is_static proto = gives.Joined (numbers_from 0 (position_count is_static proto))
+default_gives fallback.Mixed is_static proto = gives.Joined (numbers_from 0 (position_count is_static proto))
+
+abbrev pub default_puts : FallbackWord → Bool → Proto → List (ℕ × ℕ)
+default_puts fallback.Blank is_static proto = []
+default_puts fallback.Joined is_static proto = []
+default_puts fallback.Mixed is_static proto = if is_static then [] else map (λ i. (i, 0)) (numbers_from 1 (length proto.params))
+
+abbrev pub default_summary : FallbackWord → MethodRef → Bool → Summary
+default_summary word at is_static = record {
+  class = at.class;
+  name = at.name;
+  proto = at.proto;
+  is_static = is_static;
+  gives = default_gives word is_static at.proto;
+  puts = default_puts word is_static at.proto;
+  stores = [];
+  copies = [];
+  source = None;
+  sink = None;
+  reflective = false;
+}
+
+-- what the row or default says of a call of the method
+unfoldable pub summary : Lists → SummaryId → MethodRef → Bool → Option Summary
+summary lists (Row i) at is_static = slice_get lists.methods i
+summary lists (Fallback i) at is_static = elim (slice_get lists.classes i) [ None ↦ None | Some c ↦ option_map (λ word. default_summary word at is_static) c.fallback ]
+
+-- A value of the class may stand where the type is asked for: they are equal, the type is `Object`, a class or interface
+-- directly above the app class is below the type, or the lists have the type above the class.
+pub data Below (app : App) (lists : Lists) : Name → Name → Type 0 where
+  is_same : {class : Name} → Below app lists class class
+  is_object : {class type : Name} → type ≡ object_class → Below app lists class type
+  is_through : {class above type : Name} (c : Class) → class_named app class ≡ Some c → In above (directly_above c) → Below app lists above type → Below app lists class type
+  is_listed : {class type : Name} → In type (listed_above lists class) → Below app lists class type
