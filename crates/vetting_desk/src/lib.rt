@@ -3,6 +3,7 @@
 #![tactic(auto)]
 
 mod number;
+mod sample;
 mod words;
 
 pub use words::{WordFault, Words, parse_words};
