@@ -2,7 +2,9 @@
 //! system.
 #![tactic(auto)]
 
+mod lines;
 mod number;
+mod one_class;
 mod sample;
 mod words;
 
