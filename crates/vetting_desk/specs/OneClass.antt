@@ -1,7 +1,7 @@
 -- The app of a DEX file with one class and one method whose code is made of four instructions: `move-result-object`,
 -- `return-void`, `const/4` and `invoke-static`.
 -- Android documentation, Dalvik bytecode: "Summary of bytecode set"; Dalvik executable instruction formats: 10x, 11n, 11x, 35c.
-use Rattle.std.specs.Prelude.{◌≡◌, ℕ, zero, suc, ◌+◌, ◌*◌, ◌/◌, ◌%◌, Bool, true, false, ◌&&◌, ◌||◌, ◌==◌, not, nat_eq, nat_lt, nat_le, List, [], ◌∷◌, ◌++◌, length, map, take, Option, Some, None, slice_get, slice_index, is_some, if◌then◌else◌}
+use Rattle.std.specs.Prelude.{◌≡◌, ℕ, zero, suc, ◌+◌, ◌*◌, ◌/◌, ◌%◌, Bool, true, false, ◌&&◌, ◌||◌, ◌==◌, not, nat_eq, nat_lt, nat_le, List, [], ◌∷◌, ◌++◌, length, map, take, Option, Some, None, slice_get, slice_index, is_some, option_to_list, fold, codes, if◌then◌else◌}
 use Rattle.std.specs.List.{list_any, list_all}
 use Rattle.vet_base.specs.Script.{Script, Value, Test, ◌>>=◌, test, rows, sweep}
 use Rattle.dex_reader.specs.declared.dex.Dex.{Dex}
@@ -144,13 +144,62 @@ no_body = record { index = 0; flags = 0; code = None }
 abbrev pub has_flag : ℕ → ℕ → Bool
 has_flag flag flags = flags / flag % 2 == 1
 
--- the names of the superclass, where there is one, and of the interfaces
-unfoldable pub above_of : Dex → ClassDef → Script AppFault (Option Name × List Name)
-above_of dex def = do
-  interfaces ← type_names dex def.interfaces
-  superclass ← (elim def.superclass [ None ↦ Value None | Some i ↦ type_name dex i >>= λ name. Value (Some name) ])
-  Value (superclass, interfaces.0)
+unfoldable pub superclass_of : Dex → Option ℕ → Script AppFault (Option Name)
+superclass_of dex None = Value None
+superclass_of dex (Some i) = do
+  name ← type_name dex i
+  Value (Some name)
 
 -- each name once
 abbrev pub add_new : List Name → Name → List Name
 add_new names name = if list_any (λ n. same_name n name) names then names else names ++ name ∷ []
+
+unfoldable pub each_once : Option Name → List Name → List Name
+each_once superclass interfaces = fold add_new (option_to_list superclass) interfaces
+
+unfoldable pub is_among : Name → List Name → Bool
+is_among name names = list_any (λ n. same_name n name) names
+
+-- A class without fields, with at most 64 interfaces, that is not directly above itself.
+unfoldable pub class_at : Dex → ClassDef → Script AppFault Class
+class_at dex def = do
+  _ ← built_if (length def.statics == 0 && (length def.instances == 0 && nat_le (length def.interfaces) 64))
+  name ← type_name dex def.class
+  superclass ← superclass_of dex def.superclass
+  interfaces ← type_names dex def.interfaces
+  _ ← built_if (not (is_among name (each_once superclass interfaces.0)))
+  Value (record { name = name; superclass = superclass; interfaces = interfaces.0; is_interface = has_flag 512 def.flags; outer = each_once superclass interfaces.0; bare = [] })
+
+-- A method with code, two registers for its arguments and no try items. It is the class's own, whatever class its row names.
+unfoldable pub method_at : Dex → Name → Body → Script AppFault Method
+method_at dex class body = do
+  code ← there body.code no_code
+  _ ← built_if (not (has_flag 256 body.flags) && (code.ins == 2 && (length code.tries == 0 && nat_le (length code.units) 8388608)))
+  at ← method_named dex body.index
+  lines ← lines_of dex code.registers code.units
+  Value (record { at = record at { class = class }; is_static = has_flag 8 body.flags; is_native = false; registers = code.registers; ins = code.ins; steps = lines.0 })
+
+-- the class that the manifest names, an activity
+unfoldable pub main_class : Name
+main_class = codes "La/Main;"
+
+abbrev pub app_with : Class → Method → App
+app_with class method = record {
+  classes = class ∷ [];
+  methods = method ∷ [];
+  keys = Elem ∷ [];
+  statics = [];
+  components = record { kind = Activity; class = main_class } ∷ [];
+  clicks = [];
+  providers = [];
+  layout_classes = [];
+}
+
+unfoldable pub app_at : Dex → Script AppFault App
+app_at dex = do
+  def ← there (single dex.classes) no_class
+  class ← class_at dex def
+  _ ← built_if (same_name class.name main_class)
+  body ← there (single (def.directs ++ def.virtuals)) no_body
+  method ← method_at dex class.name body
+  Value (app_with class method)
