@@ -2,6 +2,7 @@ pub mod Calls
 pub mod Events
 pub mod Heap
 pub mod Library
+pub mod LibraryWalk
 pub mod LifeEvents
 pub mod Local
 pub mod Lookups
