@@ -2,5 +2,7 @@
 
 mod equality;
 mod library;
+mod life;
 
 pub use library::{SummaryView, library_key, summary_of};
+pub use life::event_rows;
