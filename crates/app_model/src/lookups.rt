@@ -1,5 +1,6 @@
 //! The look-ups in a linked app and in the lists. They take no memory.
 
+mod classes;
 mod equality;
 mod library;
 mod life;
