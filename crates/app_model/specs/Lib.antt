@@ -1,7 +1,9 @@
 pub mod Calls
+pub mod EventTable
 pub mod Events
 pub mod Heap
 pub mod Library
+pub mod LibraryWalk
 pub mod LifeEvents
 pub mod Local
 pub mod Lookups

@@ -1,0 +1,4 @@
+pub mod Classes
+pub mod First
+pub mod Halving
+pub mod NameOrder

@@ -1,0 +1,36 @@
+-- Words for the search for a row or a default on the walk of a class.
+use Rattle.std.specs.Prelude.{ℕ, ◌<◌, Bool, ◌&&◌, length, Option}
+use Rattle.app_model.specs.declared.call.Proto.{Proto}
+use Rattle.app_model.specs.declared.call.MethodRef.{MethodRef}
+use Rattle.app_model.specs.declared.summary.Summary.{Summary}
+use Rattle.app_model.specs.declared.lists.Lists.{Lists}
+use Rattle.app_model.specs.declared.lookups.library.Wanted.{Wanted}
+use Rattle.app_model.specs.declared.lookups.library.Wanted.TheVariants as wanted
+use Rattle.app_model.specs.declared.lookups.library.SummaryView.{SummaryView}
+use Rattle.app_model.specs.declared.lookups.library.SummaryView.TheVariants as view
+use Rattle.app_model.specs.Members.{first_given}
+use Rattle.app_model.specs.Names.{Name, same_name, same_proto}
+use Rattle.app_model.specs.Summaries.{row_of, default_of, listed_above, default_summary, same_word}
+
+-- the lists are short enough to be numbered
+pub record NumberedLists (lists : Lists) : Type 0 where
+  pub classes : length lists.classes < 4294967296
+  pub methods : length lists.methods < 4294967296
+
+-- what is found at a class itself
+abbrev pub found : Lists → Wanted → Name → Option ℕ
+found lists (wanted.Row name proto is_static) class = row_of lists class name.now proto.now is_static
+found lists wanted.Default class = default_of lists class
+
+-- what is found at the first listed class above, itself first
+unfoldable pub found_above : Lists → Wanted → Name → Option ℕ
+found_above lists wanted class = first_given (found lists wanted) (listed_above lists class)
+
+-- whether the row is of the method
+unfoldable pub is_row : Summary → Name → Name → Proto → Bool → Bool
+is_row s class name proto is_static = same_name s.class class && same_name s.name name && same_proto s.proto proto && same_word s.is_static is_static
+
+-- what the lists say of a call of the method, a default written out
+abbrev pub shown_summary : SummaryView → MethodRef → Bool → Summary
+shown_summary (view.Row row) at is_static = row.now
+shown_summary (view.Default word) at is_static = default_summary word at is_static
