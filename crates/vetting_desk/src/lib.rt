@@ -5,6 +5,7 @@
 mod lines;
 mod number;
 mod one_class;
+mod printed;
 mod sample;
 mod words;
 
