@@ -29,8 +29,9 @@ place_text at pc = escaped at.class ++ codes "->" ++ escaped at.name ++ escaped 
 unfoldable pub finding_line : Name → Name → MethodRef → ℕ → List ℕ
 finding_line source sink at pc = escaped source ++ codes " -> " ++ escaped sink ++ codes " at " ++ place_text at pc ++ codes "\n"
 
-unfoldable pub no_summary_line : MethodRef → ℕ → List ℕ
-no_summary_line at pc = codes "no summary: " ++ place_text at pc ++ codes "\n"
+-- the line of a cause
+unfoldable pub cause_line : List ℕ → MethodRef → ℕ → List ℕ
+cause_line word at pc = word ++ place_text at pc ++ codes "\n"
 
 -- a word of the report with a number
 unfoldable pub counted_line : List ℕ → ℕ → List ℕ
