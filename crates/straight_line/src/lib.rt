@@ -2,10 +2,8 @@
 //! it covers every run of the machine.
 #![tactic(auto)]
 
-ghost use Rattle.straight_line.specs.Coverage.{FlowCoversRuns};
+mod flow;
+mod straight;
 
-/// Whatever a run of a straight app does, the flow along its line covers it.
-pub fn flow_covers_runs()
-    ensures { FlowCoversRuns }
-{
-}
+pub use flow::{Finding, Flow, flow};
+pub use straight::is_straight;
