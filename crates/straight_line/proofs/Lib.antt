@@ -1,1 +1,5 @@
+pub mod Covering
+pub mod Heaps
+pub mod Standing
+pub mod Labels
 pub mod Lines

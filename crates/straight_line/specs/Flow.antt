@@ -1,5 +1,5 @@
 -- The flow of labels along a straight line. Nothing is joined there, so that a register holds one label at most.
-use Rattle.std.specs.Prelude.{ℕ, Bool, true, if◌then◌else◌, List, [], ◌∷◌, ◌++◌, map, replicate, Option, Some, None, option_map, is_none, unwrap_or, slice_get, slice_set, filter_map, flat_map}
+use Rattle.std.specs.Prelude.{ℕ, Bool, true, if◌then◌else◌, List, [], ◌∷◌, ◌++◌, map, replicate, Option, Some, None, option_map, is_none, slice_get, slice_index_or, slice_set, filter_map, flat_map}
 use Rattle.std.specs.Option.{option_and_then}
 use Rattle.app_model.specs.declared.call.CallKind.{CallKind}
 use Rattle.app_model.specs.declared.call.MethodRef.{MethodRef}
@@ -17,7 +17,7 @@ use Rattle.straight_line.specs.Straight.{row_of_call}
 
 -- the label that a register holds
 abbrev pub label_at : List (Option ℕ) → ℕ → Option ℕ
-label_at registers r = unwrap_or (slice_get registers r) None
+label_at registers r = slice_index_or registers r None
 
 -- the registers after the label, or none, is written to each of these
 abbrev pub written : List (Option ℕ) → List ℕ → Option ℕ → List (Option ℕ)

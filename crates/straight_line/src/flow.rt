@@ -29,7 +29,7 @@ pub struct Flow {
 /// The flow of labels along the app's one method. It covers every run of the machine: what arrives
 /// at a sink in a run is among the findings, and a run comes to what is not modelled at the unknown
 /// calls alone.
-pub fn flow(alloc: Global, app: &App, lists: &Lists) -> Result<Flow, Memory>
+pub fn flow_of(alloc: Global, app: &App, lists: &Lists) -> Result<Flow, Memory>
     requires straight { IsStraight app.now lists.now }
     requires numbered { NumberedLists lists.now }
     ensures findings { IfOk result (λ f. arrivals_of f.findings ≡ findings app.now lists.now) }

@@ -49,9 +49,9 @@ fn is_on_create(class: &Class, method: &Method) -> bool
 {
     let at = &method.at;
     at.class == class.name
-        && at.name.as_bytes() == b"onCreate"
+        && at.name.as_bytes() == b"onCreate".as_slice()
         && takes_a_bundle(at.proto.params.as_slice())
-        && at.proto.ret.as_bytes() == b"V"
+        && at.proto.ret.as_bytes() == b"V".as_slice()
         && !method.is_static
         && !method.is_native
         && method.registers <= 65535
@@ -69,7 +69,7 @@ fn takes_a_bundle(params: &[Name]) -> bool
 fn is_bundle_class(name: &Name) -> bool
     ensures { result ≡ same_name name.now bundle_class }
 {
-    name.as_bytes() == b"Landroid/os/Bundle;"
+    name.as_bytes() == b"Landroid/os/Bundle;".as_slice()
 }
 
 fn is_activity(class: &Class, component: &Component) -> bool
