@@ -1,3 +1,5 @@
+pub mod Beginning
+pub mod Calling
 pub mod Covering
 pub mod Heaps
 pub mod Standing

@@ -17,12 +17,12 @@ use Rattle.app_model.specs.Members.{In, first_given}
 use Rattle.app_model.specs.Names.{Name, same_name}
 use Rattle.app_model.specs.Lookups.{Target, Body, Library, Nothing, body_or, step_at, ActAt, Goes, Catches, HasCode, IsNative, Initialises, up, find_body, method_of, target, is_by_receiver, is_static_call, initialisers, initialisers_from, class_initialised}
 use Rattle.app_model.specs.Heap.{Value, Object}
-use Rattle.app_model.specs.State.{Arrival, Frame, result_register}
+use Rattle.app_model.specs.State.{Arrival, World, Frame, result_register}
 use Rattle.app_model.specs.Calls.{Calls_to, by_name, by_nothing, by_class, Raises, is_caught, unwinds, ends_event}
 use Rattle.straight_line.specs.Straight.{has_none, head, is_plain_act, is_plain_call, is_bundle, is_return_void, goes_only_to, is_in_line, are_in_line, begin_at_zero, is_line}
 use Rattle.straight_line.specs.Flow.{label_at, registers_after, result_after, found_at, found_along, unknown_at, findings, unknown}
 use Rattle.straight_line.proofs.Lines.{Parts, IsEntry, entry_of, same-some, none-some, empty-is, up-none}
-use Rattle.straight_line.proofs.Heaps.{Fits, HeapFits, Later}
+use Rattle.straight_line.proofs.Heaps.{Fits, IsBare, HeapFits, Later}
 use Rattle.straight_line.proofs.Labels.{In-left, In-right}
 
 only_method : (all : List Method) (m found : Method) (body : ℕ) → all ≡ m ∷ [] → slice_get all body ≡ Some found → (body ≡ 0) × (found ≡ m)
@@ -81,6 +81,13 @@ module _ (app : App) (lists : Lists) (s : Parts app lists) where
     pub missing : (p : ℕ) → In p (flat_map (λ (t : Step). unknown_at app lists t.pc t.act) (step ∷ more)) → In p (unknown app lists)
     pub holds : (r : ℕ) → r < s.m.registers → Fits heap (f.registers r) (label_at labels r)
     pub result : Fits heap (f.registers result_register) last
+
+  -- what is known of the world in any state: where values are, and that what arrived is found
+  pub record WorldFits (w : World) : Type 0 where
+    pub heap : HeapFits app lists w.heap
+    pub handed : (p : ℕ) → In p w.handed → p < length w.heap
+    pub components : (c p : ℕ) → (w.components c).place ≡ Some p → IsBare w.heap p
+    pub arrivals : (a : Arrival) → In a w.arrivals → In a (findings app lists)
 
   here : {heap : List Object} {f : Frame} (known : Running heap f) → step_at app f.method f.pc ≡ Some known.step
   here {heap} {f} known =
