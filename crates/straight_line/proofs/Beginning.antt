@@ -33,10 +33,10 @@ entered_fits heap m values each r = by_test (nat_le (m.registers - m.ins) r && n
     by_test true = each (r - (m.registers - m.ins))
     by_test false = blank_fits heap None
 
-no_values : (heap : List Object) (i : ℕ) → Fits heap (value_or_blank [] i) None
+pub no_values : (heap : List Object) (i : ℕ) → Fits heap (value_or_blank [] i) None
 no_values heap i = blank_fits heap None
 
-two_values : (heap : List Object) (a b : Value) → Fits heap a None → Fits heap b None → (i : ℕ) → Fits heap (value_or_blank (a ∷ b ∷ []) i) None
+pub two_values : (heap : List Object) (a b : Value) → Fits heap a None → Fits heap b None → (i : ℕ) → Fits heap (value_or_blank (a ∷ b ∷ []) i) None
 two_values heap a b first second zero = first
 two_values heap a b first second (suc zero) = second
 two_values heap a b first second (suc (suc i)) = blank_fits heap None
@@ -53,14 +53,14 @@ parameter_fits {app} {lists} {type = type} {heap} fits within is_bundle (is_give
     , object_fits heap (Some p) (λ q e. subst (λ r. r < length heap) (same-some p q e) (within p inside))
         (λ q e k w entry. fits.no_bundle q k w class entry (subst (λ r. ClassAt heap r class) (same-some p q e) of_class) (subst (λ t. Below app lists class t) is_bundle below)) None )
 
-parameters_fit : {app : App} {lists : Lists} {handed : List ℕ} {value : ℕ → Value} {types : List Name} {heap heap' : List Object} → HeapFits app lists heap → ((p : ℕ) → In p handed → p < length heap) → types ≡ bundle_class ∷ [] →
+pub parameters_fit : {app : App} {lists : Lists} {handed : List ℕ} {value : ℕ → Value} {types : List Name} {heap heap' : List Object} → HeapFits app lists heap → ((p : ℕ) → In p handed → p < length heap) → types ≡ bundle_class ∷ [] →
     Parameters app lists handed [] value 1 types heap heap' → Later app lists heap heap' × Fits heap' (value 1) None
 parameters_fit {app} {lists} {handed} {value} {types} {heap} {heap'} fits within is_bundle parameters = of_one (subst (λ ts. Parameters app lists handed [] value 1 ts heap heap') is_bundle parameters)
   where
     of_one : {heap' : List Object} → Parameters app lists handed [] value 1 (bundle_class ∷ []) heap heap' → Later app lists heap heap' × Fits heap' (value 1) None
     of_one (one_more parameter no_more) = parameter_fits fits within refl parameter
 
-layout-is : (value : ℕ → Value) → map value (layout (bundle_class ∷ [])) ≡ value 0 ∷ value 1 ∷ []
+pub layout-is : (value : ℕ → Value) → map value (layout (bundle_class ∷ [])) ≡ value 0 ∷ value 1 ∷ []
 unfolding layout is_wide bundle_class
 layout-is value = refl
 

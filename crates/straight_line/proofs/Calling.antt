@@ -57,7 +57,7 @@ pub record IsPlain (app : App) (lists : Lists) (class : Class) (n : ℕ) (kind :
   pub no_bundle : is_bundle lists class at.proto.ret ≡ false
   pub row : option_map_or is_plain_row (row_of_call app lists at) true ≡ true
 
-plain_from : (app : App) (lists : Lists) (class : Class) (n : ℕ) (kind : CallKind) (at : MethodRef) (args : List ℕ) → is_plain_act app lists class n (Call kind at args) ≡ true → IsPlain app lists class n kind at args
+pub plain_from : (app : App) (lists : Lists) (class : Class) (n : ℕ) (kind : CallKind) (at : MethodRef) (args : List ℕ) → is_plain_act app lists class n (Call kind at args) ≡ true → IsPlain app lists class n kind at args
 unfolding is_plain_call
 plain_from app lists class n kind at args h =
     let outer = and_parts (is_static_call kind && are_below n args) _ h in

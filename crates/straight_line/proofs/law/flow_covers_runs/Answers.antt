@@ -1,10 +1,6 @@
-use Rattle.straight_line.proofs.Lines.{same-same}
-use Rattle.straight_line.proofs.Labels.{written_fits}
-use Rattle.straight_line.proofs.Standing.{static_is}
-use Rattle.straight_line.proofs.Calling.{IsPlain}
-use Rattle.straight_line.proofs.Beginning.{Event}
-use Rattle.straight_line.proofs.Heaps.{Fits}
+-- The theorem is proved over definitions alone.
+use Rattle.straight_line.proofs.Covering.{flow_covers_runs}
 use Rattle.straight_line.proofs.law.flow_covers_runs.Goals as goal
 
 pub returns : goal.returns
-returns c = ?
+returns c = flow_covers_runs
