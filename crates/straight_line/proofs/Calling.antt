@@ -44,10 +44,12 @@ none_added : {A : Type 0} (xs : List A) → ((x : A) → In x xs → ⊥) → xs
 none_added [] none = refl
 none_added (x ∷ xs) none = absurd (none x (inl refl))
 
-positions-below : (kind : CallKind) (at : MethodRef) (args : List ℕ) (n : ℕ) → is_static_call kind ≡ true → are_below n args ≡ true → are_below n (positions kind at args) ≡ true
+positions-is : (kind : CallKind) (at : MethodRef) (args : List ℕ) → is_static_call kind ≡ true → positions kind at args ≡ first_registers at.proto.params args
 unfolding positions
-positions-below kind at args n static below =
-    ap (are_below n) (cond-true (is_static_call kind) (first_registers at.proto.params args) (with_receiver at.proto.params args) static) ∙ below-positions n at.proto.params args below
+positions-is kind at args static = cond-true (is_static_call kind) (first_registers at.proto.params args) (with_receiver at.proto.params args) static
+
+positions-below : (kind : CallKind) (at : MethodRef) (args : List ℕ) (n : ℕ) → is_static_call kind ≡ true → are_below n args ≡ true → are_below n (positions kind at args) ≡ true
+positions-below kind at args n static below = ap (are_below n) (positions-is kind at args static) ∙ below-positions n at.proto.params args below
 
 -- what is known of a call that is plain
 pub record IsPlain (app : App) (lists : Lists) (class : Class) (n : ℕ) (kind : CallKind) (at : MethodRef) (args : List ℕ) : Type 0 where
@@ -177,9 +179,10 @@ module _ (app : App) (lists : Lists) (s : Parts app lists) where
   -- a label that comes to a sink is found
   arrives : {heap : List Object} {f : Frame} (known : Running app lists s heap f) {kind : CallKind} {at : MethodRef} {args : List ℕ} {row : Summary} → ActAt app f.method f.pc (Call kind at args) → IsPlain app lists s.class s.m.registers kind at args → row_of_call app lists at ≡ Some row →
       (a : Arrival) → AtSink heap f (positions kind at args) row a → In a (findings app lists)
-  arrives {heap} {f} known {kind} {at} {args} {row} act plain there a at_sink =
-      let places = positions kind at args in
-      let below = positions-below kind at args s.m.registers plain.static plain.below in
+  arrives {heap} {f} known {kind} {at} {args} {row} act plain there a at_positions =
+      let places = first_registers at.proto.params args in
+      let at_sink : AtSink heap f places row a = subst (λ ps. AtSink heap f ps row a) (positions-is kind at args plain.static) at_positions in
+      let below = below-positions s.m.registers at.proto.params args plain.below in
       let label = (position_fits known places below at_sink.at).walks at_sink.keys a.label at_sink.walk in
       let sink : sink_of app lists at ≡ Some (a.sink, at_sink.is_sink.0) = sink_is at row there ∙ at_sink.is_sink.1 in
       let same = arrival-is a known.step.pc (at_sink.method ∙ known.first) (at_sink.pc ∙ known.pc) in

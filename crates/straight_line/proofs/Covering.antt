@@ -191,3 +191,10 @@ module _ (app : App) (lists : Lists) (s : Parts app lists) where
 
 pub flow_covers_runs : FlowCoversRuns
 flow_covers_runs app lists straight = covers app lists (parts_of app lists straight)
+
+-- An app whose runs are covered is safe where all that arrives is declared and nothing is unknown.
+pub safe_if_declared : (app : App) (lists : Lists) (found : List Arrival) (missing : List ℕ) → CoversRuns app lists found missing → SafeIfDeclared app lists found missing
+safe_if_declared app lists found missing covered declaration declared none = record {
+  declared = λ w fs run a inside. declared a (covered.arrives w fs run a inside);
+  never_stands = λ w fs run method pc cause stands. subst (λ ps. In pc ps) none (covered.stands w fs run method pc cause stands).listed;
+}

@@ -11,7 +11,7 @@ use Rattle.app_model.specs.declared.lists.Lists.{Lists}
 use Rattle.app_model.specs.declared.app.App.{App}
 use Rattle.app_model.specs.Names.{is_void}
 use Rattle.app_model.specs.Summaries.{library_key}
-use Rattle.app_model.specs.Library.{positions}
+use Rattle.app_model.specs.Library.{first_registers}
 use Rattle.app_model.specs.State.{Arrival}
 use Rattle.straight_line.specs.Straight.{row_of_call}
 
@@ -58,9 +58,9 @@ abbrev pub arrivals_in : List (Option ℕ) → List ℕ → ℕ → Option (ℕ 
 arrivals_in registers places pc None = []
 arrivals_in registers places pc (Some sink) = arrivals_at registers places pc sink
 
--- what arrives at the instruction
+-- what arrives at the instruction, where a call is static
 abbrev pub found_at : App → Lists → List (Option ℕ) → ℕ → Act → List Arrival
-found_at app lists registers pc (Call kind at args) = arrivals_in registers (positions kind at args) pc (sink_of app lists at)
+found_at app lists registers pc (Call kind at args) = arrivals_in registers (first_registers at.proto.params args) pc (sink_of app lists at)
 found_at app lists registers pc _ = []
 
 -- what arrives at the instructions, in their order
@@ -75,10 +75,13 @@ abbrev pub unknown_at : App → Lists → ℕ → Act → List ℕ
 unknown_at app lists pc (Call kind at args) = if is_none (library_key app lists at.class at.name at.proto true) then pc ∷ [] else []
 unknown_at app lists pc _ = []
 
+abbrev pub unknown_along : App → Lists → List Step → List ℕ
+unknown_along app lists steps = flat_map (λ (s : Step). unknown_at app lists s.pc s.act) steps
+
 -- Of the app's first method: what arrives at sinks, and the pcs of the calls of which the lists say nothing. At its beginning
 -- no register holds a label.
 unfoldable pub findings : App → Lists → List Arrival
 findings app lists = elim (slice_get app.methods 0) [ None ↦ [] | Some m ↦ found_along app lists (replicate m.registers None) None m.steps ]
 
 unfoldable pub unknown : App → Lists → List ℕ
-unknown app lists = elim (slice_get app.methods 0) [ None ↦ [] | Some m ↦ flat_map (λ (s : Step). unknown_at app lists s.pc s.act) m.steps ]
+unknown app lists = elim (slice_get app.methods 0) [ None ↦ [] | Some m ↦ unknown_along app lists m.steps ]

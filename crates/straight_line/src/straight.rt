@@ -1,8 +1,11 @@
-ghost use Rattle.std.specs.Prelude.{◌≡◌, Option, option_map};
-ghost use Rattle.std.specs.Option.{option_copied};
+ghost use Rattle.std.specs.Prelude.{◌≡◌, [], ◌∷◌, true, option_map};
+ghost use Rattle.std.specs.List.{list_any};
+ghost use Rattle.std.specs.Option.{option_copied, option_map_or};
+ghost use Rattle.app_model.specs.Lookups.{directly_above};
+ghost use Rattle.app_model.specs.Names.{same_name, same_names};
 ghost use Rattle.app_model.specs.LibraryWalk.{NumberedLists, shown_summary};
 ghost use Rattle.app_model.specs.Summaries.{listed_class};
-ghost use Rattle.straight_line.specs.Straight.{IsStraight, are_below, are_in_line, are_straight_parts, begin_at_zero, bundle_class, goes_only_to, head, is_activity, is_activity_kind, is_bundle, is_in_line, is_line, is_listed_bundle, is_on_create, is_plain_act, is_plain_call, is_plain_result, is_plain_row, is_plain_view, is_return_void, is_straight, only, row_of_call};
+ghost use Rattle.straight_line.specs.Straight.{are_below, are_in_line, begin_at_zero, bundle_class, goes_only_to, head, is_activity, is_bundle, is_in_line, is_line, is_listed_bundle, is_on_create, is_plain_act, is_plain_call, is_plain_result, is_plain_row, is_return_void, is_straight, only, row_of_call};
 
 use app_model::{
     Act, App, CallKind, Class, Component, FallbackWord, Gives, Kind, LibClass, Lists, Method,
