@@ -218,9 +218,10 @@ fn first_registers(alloc: Global, params: &[Name], args: &[u32]) -> Result<Vec<u
     let mut places = Vec::new(alloc);
     let mut kinds = params;
     let mut rest = args;
-    while let (Some((kind, more_kinds)), Some((register, more))) =
-        (kinds.split_first(), rest.split_first())
-    {
+    while let Some((kind, more_kinds)) = kinds.split_first() {
+        let Some((register, more)) = rest.split_first() else {
+            return Ok(places);
+        };
         places.push(*register)?;
         rest = if is_wide(kind) { without_first(more) } else { more };
         kinds = more_kinds;
@@ -237,12 +238,14 @@ fn without_first(registers: &[u32]) -> &[u32]
     }
 }
 
+#[tactic(auto, unfolding(app_model::specs::Names::is_wide))]
 fn is_wide(kind: &Name) -> bool
     ensures { result ≡ is_wide kind.now }
 {
     kind.as_bytes() == b"J".as_slice() || kind.as_bytes() == b"D".as_slice()
 }
 
+#[tactic(auto, unfolding(app_model::specs::Names::is_void))]
 fn is_void(kind: &Name) -> bool
     ensures { result ≡ is_void kind.now }
 {
@@ -250,6 +253,7 @@ fn is_void(kind: &Name) -> bool
 }
 
 /// The category with which the result of a static call of the method comes.
+#[tactic(auto, unfolding(crate::specs::Flow::source_of))]
 fn source_of(app: &App, lists: &Lists, at: &MethodRef) -> Option<u8>
     requires { NumberedLists lists.now }
     ensures { result ≡ source_of app.now lists.now at.now }
@@ -264,6 +268,7 @@ fn source_of(app: &App, lists: &Lists, at: &MethodRef) -> Option<u8>
 }
 
 /// The category of the sink that the method is, and its positions.
+#[tactic(auto, unfolding(crate::specs::Flow::sink_of))]
 fn sink_of<'a>(app: &App, lists: &'a Lists, at: &MethodRef) -> Option<&'a (u8, Seq<u32>)>
     requires { NumberedLists lists.now }
     ensures { option_copied result ≡ sink_of app.now lists.now at.now }

@@ -15,6 +15,7 @@ use vet_base::Name;
 
 /// Whether the app has one class, one method and one component, the lists have no callback, and
 /// the method is the `onCreate` of that activity, its code one straight line. It takes no memory.
+#[tactic(auto, unfolding(crate::specs::Straight::is_straight))]
 pub fn is_straight(app: &App, lists: &Lists) -> bool
     requires { NumberedLists lists.now }
     ensures { result ≡ is_straight app.now lists.now }
@@ -47,6 +48,7 @@ fn only<T>(items: &[T]) -> Option<&T>
 }
 
 /// Whether the method is `onCreate(Landroid/os/Bundle;)V` of the class, with code.
+#[tactic(auto, unfolding(crate::specs::Straight::is_on_create))]
 fn is_on_create(class: &Class, method: &Method) -> bool
     ensures { result ≡ is_on_create class.now method.now }
 {
@@ -69,12 +71,14 @@ fn takes_a_bundle(params: &[Name]) -> bool
     }
 }
 
+#[tactic(auto, unfolding(crate::specs::Straight::bundle_class))]
 fn is_bundle_class(name: &Name) -> bool
     ensures { result ≡ same_name name.now bundle_class }
 {
     name.as_bytes() == b"Landroid/os/Bundle;".as_slice()
 }
 
+#[tactic(auto, unfolding(crate::specs::Straight::is_activity))]
 fn is_activity(class: &Class, component: &Component) -> bool
     ensures { result ≡ is_activity class.now component.now }
 {
@@ -82,6 +86,7 @@ fn is_activity(class: &Class, component: &Component) -> bool
 }
 
 /// Whether the code begins at 0 and is one straight line.
+#[tactic(auto, unfolding(crate::specs::Straight::is_line))]
 fn is_line(app: &App, lists: &Lists, class: &Class, method: &Method) -> bool
     requires { NumberedLists lists.now }
     ensures { result ≡ is_line app.now lists.now class.now method.now }
@@ -123,7 +128,7 @@ fn is_in_line(
     following: Option<&Step>,
 ) -> bool
     requires { NumberedLists lists.now }
-    ensures { result ≡ is_in_line app.now lists.now class.now registers step.now (option_copied following) }
+    ensures { result ≡ is_in_line app.now lists.now class.now registers step.now (option_copied following.entry) }
 {
     match following {
         None => is_return_void(&step.act) && step.next.is_empty() && step.catches.is_empty(),
@@ -177,6 +182,7 @@ fn are_below(limit: u32, registers: &[u32]) -> bool
 
 /// Whether the method is none of the class, gives no `Bundle`, and its row, if there is one, is
 /// plain.
+#[tactic(auto, unfolding(crate::specs::Straight::is_plain_call))]
 fn is_plain_call(app: &App, lists: &Lists, class: &Class, at: &MethodRef) -> bool
     requires { NumberedLists lists.now }
     ensures { result ≡ is_plain_call app.now lists.now class.now at.now }
@@ -186,6 +192,7 @@ fn is_plain_call(app: &App, lists: &Lists, class: &Class, at: &MethodRef) -> boo
         && has_plain_row(app, lists, at)
 }
 
+#[tactic(auto, unfolding(crate::specs::Straight::is_plain_row))]
 fn has_plain_row(app: &App, lists: &Lists, at: &MethodRef) -> bool
     requires { NumberedLists lists.now }
     ensures { result ≡ option_map_or is_plain_row (row_of_call app.now lists.now at.now) true }
@@ -198,6 +205,7 @@ fn has_plain_row(app: &App, lists: &Lists, at: &MethodRef) -> bool
 }
 
 /// What the lists say of a static call of the method.
+#[tactic(auto, unfolding(crate::specs::Straight::row_of_call))]
 pub(crate) fn row_of_call<'a>(
     app: &App,
     lists: &'a Lists,
@@ -214,6 +222,7 @@ pub(crate) fn row_of_call<'a>(
 
 /// Whether the row gives a blank without a source, or the source's label alone, and does nothing
 /// beside.
+#[tactic(auto, unfolding(crate::specs::Straight::is_plain_row))]
 fn is_plain_row(row: &Summary) -> bool
     ensures { result ≡ is_plain_row row.now }
 {
@@ -236,6 +245,7 @@ fn is_plain_result(gives: &Gives, source: Option<u8>) -> bool
 
 /// Whether a value of the type, or of the class where that is the type, may stand where a `Bundle`
 /// is asked for.
+#[tactic(auto, unfolding(crate::specs::Straight::is_bundle))]
 fn is_bundle(lists: &Lists, class: &Class, kind: &Name) -> bool
     ensures { result ≡ is_bundle lists.now class.now kind.now }
 {
@@ -259,6 +269,7 @@ fn any_listed_bundle(lists: &Lists, names: &[Name]) -> bool
 }
 
 /// Whether the type is `Bundle` or a listed class below it.
+#[tactic(auto, unfolding(crate::specs::Straight::is_listed_bundle, app_model::specs::Summaries::listed_above))]
 fn is_listed_bundle(lists: &Lists, kind: &Name) -> bool
     ensures { result ≡ is_listed_bundle lists.now kind.now }
 {
@@ -278,6 +289,7 @@ fn any_bundle_class(names: &[Name]) -> bool
 }
 
 /// The listed class of this name.
+#[tactic(auto, unfolding(app_model::specs::Summaries::listed_class))]
 fn listed<'a>(lists: &'a Lists, name: &Name) -> Option<&'a LibClass>
     ensures { option_copied result ≡ listed_class lists.now name.now }
 {
