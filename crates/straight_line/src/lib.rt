@@ -3,9 +3,7 @@
 #![tactic(auto)]
 
 mod flow;
-mod law;
 mod straight;
 
 pub use flow::{Finding, Flow, flow_of};
-pub use law::flow_covers_runs;
 pub use straight::is_straight;
