@@ -1,11 +1,9 @@
 -- Events: whatever begins is the one method, and none of its values is labelled.
-use Rattle.std.proofs.Common.{◌≡◌, ◌==◌, ℕ, zero, suc, ◌+◌, ◌-◌, ◌<◌, ◌≤◌, List, [], ◌∷◌, ◌++◌, length, map, replicate, Bool, true, false, ◌&&◌, cond, ◌⊎◌, inl, inr, Option, Some, None, refl, ap, sym, ◌∙◌, subst, arith}
+use Rattle.std.proofs.Common.{◌≡◌, ◌==◌, ℕ, zero, suc, ◌-◌, ◌<◌, List, [], ◌∷◌, ◌++◌, length, map, replicate, Bool, true, false, ◌&&◌, Option, Some, None, refl, ap, sym, ◌∙◌, subst}
 use Rattle.std.specs.Prelude.{slice_get, find, flat_map, nat_lt, nat_le, if◌then◌else◌}
 use Rattle.std.proofs.lemmas.List.{get_or-replicate, length-replicate}
 use Rattle.std.proofs.lemmas.Bool.{and_parts, eqb-true, false≢true}
-use Rattle.vet_base.specs.declared.key_id.KeyId.{KeyId}
 use Rattle.app_model.specs.declared.app.App.{App}
-use Rattle.app_model.specs.declared.component.Component.{Component}
 use Rattle.app_model.specs.declared.lists.Callback.{Callback}
 use Rattle.app_model.specs.declared.lists.Lists.{Lists}
 use Rattle.app_model.specs.declared.method.Method.{Method}
@@ -14,16 +12,16 @@ use Rattle.app_model.specs.Members.{In, IsAt}
 use Rattle.app_model.specs.Names.{Name, is_wide}
 use Rattle.app_model.specs.Lookups.{HasCode}
 use Rattle.app_model.specs.Summaries.{Below}
-use Rattle.app_model.specs.Heap.{Value, Object, blank, labelled, EntryAt, ClassAt}
-use Rattle.app_model.specs.State.{Arrival, World, Frame, Component_state, result_register, value_or_blank, entered, object_at, new_object}
+use Rattle.app_model.specs.Heap.{Value, Object, blank, ClassAt}
+use Rattle.app_model.specs.State.{World, Frame, Component_state, result_register, value_or_blank, entered, new_object}
 use Rattle.app_model.specs.LifeEvents.{LifeEvent}
-use Rattle.app_model.specs.Events.{set_component, after_event, Comes, lives, is_born, calls_back, is_clicked, is_handed, layout, layout_from, labels_at, labelled_element, Parameter, is_blank, is_fresh, is_given, Parameters, no_more, one_more}
+use Rattle.app_model.specs.Events.{set_component, after_event, Comes, lives, is_born, calls_back, is_clicked, is_handed, layout, Parameter, is_blank, is_fresh, is_given, Parameters, no_more, one_more}
 use Rattle.app_model.specs.Run.{frame_of}
 use Rattle.straight_line.specs.Straight.{bundle_class, begin_at_zero, are_in_line, is_line}
-use Rattle.straight_line.specs.Flow.{label_at, found_along, unknown_at, findings, unknown}
+use Rattle.straight_line.specs.Flow.{found_along, unknown_at, findings, unknown}
 use Rattle.straight_line.proofs.Lines.{Parts, same-some, none-some}
-use Rattle.straight_line.proofs.Heaps.{Fits, IsBare, HeapFits, ObjectFits, Later, blank_fits, object_fits, new_fits, new_bare, same_later, grown_later}
-use Rattle.straight_line.proofs.Standing.{WorldFits, Running, entry, code_is}
+use Rattle.straight_line.proofs.Heaps.{Fits, IsBare, HeapFits, Later, blank_fits, object_fits, new_fits, new_bare, same_later, grown_later}
+use Rattle.straight_line.proofs.Standing.{WorldFits, Running, code_is}
 
 -- what arguments that hold no label make of the registers
 entered_fits : (heap : List Object) (m : Method) (values : List Value) → ((i : ℕ) → Fits heap (value_or_blank values i) None) → (r : ℕ) → Fits heap (entered m values r) None
@@ -45,13 +43,15 @@ two_values heap a b first second (suc (suc i)) = blank_fits heap None
 parameter_fits : {app : App} {lists : Lists} {handed : List ℕ} {type : Name} {heap : List Object} {v : Value} {heap' : List Object} → HeapFits app lists heap → ((p : ℕ) → In p handed → p < length heap) → type ≡ bundle_class →
     Parameter app lists handed [] type heap v heap' → Later app lists heap heap' × Fits heap' v None
 parameter_fits {app} {lists} {heap = heap} fits within is_bundle is_blank = (same_later app lists heap fits, blank_fits heap None)
-parameter_fits {app} {lists} {type = type} {heap} fits within is_bundle (is_fresh reference) =
-    ( grown_later app lists heap (new_object type) fits (record { flat = λ k w inside. absurd {0} inside; no_bundle = λ k w inside below. inside })
-    , new_fits heap (new_object type) [] None (λ l inside. absurd {0} inside) (λ k w inside. absurd {0} inside) )
-parameter_fits {app} {lists} {type = type} {heap} fits within is_bundle (is_given {p} {class} reference inside of_class below) =
-    ( same_later app lists heap fits
-    , object_fits heap (Some p) (λ q e. subst (λ r. r < length heap) (same-some p q e) (within p inside))
-        (λ q e k w entry. fits.no_bundle q k w class entry (subst (λ r. ClassAt heap r class) (same-some p q e) of_class) (subst (λ t. Below app lists class t) is_bundle below)) None )
+parameter_fits {app} {lists} {type = type} {heap} fits within is_bundle (is_fresh reference) = (
+  grown_later app lists heap (new_object type) fits (record { flat = λ k w inside. absurd {0} inside; no_bundle = λ k w inside below. inside }),
+  new_fits heap (new_object type) [] None (λ l inside. absurd {0} inside) (λ k w inside. absurd {0} inside),
+)
+parameter_fits {app} {lists} {type = type} {heap} fits within is_bundle (is_given {p} {class} reference inside of_class below) = (
+  same_later app lists heap fits,
+  object_fits heap (Some p) (λ q e. subst (λ r. r < length heap) (same-some p q e) (within p inside))
+      (λ q e k w entry. fits.no_bundle q k w class entry (subst (λ r. ClassAt heap r class) (same-some p q e) of_class) (subst (λ t. Below app lists class t) is_bundle below)) None,
+)
 
 pub parameters_fit : {app : App} {lists : Lists} {handed : List ℕ} {value : ℕ → Value} {types : List Name} {heap heap' : List Object} → HeapFits app lists heap → ((p : ℕ) → In p handed → p < length heap) → types ≡ bundle_class ∷ [] →
     Parameters app lists handed [] value 1 types heap heap' → Later app lists heap heap' × Fits heap' (value 1) None

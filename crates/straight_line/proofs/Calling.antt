@@ -1,35 +1,34 @@
 -- Calls in a straight line: they come to the library, and their rows make a result with the source's label at most.
-use Rattle.std.proofs.Common.{◌≡◌, ◌==◌, ℕ, zero, suc, ◌+◌, ◌<◌, ◌≤◌, List, [], ◌∷◌, ◌++◌, length, map, Bool, true, false, not, ◌&&◌, ◌||◌, cond, ◌⊎◌, inl, inr, Option, Some, None, refl, ap, sym, ◌∙◌, subst, arith}
-use Rattle.std.specs.Prelude.{slice_get, nat_lt, is_none, if◌then◌else◌, option_map}
+use Rattle.std.proofs.Common.{◌≡◌, ℕ, List, [], ◌∷◌, ◌++◌, map, Bool, true, false, not, ◌&&◌, inl, inr, Option, Some, None, refl, ap, sym, ◌∙◌, subst}
+use Rattle.std.specs.Prelude.{slice_get, nat_lt, if◌then◌else◌, option_map}
 use Rattle.std.specs.Option.{option_and_then, option_map_or}
-use Rattle.std.proofs.lemmas.Bool.{and_parts, or_parts, ltb-true, false≢true, true≢false, not-true, cond-true, cond-false}
+use Rattle.std.proofs.lemmas.Bool.{and_parts, ltb-true, false≢true, true≢false, not-true, cond-true, cond-false}
 use Rattle.vet_base.specs.declared.key_id.KeyId.{KeyId}
 use Rattle.app_model.specs.declared.app.App.{App}
 use Rattle.app_model.specs.declared.app.Class.{Class}
 use Rattle.app_model.specs.declared.call.CallKind.{CallKind}
-use Rattle.app_model.specs.declared.call.CallKind.TheVariants.{Virtual, Super, Direct, Static, Interface}
+use Rattle.app_model.specs.declared.call.CallKind.TheVariants.{Static}
 use Rattle.app_model.specs.declared.call.MethodRef.{MethodRef}
 use Rattle.app_model.specs.declared.lists.Lists.{Lists}
 use Rattle.app_model.specs.declared.lists.SummaryId.{SummaryId}
-use Rattle.app_model.specs.declared.method.Act.{Act}
 use Rattle.app_model.specs.declared.method.Act.TheVariants.{Call}
 use Rattle.app_model.specs.declared.summary.Gives.{Gives}
 use Rattle.app_model.specs.declared.summary.Gives.TheVariants as gives
 use Rattle.app_model.specs.declared.summary.Summary.{Summary}
 use Rattle.app_model.specs.Members.{In, first_given}
-use Rattle.app_model.specs.Names.{Name, same_name, is_void, is_reference}
-use Rattle.app_model.specs.Lookups.{Target, Body, Library, Nothing, body_or, ActAt, up, find_body, method_of, target, is_by_receiver, is_static_call, elem_key}
+use Rattle.app_model.specs.Names.{Name, same_name, is_void}
+use Rattle.app_model.specs.Lookups.{Target, Library, body_or, ActAt, up, find_body, method_of, target, is_by_receiver, is_static_call, elem_key}
 use Rattle.app_model.specs.Summaries.{library_key, summary, Below}
-use Rattle.app_model.specs.Heap.{Value, Object, blank, labelled, EntryAt, Reaches, add_all}
+use Rattle.app_model.specs.Heap.{Value, Object, blank, labelled, add_all}
 use Rattle.app_model.specs.State.{Arrival, World, Frame, Component_state}
 use Rattle.app_model.specs.Calls.{Calls_to, by_name, by_nothing, by_class}
-use Rattle.app_model.specs.Library.{positions, first_registers, with_receiver, value_at, AtSink, Hands, shared_named, result_shared, Makes_shared, all_there, is_there, is_made, Joins, AreJoined, joined_object, Results, of_void, as_blank, as_same, as_taken, as_shared, as_labels, as_object, Adds, by_put, by_store, by_copy, Library_call, Uses_row}
+use Rattle.app_model.specs.Library.{positions, first_registers, with_receiver, value_at, AtSink, shared_named, result_shared, Makes_shared, all_there, is_there, is_made, Joins, joined_object, Results, of_void, as_blank, as_same, as_taken, as_shared, as_labels, as_object, Adds, by_put, by_store, by_copy, Library_call, Uses_row}
 use Rattle.straight_line.specs.Straight.{bundle_class, has_none, row_of_call, is_plain_result, is_plain_row, is_bundle, is_plain_call, is_plain_act, are_below}
-use Rattle.straight_line.specs.Flow.{label_at, label_of_position, arrival, arrivals_at, arrivals_in, source_of, sink_of, found_at, findings}
-use Rattle.straight_line.proofs.Lines.{Parts, same-some, none-some, empty-is, up-none, is_bundle-below}
-use Rattle.straight_line.proofs.Heaps.{Fits, HeapFits, ObjectFits, Later, blank_fits, labels_fit, new_fits, same_later, grown_later}
+use Rattle.straight_line.specs.Flow.{label_at, label_of_position, arrival, arrivals_at, arrivals_in, source_of, sink_of, findings}
+use Rattle.straight_line.proofs.Lines.{Parts, empty-is, up-none, is_bundle-below}
+use Rattle.straight_line.proofs.Heaps.{Fits, HeapFits, Later, blank_fits, labels_fit, new_fits, same_later, grown_later}
 use Rattle.straight_line.proofs.Labels.{all-at, below-positions, In-filter_map}
-use Rattle.straight_line.proofs.Standing.{static_is, Running, WorldFits, act_is, plain_is, found_here}
+use Rattle.straight_line.proofs.Standing.{static_is, Running, WorldFits, plain_is, found_here}
 
 -- the label of a call's result by its row
 row_label : Name → Option ℕ → Option ℕ
@@ -118,9 +117,10 @@ result_fits fits plain no_bundle (as_taken value gets) = absurd (false≢true pl
 result_fits fits plain no_bundle (as_shared value) = absurd (false≢true plain)
 result_fits {app} {lists} {before} {f} {places} {source} {ret} {heap = heap} fits plain no_bundle (as_labels {from} {labels} value number joined) =
     (same_later app lists heap fits, labels_fit heap labels (row_label ret source) (λ l inside. cond-false (is_void ret) None source value ∙ of_source before f places source from (and_parts (has_none from) _ plain).0 l ((joined l).0 inside)))
-result_fits {app} {lists} {before} {f} {places} {source} {ret} {heap = heap} fits plain no_bundle (as_object {from} {labels} value reference joined) =
-    ( grown_later app lists heap (joined_object ret labels) fits (record { flat = λ k w inside. ap (λ (v : Value). v.place) (element labels k w inside); no_bundle = λ k w inside below. no_bundle below })
-    , new_fits heap (joined_object ret labels) labels (row_label ret source) (λ l inside. cond-false (is_void ret) None source value ∙ of_source before f places source from (and_parts (has_none from) _ plain).0 l ((joined l).0 inside)) (element labels) )
+result_fits {app} {lists} {before} {f} {places} {source} {ret} {heap = heap} fits plain no_bundle (as_object {from} {labels} value reference joined) = (
+  grown_later app lists heap (joined_object ret labels) fits (record { flat = λ k w inside. ap (λ (v : Value). v.place) (element labels k w inside); no_bundle = λ k w inside below. no_bundle below }),
+  new_fits heap (joined_object ret labels) labels (row_label ret source) (λ l inside. cond-false (is_void ret) None source value ∙ of_source before f places source from (and_parts (has_none from) _ plain).0 l ((joined l).0 inside)) (element labels),
+)
 
 module _ (app : App) (lists : Lists) (s : Parts app lists) where
   -- a static call of a class that is not of the app comes to that class of the library
@@ -187,9 +187,9 @@ module _ (app : App) (lists : Lists) (s : Parts app lists) where
       let sink : sink_of app lists at ≡ Some (a.sink, at_sink.is_sink.0) = sink_is at row there ∙ at_sink.is_sink.1 in
       let same = arrival-is a known.step.pc (at_sink.method ∙ known.first) (at_sink.pc ∙ known.pc) in
       let inside : In (arrival a.sink known.step.pc a.label) (arrivals_at known.labels places known.step.pc (a.sink, at_sink.is_sink.0)) =
-          In-filter_map (λ i. option_map (arrival a.sink known.step.pc) (label_of_position known.labels places i)) at_sink.is_sink.0 at_sink.at (arrival a.sink known.step.pc a.label) at_sink.is_sink.2 (ap (option_map (arrival a.sink known.step.pc)) label) in
+      In-filter_map (λ i. option_map (arrival a.sink known.step.pc) (label_of_position known.labels places i)) at_sink.is_sink.0 at_sink.at (arrival a.sink known.step.pc a.label) at_sink.is_sink.2 (ap (option_map (arrival a.sink known.step.pc)) label) in
       found_here app lists s known act a
-        (subst (λ o. In a (arrivals_in known.labels places known.step.pc o)) (sym sink) (subst (λ b. In b (arrivals_at known.labels places known.step.pc (a.sink, at_sink.is_sink.0))) (sym same) inside))
+      (subst (λ o. In a (arrivals_in known.labels places known.step.pc o)) (sym sink) (subst (λ b. In b (arrivals_at known.labels places known.step.pc (a.sink, at_sink.is_sink.0))) (sym same) inside))
 
   -- what is known after a library call
   pub record After (w new : World) (value : Value) (label : Option ℕ) : Type 0 where
@@ -213,7 +213,7 @@ module _ (app : App) (lists : Lists) (s : Parts app lists) where
           handed = λ p inside. elim ((call.handed p).0 inside) [
             | inl before ↦ later.within p (world.handed p before)
             | inr hands ↦ later.within p ((position_fits known (positions kind at args) (positions-below kind at args s.m.registers plain.static plain.below) hands.at).within p hands.place)
-            ];
+          ];
           components = λ c p place. later.bare p (world.components c p (ap (λ (cs : ℕ → Component_state). (cs c).place) (sym call.components) ∙ place));
           arrivals = λ a inside. elim ((call.arrivals a).0 inside) [ inl before ↦ world.arrivals a before | inr at_sink ↦ arrives known act plain its_row.0 a at_sink ];
         };
@@ -227,6 +227,7 @@ module _ (app : App) (lists : Lists) (s : Parts app lists) where
           by_void : (b : Bool) → result_shared row.gives ≡ [] → (if b then [] else result_shared row.gives) ≡ []
           by_void true e = refl
           by_void false e = e
+
       adds_none : RowIsPlain row → (x : ℕ × Value) → Adds app w.heap f (positions kind at args) new.statics row x → ⊥
       adds_none plain x (by_put i j inside place) = subst (λ (xs : List (ℕ × ℕ)). In {A = ℕ × ℕ} (i, j) xs) plain.puts inside
       adds_none plain x (by_store i t inside place) = subst (λ (xs : List (ℕ × ℕ)). In {A = ℕ × ℕ} (i, t) xs) plain.stores inside

@@ -1,7 +1,7 @@
 -- Each step, and so each run, keeps what is known: the theorem.
-use Rattle.std.proofs.Common.{◌≡◌, ◌==◌, ℕ, zero, suc, ◌+◌, ◌<◌, ◌≤◌, List, [], ◌∷◌, ◌++◌, length, map, Bool, true, false, not, ◌&&◌, cond, ◌⊎◌, inl, inr, Option, Some, None, refl, ap, sym, ◌∙◌, subst, arith}
+use Rattle.std.proofs.Common.{◌≡◌, ◌==◌, ℕ, ◌<◌, ◌≤◌, List, [], ◌∷◌, length, map, Bool, true, false, cond, inl, Option, Some, None, refl, ap, sym, ◌∙◌, subst, arith}
 use Rattle.std.specs.Prelude.{is_none, nat_lt, filter_map}
-use Rattle.std.proofs.lemmas.Bool.{and_parts, ltb-true, ne_eqb, false≢true, cond-true, cond-false}
+use Rattle.std.proofs.lemmas.Bool.{and_parts, ltb-true, ne_eqb, false≢true}
 use Rattle.app_model.specs.declared.app.App.{App}
 use Rattle.app_model.specs.declared.app.Class.{Class}
 use Rattle.app_model.specs.declared.call.CallKind.{CallKind}
@@ -9,28 +9,25 @@ use Rattle.app_model.specs.declared.call.CallKind.TheVariants.{Virtual, Super, D
 use Rattle.app_model.specs.declared.call.MethodRef.{MethodRef}
 use Rattle.app_model.specs.declared.lists.Lists.{Lists}
 use Rattle.app_model.specs.declared.method.Method.{Method}
-use Rattle.app_model.specs.declared.method.Step.{Step}
 use Rattle.app_model.specs.declared.method.Act.{Act}
 use Rattle.app_model.specs.declared.method.Act.TheVariants.{Skip, Join, Move, Blank, New, Fill, Get, Put, GetStatic, PutStatic, Call, Return, Throw, TakeResult, TakeException, Go}
-use Rattle.app_model.specs.declared.papers.Declaration.{Declaration}
 use Rattle.app_model.specs.Members.{In}
-use Rattle.app_model.specs.Lookups.{Body, Library, ActAt, Goes, IsNative, Initialises, initialisers, initialisers_from, initialiser_of, class_initialised, up, is_static_call}
-use Rattle.app_model.specs.Summaries.{library_key}
+use Rattle.app_model.specs.Lookups.{Body, Library, ActAt, Goes, Initialises, initialisers, initialisers_from, initialiser_of, class_initialised}
 use Rattle.app_model.specs.Heap.{Value, Object, blank}
 use Rattle.app_model.specs.State.{Arrival, World, Frame, value_or_blank, write, write_all, holds, object_at, result_register}
 use Rattle.app_model.specs.Calls.{Calls_to, returned, hand}
 use Rattle.app_model.specs.Events.{layout, labels_at, Parameters}
 use Rattle.app_model.specs.Local.{Local, skips, goes, blanks, moves, takes_result, takes_exception, joins, makes, fills, gets, puts, gets_static, puts_static}
-use Rattle.app_model.specs.Run.{frame_of, Steps, goes_on, raises, throws, calls, calls_library, library_raises, returns, initialises, has_initialised, ends, passes, begins, begins_initialiser, Run, starts, then, start_world}
-use Rattle.app_model.specs.Safe.{no_summary, Stands, native_call, without_row, at_reflection, native_initialiser, native_event, native_class, Safe}
-use Rattle.straight_line.specs.Straight.{IsStraight, bundle_class, is_plain_act, is_return_void, is_in_line, are_in_line, are_below, has_none}
-use Rattle.straight_line.specs.Flow.{label_at, written, registers_after, result_after, source_of, unknown_at, findings, unknown}
-use Rattle.straight_line.specs.Coverage.{StandsListed, CoversRuns, FlowCoversRuns, AllDeclared, SafeIfDeclared}
-use Rattle.straight_line.proofs.Lines.{Parts, parts_of, same-some, none-some, up-none}
-use Rattle.straight_line.proofs.Heaps.{Fits, IsBare, HeapFits, Later, blank_fits, object_fits, same_later}
+use Rattle.app_model.specs.Run.{Steps, goes_on, raises, throws, calls, calls_library, library_raises, initialises, ends, passes, begins, begins_initialiser, Run, starts, then}
+use Rattle.app_model.specs.Safe.{Stands, native_call, without_row, at_reflection, native_initialiser, native_event, native_class}
+use Rattle.straight_line.specs.Straight.{IsStraight, bundle_class, is_plain_act, is_return_void, are_below}
+use Rattle.straight_line.specs.Flow.{label_at, written, registers_after, result_after, findings, unknown}
+use Rattle.straight_line.specs.Coverage.{StandsListed, CoversRuns, SafeIfDeclared}
+use Rattle.straight_line.proofs.Lines.{Parts, parts_of, none-some, up-none}
+use Rattle.straight_line.proofs.Heaps.{Fits, blank_fits, object_fits}
 use Rattle.straight_line.proofs.Labels.{length-written, written_fits, holds-below}
-use Rattle.straight_line.proofs.Standing.{static_is, entry, code_is, not_native, Running, WorldFits, act_is, is_next, plain_is, raise_ends, settle, missing_here}
-use Rattle.straight_line.proofs.Calling.{IsPlain, plain_from, is_plain, comes_to, key_is, plain_row, after_call}
+use Rattle.straight_line.proofs.Standing.{entry, code_is, not_native, Running, WorldFits, plain_is, raise_ends, settle, missing_here}
+use Rattle.straight_line.proofs.Calling.{plain_from, is_plain, comes_to, key_is, plain_row, after_call}
 use Rattle.straight_line.proofs.Beginning.{begun, no_values, two_values, parameters_fit, layout-is, event}
 
 is_none-is : (o : Option ℕ) → is_none o ≡ true → o ≡ None
@@ -53,11 +50,11 @@ module _ (app : App) (lists : Lists) (s : Parts app lists) where
       Running app lists s heap (record f { pc = to; registers = write_all f.registers ds v })
   writes {heap} {f} known {act = its_act} act to_next other ds v label below fits its_labels its_last =
       settle app lists s known act to_next other (write_all f.registers ds v)
-        (ap length its_labels ∙ length-written ds known.labels label ∙ known.sized)
-        (λ r h. subst (λ labels. Fits heap (write_all f.registers ds v r) (label_at labels r)) (sym its_labels)
-          (let inside : r < length known.labels = subst (λ n. r < n) (sym known.sized) h in written_fits heap f.registers known.labels ds v label fits r inside (known.holds r h)))
-        (subst (λ b. Fits heap (cond b v (f.registers result_register)) (result_after app lists known.last its_act)) (sym past)
-          (subst (λ last. Fits heap (f.registers result_register) last) (sym its_last) known.result))
+      (ap length its_labels ∙ length-written ds known.labels label ∙ known.sized)
+      (λ r h. subst (λ labels. Fits heap (write_all f.registers ds v r) (label_at labels r)) (sym its_labels)
+      (let inside : r < length known.labels = subst (λ n. r < n) (sym known.sized) h in written_fits heap f.registers known.labels ds v label fits r inside (known.holds r h)))
+      (subst (λ b. Fits heap (cond b v (f.registers result_register)) (result_after app lists known.last its_act)) (sym past)
+      (subst (λ last. Fits heap (f.registers result_register) last) (sym its_last) known.result))
     where
       past : holds ds result_register ≡ false
       past = let bound = (entry app lists s).registers in let above : s.m.registers ≤ result_register = omega arith in holds-below ds s.m.registers result_register below above
@@ -127,8 +124,8 @@ module _ (app : App) (lists : Lists) (s : Parts app lists) where
   known_step (running {w} {f} world known) (calls_library {new = new} {at = at} {result = result} act to_next uses call) =
       let after = after_call app lists s world known act uses call in
       running after.world (settle app lists s known act to_next refl (write f.registers result_register result) known.sized
-        (λ r h. subst (λ b. Fits new.heap (cond b result (f.registers r)) (label_at known.labels r)) (sym (below_result r h)) (after.later.values (f.registers r) (label_at known.labels r) (known.holds r h)))
-        after.result)
+      (λ r h. subst (λ b. Fits new.heap (cond b result (f.registers r)) (label_at known.labels r)) (sym (below_result r h)) (after.later.values (f.registers r) (label_at known.labels r) (known.holds r h)))
+      after.result)
     where
       below_result : (r : ℕ) → r < s.m.registers → (r == result_register) ≡ false
       below_result r h = let bound = (entry app lists s).registers in let apart : r ≡ result_register → ⊥ = (λ e. omega arith) in ne_eqb r result_register apart
@@ -143,14 +140,14 @@ module _ (app : App) (lists : Lists) (s : Parts app lists) where
       let is_object : value 0 ≡ object_at place = receiver ∙ ap (λ ss. record { place = place; labels = labels_at ss 0 }) its.plain in
       let first = subst (λ v. Fits heap v None) (sym is_object) (object_fits heap place (λ p at. (fits.0.bare p (its.receiver p at)).within) (λ p at. (fits.0.bare p (its.receiver p at)).bare) None) in
       running
-        (record {
-          heap = fits.0.fits;
-          handed = λ p inside. fits.0.within p (its.world.handed p inside);
-          components = λ c p at. fits.0.bare p (its.world.components c p at);
-          arrivals = its.world.arrivals;
-        })
-        (begun app lists s code (map value (layout m.at.proto.params)) false
-          (λ i. subst (λ vs. Fits heap (value_or_blank vs i) None) (sym (ap (λ ps. map value (layout ps)) params ∙ layout-is value)) (two_values heap (value 0) (value 1) first fits.1 i)))
+      (record {
+        heap = fits.0.fits;
+        handed = λ p inside. fits.0.within p (its.world.handed p inside);
+        components = λ c p at. fits.0.bare p (its.world.components c p at);
+        arrivals = its.world.arrivals;
+      })
+      (begun app lists s code (map value (layout m.at.proto.params)) false
+      (λ i. subst (λ vs. Fits heap (value_or_blank vs i) None) (sym (ap (λ ps. map value (layout ps)) params ∙ layout-is value)) (two_values heap (value 0) (value 1) first fits.1 i)))
   known_step (idle {w} world) (begins_initialiser may code) = running world (begun app lists s code [] false (no_values w.heap))
 
   known_run : {w : World} {fs : List Frame} → Run app lists w fs → Known w fs
@@ -189,7 +186,8 @@ module _ (app : App) (lists : Lists) (s : Parts app lists) where
     stands = λ w fs run method pc cause stands. stands_of (known_run run) stands;
   }
 
-pub flow_covers_runs : FlowCoversRuns
+-- The flow along a straight line covers every run of the app.
+pub flow_covers_runs : (app : App) (lists : Lists) → IsStraight app lists → CoversRuns app lists (findings app lists) (unknown app lists)
 flow_covers_runs app lists straight = covers app lists (parts_of app lists straight)
 
 -- An app whose runs are covered is safe where all that arrives is declared and nothing is unknown.

@@ -1,11 +1,10 @@
 -- Heaps whose entries hold no places, and values whose label is known in them.
-use Rattle.std.proofs.Common.{◌≡◌, ◌==◌, ℕ, zero, suc, ◌+◌, ◌<◌, ◌≤◌, List, [], ◌∷◌, ◌++◌, length, Bool, true, false, cond, ◌⊎◌, inl, inr, Option, Some, None, refl, ap, sym, ◌∙◌, subst, arith}
+use Rattle.std.proofs.Common.{◌≡◌, ℕ, zero, suc, ◌<◌, List, [], ◌∷◌, ◌++◌, length, ◌⊎◌, inl, inr, Option, Some, None, refl, ap, sym, ◌∙◌, subst, arith}
 use Rattle.vet_base.specs.declared.key_id.KeyId.{KeyId}
 use Rattle.app_model.specs.declared.app.App.{App}
 use Rattle.app_model.specs.declared.lists.Lists.{Lists}
 use Rattle.app_model.specs.Members.{In}
 use Rattle.app_model.specs.Names.{Name}
-use Rattle.app_model.specs.Lookups.{elem_key}
 use Rattle.app_model.specs.Summaries.{Below}
 use Rattle.app_model.specs.Heap.{Value, Object, blank, labelled, EntryAt, ClassAt, Reaches}
 use Rattle.app_model.specs.State.{object_at}
@@ -117,7 +116,7 @@ grown_later app lists heap o fits object = record {
     no_bundle = λ p k w c h of_class. elim (EntryAt-append heap o p k w h) [
       | inl new ↦ new_object_fits p k w c new.0 new.1 (ClassAt-append heap o p c of_class)
       | inr old ↦ old_object_fits p k w c old (ClassAt-append heap o p c of_class)
-      ];
+    ];
   };
   values = λ v label h. record { within = λ p place. longer p (h.within p place); walks = λ ks l walk. h.walks ks l (walk_before v h.within ks l walk) };
   bare = λ p h. record { within = longer p h.within; bare = λ k w entry. h.bare k w (EntryAt-old heap o p k w h.within entry) };
@@ -126,12 +125,15 @@ grown_later app lists heap o fits object = record {
   where
     longer : (p : ℕ) → p < length heap → p < length (heap ++ o ∷ [])
     longer p h = let more = length-one_more heap o in omega arith
+
     new_object_fits : (p : ℕ) (k : KeyId) (w : Value) (c : Name) → p ≡ length heap → In {A = KeyId × Value} (k, w) o.entries → ((p ≡ length heap) × (o.class ≡ c)) ⊎ ClassAt heap p c → Below app lists c bundle_class → ⊥
     new_object_fits p k w c at_end inside (inl new) below = object.no_bundle k w inside (subst (λ t. Below app lists t bundle_class) (sym new.1) below)
     new_object_fits p k w c at_end inside (inr old) below = let within = ClassAt-within heap p c old in omega arith
+
     old_object_fits : (p : ℕ) (k : KeyId) (w : Value) (c : Name) → EntryAt heap p k w → ((p ≡ length heap) × (o.class ≡ c)) ⊎ ClassAt heap p c → Below app lists c bundle_class → ⊥
     old_object_fits p k w c entry (inl new) below = let within = EntryAt-within heap p k w entry in let at_end = new.0 in omega arith
     old_object_fits p k w c entry (inr old) below = fits.no_bundle p k w c entry old below
+
     walk_before : (v : Value) → ((p : ℕ) → v.place ≡ Some p → p < length heap) → (ks : List KeyId) (l : ℕ) → Reaches (heap ++ o ∷ []) v ks l → Reaches heap v ks l
     walk_before v within [] l walk = walk
     walk_before v within (k ∷ ks) l (p, place, (w, entry, rest)) =
@@ -145,6 +147,7 @@ new_fits heap o labels label each element = record { within = within; walks = wa
   where
     within : (p : ℕ) → Some (length heap) ≡ Some p → p < length (heap ++ o ∷ [])
     within p e = let at_end = same-some (length heap) p e in let more = length-one_more heap o in omega arith
+
     walks : (ks : List KeyId) (l : ℕ) → Reaches (heap ++ o ∷ []) (record { place = Some (length heap); labels = labels }) ks l → label ≡ Some l
     walks [] l h = each l h
     walks (k ∷ ks) l (p, place, (w, entry, rest)) =

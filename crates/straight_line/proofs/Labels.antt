@@ -1,13 +1,13 @@
 -- The labels of the fold beside the machine's registers.
-use Rattle.std.proofs.Common.{◌≡◌, ◌==◌, ◌&&◌, ◌||◌, ℕ, zero, suc, ◌<◌, ◌≤◌, List, [], ◌∷◌, ◌++◌, length, replicate, Bool, true, false, cond, ◌⊎◌, inl, inr, Option, Some, None, refl, ap, sym, ◌∙◌, subst, arith}
-use Rattle.std.specs.Prelude.{slice_get, slice_set, slice_index_or, nat_lt, filter_map, option_map, drop, if◌then◌else◌}
+use Rattle.std.proofs.Common.{◌≡◌, ◌==◌, ◌&&◌, ◌||◌, ℕ, zero, suc, ◌<◌, ◌≤◌, List, [], ◌∷◌, ◌++◌, length, Bool, true, false, cond, inl, inr, Option, Some, None, refl, ap, sym, ◌∙◌, subst, arith}
+use Rattle.std.specs.Prelude.{slice_get, slice_set, nat_lt, filter_map, drop, if◌then◌else◌}
 use Rattle.std.specs.List.{list_all, cons_option}
-use Rattle.std.proofs.lemmas.List.{get_or-set_same, get_or-set_other, length-set, get_or-replicate, length-replicate}
-use Rattle.std.proofs.lemmas.Bool.{and_parts, ltb-true, eqb-true, eqb-false, ne_eqb, false≢true, or_cases, cond-true, cond-false}
+use Rattle.std.proofs.lemmas.List.{get_or-set_same, get_or-set_other, length-set}
+use Rattle.std.proofs.lemmas.Bool.{and_parts, ltb-true, eqb-true, eqb-false, ne_eqb, cond-true, cond-false}
 use Rattle.app_model.specs.Members.{In}
 use Rattle.app_model.specs.Names.{Name, is_wide}
 use Rattle.app_model.specs.Heap.{Value, Object}
-use Rattle.app_model.specs.State.{holds, write_all, write, result_register}
+use Rattle.app_model.specs.State.{holds, write_all}
 use Rattle.app_model.specs.Library.{first_registers}
 use Rattle.straight_line.specs.Straight.{are_below}
 use Rattle.straight_line.specs.Flow.{label_at, written}
@@ -27,6 +27,7 @@ label_at-written (d ∷ ds) registers label r h =
   where
     at_same : r ≡ d → label_at (slice_set registers d label) r ≡ label
     at_same e = ap (λ i. label_at (slice_set registers i label) r) (sym e) ∙ get_or-set_same registers r label None h
+
     by_test : (a : Bool) → (r == d) ≡ a → (b : Bool) → cond b label (label_at (slice_set registers d label) r) ≡ cond ((r == d) || b) label (label_at registers r)
     by_test true e true = sym (cond-true ((r == d) || true) label (label_at registers r) (ap (λ t. t || true) e))
     by_test true e false = at_same (eqb-true r d e) ∙ sym (cond-true ((r == d) || false) label (label_at registers r) (ap (λ t. t || false) e))
@@ -67,6 +68,7 @@ below-positions n (type ∷ types) (x ∷ xs) h =
     dropped : (ys : List ℕ) → are_below n ys ≡ true → are_below n (drop 1 ys) ≡ true
     dropped [] h = refl
     dropped (y ∷ ys) h = (and_parts (nat_lt y n) (are_below n ys) h).1
+
     rest : (b : Bool) → are_below n xs ≡ true → are_below n (if b then drop 1 xs else xs) ≡ true
     rest true h = dropped xs h
     rest false h = h

@@ -1,9 +1,8 @@
 -- What it says of an app that it is straight, and of the app's look-ups.
-use Rattle.std.proofs.Common.{◌≡◌, ◌==◌, ℕ, zero, suc, ◌+◌, ◌<◌, ◌≤◌, List, [], ◌∷◌, ◌++◌, length, Bool, true, false, not, ◌&&◌, ◌||◌, cond, ◌⊎◌, inl, inr, Option, Some, None, refl, ap, sym, ◌∙◌, subst, arith}
-use Rattle.std.specs.Prelude.{IsTrue, slice_get, find, codes, nat_le}
-use Rattle.std.specs.List.{list_any, list_all}
-use Rattle.std.specs.Option.{option_and_then}
-use Rattle.std.proofs.lemmas.Bool.{and_parts, and_from, leb-true, or_left, or_right, or_cases, or_parts, not-true, eqb-true, eq-eqb, ne_eqb, false≢true, cond-true, cond-false}
+use Rattle.std.proofs.Common.{◌≡◌, ◌≤◌, List, [], ◌∷◌, length, Bool, true, false, not, ◌&&◌, cond, inl, inr, Option, Some, None, refl, ap, sym, ◌∙◌, subst, arith}
+use Rattle.std.specs.Prelude.{IsTrue, find, codes, nat_le}
+use Rattle.std.specs.List.{list_any}
+use Rattle.std.proofs.lemmas.Bool.{and_parts, and_from, leb-true, or_left, or_right, or_cases, not-true, eqb-true, false≢true, cond-true, cond-false}
 use Rattle.std.proofs.lemmas.Slice.Eq.{bytes_eq-Decides}
 use Rattle.app_model.specs.declared.app.App.{App}
 use Rattle.app_model.specs.declared.app.Class.{Class}
@@ -12,9 +11,9 @@ use Rattle.app_model.specs.declared.method.Method.{Method}
 use Rattle.app_model.specs.declared.lists.Lists.{Lists}
 use Rattle.app_model.specs.Names.{Name, same_name, same_names, object_class}
 use Rattle.app_model.specs.Members.{In}
-use Rattle.app_model.specs.Lookups.{class_named, directly_above, up_within, up, find_body}
+use Rattle.app_model.specs.Lookups.{class_named, directly_above, up_within, up}
 use Rattle.app_model.specs.Summaries.{listed_above, Below, is_same, is_object, is_through, is_listed}
-use Rattle.straight_line.specs.Straight.{bundle_class, only, has_none, is_straight, IsStraight, are_straight_parts, is_on_create, is_line, is_activity, is_bundle, is_listed_bundle, begin_at_zero, are_in_line}
+use Rattle.straight_line.specs.Straight.{bundle_class, only, has_none, is_straight, IsStraight, are_straight_parts, is_on_create, is_line, is_activity, is_bundle, is_listed_bundle}
 
 -- a test of equality on names that is passed
 pub same-same : (a b : Name) → same_name a b ≡ true → a ≡ b
@@ -115,6 +114,7 @@ up-none app class name classes h = ap (λ cs. up_within (length cs) cs (Some nam
   where
     step : Bool → List Class
     step b = elim (cond b (Some class) None) [ None ↦ [] | Some c ↦ c ∷ up_within 0 (class ∷ []) c.superclass ]
+
     by_test : (b : Bool) → same_name class.name name ≡ b → up_within 1 (class ∷ []) (Some name) ≡ []
     by_test true e = absurd (false≢true (sym h ∙ same-refl name class.name (sym (same-same class.name name e))))
     by_test false e = ap step e
@@ -133,8 +133,9 @@ is_bundle-below app lists class classes {name} (is_through {above = above} c fou
     let here = class_named-is app class c name classes found in
     let inside' : In above (directly_above class) = subst (λ k. In above (directly_above k)) here.1 inside in
     or_right (is_listed_bundle lists name) _ (and_from (same_name name class.name) _ (same-refl name class.name here.0)
-        (elim (or_cases (is_listed_bundle lists above) _ (is_bundle-below app lists class classes below e)) [
-          | inl listed ↦ any-in (λ a. is_listed_bundle lists a) above (directly_above class) inside' listed
-          | inr through ↦ (and_parts (same_name above class.name) _ through).1 ]))
+    (elim (or_cases (is_listed_bundle lists above) _ (is_bundle-below app lists class classes below e)) [
+      | inl listed ↦ any-in (λ a. is_listed_bundle lists a) above (directly_above class) inside' listed
+      | inr through ↦ (and_parts (same_name above class.name) _ through).1
+    ]))
 is_bundle-below app lists class classes {name} {type} (is_listed inside) e =
     or_left _ _ (or_right (same_name name bundle_class) _ (any-in (λ a. same_name a bundle_class) type (listed_above lists name) inside (same-refl type bundle_class e)))

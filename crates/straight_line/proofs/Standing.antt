@@ -1,28 +1,23 @@
 -- Where a frame stands in the line, and what the step there can be.
-use Rattle.std.proofs.Common.{◌≡◌, ◌==◌, ℕ, zero, suc, ◌+◌, ◌<◌, ◌≤◌, List, [], ◌∷◌, ◌++◌, length, replicate, Bool, true, false, not, ◌&&◌, cond, ◌⊎◌, inl, inr, Option, Some, None, refl, ap, sym, ◌∙◌, subst, arith}
-use Rattle.std.specs.Prelude.{slice_get, find, flat_map, nat_lt, is_none, if◌then◌else◌}
-use Rattle.std.specs.Option.{option_and_then, option_map_or}
-use Rattle.std.proofs.lemmas.Bool.{and_parts, ltb-true, eqb-true, eq-eqb, ne_eqb, false≢true, not-true, cond-true, cond-false}
+use Rattle.std.proofs.Common.{◌≡◌, ◌==◌, ℕ, zero, suc, ◌<◌, ◌≤◌, List, [], ◌∷◌, length, true, false, inl, inr, Option, Some, None, refl, ap, sym, ◌∙◌, subst, arith}
+use Rattle.std.specs.Prelude.{slice_get, find, flat_map, nat_lt}
+use Rattle.std.proofs.lemmas.Bool.{and_parts, ltb-true, eqb-true, eq-eqb, ne_eqb, false≢true, cond-true, cond-false}
 use Rattle.app_model.specs.declared.app.App.{App}
-use Rattle.app_model.specs.declared.app.Class.{Class}
 use Rattle.app_model.specs.declared.call.CallKind.{CallKind}
 use Rattle.app_model.specs.declared.call.CallKind.TheVariants.{Virtual, Super, Direct, Static, Interface}
-use Rattle.app_model.specs.declared.call.MethodRef.{MethodRef}
 use Rattle.app_model.specs.declared.lists.Lists.{Lists}
 use Rattle.app_model.specs.declared.method.Method.{Method}
 use Rattle.app_model.specs.declared.method.Step.{Step}
 use Rattle.app_model.specs.declared.method.Act.{Act}
-use Rattle.app_model.specs.declared.method.Act.TheVariants.{Skip, Join, Move, Blank, New, Fill, Get, Put, GetStatic, PutStatic, Call, Return, Throw, TakeResult, TakeException, Go}
-use Rattle.app_model.specs.Members.{In, first_given}
-use Rattle.app_model.specs.Names.{Name, same_name}
-use Rattle.app_model.specs.Lookups.{Target, Body, Library, Nothing, body_or, step_at, ActAt, Goes, Catches, HasCode, IsNative, Initialises, up, find_body, method_of, target, is_by_receiver, is_static_call, initialisers, initialisers_from, class_initialised}
+use Rattle.app_model.specs.Members.{In}
+use Rattle.app_model.specs.Lookups.{step_at, ActAt, Goes, HasCode, IsNative, is_static_call}
 use Rattle.app_model.specs.Heap.{Value, Object}
 use Rattle.app_model.specs.State.{Arrival, World, Frame, result_register}
-use Rattle.app_model.specs.Calls.{Calls_to, by_name, by_nothing, by_class, Raises, is_caught, unwinds, ends_event}
-use Rattle.straight_line.specs.Straight.{has_none, head, is_plain_act, is_plain_call, is_bundle, is_return_void, goes_only_to, is_in_line, are_in_line, begin_at_zero, is_line}
+use Rattle.app_model.specs.Calls.{Raises, is_caught, unwinds, ends_event}
+use Rattle.straight_line.specs.Straight.{has_none, head, is_plain_act, is_return_void, goes_only_to, is_in_line, are_in_line}
 use Rattle.straight_line.specs.Flow.{label_at, registers_after, result_after, found_at, found_along, unknown_at, findings, unknown}
-use Rattle.straight_line.proofs.Lines.{Parts, IsEntry, entry_of, same-some, none-some, empty-is, up-none}
-use Rattle.straight_line.proofs.Heaps.{Fits, IsBare, HeapFits, Later}
+use Rattle.straight_line.proofs.Lines.{Parts, IsEntry, entry_of, same-some, none-some, empty-is}
+use Rattle.straight_line.proofs.Heaps.{Fits, IsBare, HeapFits}
 use Rattle.straight_line.proofs.Labels.{In-left, In-right}
 
 only_method : (all : List Method) (m found : Method) (body : ℕ) → all ≡ m ∷ [] → slice_get all body ≡ Some found → (body ≡ 0) × (found ≡ m)
@@ -63,6 +58,7 @@ module _ (app : App) (lists : Lists) (s : Parts app lists) where
     where
       in_methods : List Method → Option Step
       in_methods ms = elim (slice_get ms method) [ None ↦ None | Some m ↦ find (λ (t : Step). t.pc == pc) m.steps ]
+
       of_method : ℕ → Option Step
       of_method k = elim (slice_get (s.m ∷ []) k) [ None ↦ None | Some m ↦ find (λ (t : Step). t.pc == pc) m.steps ]
 
@@ -163,14 +159,14 @@ module _ (app : App) (lists : Lists) (s : Parts app lists) where
         pc = next.next to (goes_is known goes);
         line = ap (λ steps. are_in_line app lists s.class s.m.registers steps) (sym next.is) ∙ (and_parts _ _ known.line).1;
         same = λ q h.
-          (let before : known.step.pc ≤ q = omega arith in
-          let apart : known.step.pc ≡ q → ⊥ = (λ e. omega arith) in
-          known.same q before ∙ cond-false (known.step.pc == q) (Some known.step) _ (ne_eqb known.step.pc q apart) ∙ ap (λ steps. find (λ (t : Step). t.pc == q) steps) next.is);
+            (let before : known.step.pc ≤ q = omega arith in
+            let apart : known.step.pc ≡ q → ⊥ = (λ e. omega arith) in
+            known.same q before ∙ cond-false (known.step.pc == q) (Some known.step) _ (ne_eqb known.step.pc q apart) ∙ ap (λ steps. find (λ (t : Step). t.pc == q) steps) next.is);
         labels = registers_after known.labels known.last act;
         last = result_after app lists known.last act;
         sized = sized;
         found = λ a h. known.found a (In-right a _ _
-          (subst (λ t. In a (found_along app lists (registers_after known.labels known.last t) (result_after app lists known.last t) known.more)) (sym is_act)
+            (subst (λ t. In a (found_along app lists (registers_after known.labels known.last t) (result_after app lists known.last t) known.more)) (sym is_act)
             (subst (λ steps. In a (found_along app lists (registers_after known.labels known.last act) (result_after app lists known.last act) steps)) (sym next.is) h)));
         missing = λ p h. known.missing p (In-right p _ _ (subst (λ steps. In p (flat_map (λ (t : Step). unknown_at app lists t.pc t.act) steps)) (sym next.is) h));
         holds = fits;

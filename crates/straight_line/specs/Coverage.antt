@@ -7,8 +7,6 @@ use Rattle.app_model.specs.Members.{In}
 use Rattle.app_model.specs.State.{Arrival, World, Frame}
 use Rattle.app_model.specs.Run.{Run}
 use Rattle.app_model.specs.Safe.{no_summary, Stands, Declared, Safe}
-use Rattle.straight_line.specs.Straight.{IsStraight}
-use Rattle.straight_line.specs.Flow.{findings, unknown}
 
 -- the machine stands at a listed pc of the app's first method, for want of a row
 pub record StandsListed (unknown : List ℕ) (method pc cause : ℕ) : Type 0 where
@@ -28,7 +26,3 @@ AllDeclared lists declaration arrivals = (a : Arrival) → In a arrivals → Dec
 -- The app is safe under each declaration that names these arrivals, if its runs come to nothing that is not modelled.
 abbrev pub SafeIfDeclared : App → Lists → List Arrival → List ℕ → Type 0
 SafeIfDeclared app lists arrivals unknown = (declaration : Declaration) → AllDeclared lists declaration arrivals → unknown ≡ [] → Safe app lists declaration
-
--- The flow along a straight line covers every run of the app.
-abbrev pub FlowCoversRuns : Type 0
-FlowCoversRuns = (app : App) (lists : Lists) → IsStraight app lists → CoversRuns app lists (findings app lists) (unknown app lists)

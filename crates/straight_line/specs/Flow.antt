@@ -1,12 +1,10 @@
 -- The flow of labels along a straight line. Nothing is joined there, so that a register holds one label at most.
-use Rattle.std.specs.Prelude.{ℕ, Bool, true, if◌then◌else◌, List, [], ◌∷◌, ◌++◌, map, replicate, Option, Some, None, option_map, is_none, slice_get, slice_index_or, slice_set, filter_map, flat_map}
+use Rattle.std.specs.Prelude.{ℕ, true, if◌then◌else◌, List, [], ◌∷◌, ◌++◌, replicate, Option, Some, None, option_map, is_none, slice_get, slice_index_or, slice_set, filter_map, flat_map}
 use Rattle.std.specs.Option.{option_and_then}
-use Rattle.app_model.specs.declared.call.CallKind.{CallKind}
 use Rattle.app_model.specs.declared.call.MethodRef.{MethodRef}
 use Rattle.app_model.specs.declared.method.Step.{Step}
 use Rattle.app_model.specs.declared.method.Act.{Act}
 use Rattle.app_model.specs.declared.method.Act.TheVariants.{Move, Blank, Call, TakeResult}
-use Rattle.app_model.specs.declared.summary.Summary.{Summary}
 use Rattle.app_model.specs.declared.lists.Lists.{Lists}
 use Rattle.app_model.specs.declared.app.App.{App}
 use Rattle.app_model.specs.Names.{is_void}

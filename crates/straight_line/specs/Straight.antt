@@ -2,8 +2,6 @@
 use Rattle.std.specs.Prelude.{ℕ, Bool, true, false, not, ◌&&◌, ◌||◌, ◌==◌, nat_lt, nat_le, IsTrue, List, [], ◌∷◌, length, Option, Some, None, is_some, is_none, codes}
 use Rattle.std.specs.List.{list_any, list_all}
 use Rattle.std.specs.Option.{option_and_then, option_map_or}
-use Rattle.app_model.specs.declared.call.CallKind.{CallKind}
-use Rattle.app_model.specs.declared.call.CallKind.TheVariants.{Static}
 use Rattle.app_model.specs.declared.call.MethodRef.{MethodRef}
 use Rattle.app_model.specs.declared.component.Kind.{Kind}
 use Rattle.app_model.specs.declared.component.Kind.TheVariants.{Activity}
@@ -128,8 +126,8 @@ is_straight app lists = has_none lists.callbacks && elim (only app.classes) [
   | Some class ↦ elim (only app.methods) [
     | None ↦ false
     | Some m ↦ elim (only app.components) [ None ↦ false | Some component ↦ are_straight_parts app lists class m component ]
-    ]
   ]
+]
 
 abbrev pub IsStraight : App → Lists → Type 0
 IsStraight app lists = IsTrue (is_straight app lists)

@@ -129,12 +129,7 @@ fn add_arrivals(
 }
 
 /// Adds the step's address where it is a call of which the lists say nothing.
-fn find_unknown(
-    app: &App,
-    lists: &Lists,
-    step: &Step,
-    unknown: &mut Seq<u32>,
-) -> Result<(), Memory>
+fn find_unknown(app: &App, lists: &Lists, step: &Step, unknown: &mut Seq<u32>) -> Result<(), Memory>
     requires { NumberedLists lists.now }
     ensures { OnOk result (unknown.new ≡ unknown.old ++ unknown_at app.now lists.now step.now.pc step.now.act) }
 {
@@ -223,7 +218,11 @@ fn first_registers(alloc: Global, params: &[Name], args: &[u32]) -> Result<Vec<u
             return Ok(places);
         };
         places.push(*register)?;
-        rest = if is_wide(kind) { without_first(more) } else { more };
+        rest = if is_wide(kind) {
+            without_first(more)
+        } else {
+            more
+        };
         kinds = more_kinds;
     }
     Ok(places)

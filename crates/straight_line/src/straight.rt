@@ -293,5 +293,9 @@ fn any_bundle_class(names: &[Name]) -> bool
 fn listed<'a>(lists: &'a Lists, name: &Name) -> Option<&'a LibClass>
     ensures { option_copied result ≡ listed_class lists.now name.now }
 {
-    lists.classes.as_slice().iter().find(|class| class.name == *name)
+    lists
+        .classes
+        .as_slice()
+        .iter()
+        .find(|class| class.name == *name)
 }

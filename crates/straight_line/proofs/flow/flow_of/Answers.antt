@@ -2,8 +2,6 @@
 use Rattle.std.proofs.Common.{◌≡◌, List, subst, sym}
 use Rattle.std.specs.Prelude.{Result, Ok, Err, IfOk, ℕ}
 use Rattle.vet_base.specs.declared.memory.Memory.{Memory}
-use Rattle.app_model.specs.declared.app.App.{App}
-use Rattle.app_model.specs.declared.lists.Lists.{Lists}
 use Rattle.app_model.specs.State.{Arrival}
 use Rattle.straight_line.specs.declared.flow.Flow.{Flow}
 use Rattle.straight_line.specs.Coverage.{CoversRuns, SafeIfDeclared}
@@ -28,4 +26,4 @@ returns-clause-safe c =
     let app = c.args.app.now in
     let lists = c.args.lists.now in
     of_result (SafeIfDeclared app lists) (findings app lists) (unknown app lists) (safe_if_declared app lists (findings app lists) (unknown app lists) (flow_covers_runs app lists c.requires.straight))
-      c.flow_of_first.result c.flow_of_first.ensures.findings c.flow_of_first.ensures.unknown
+    c.flow_of_first.result c.flow_of_first.ensures.findings c.flow_of_first.ensures.unknown
