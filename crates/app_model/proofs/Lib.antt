@@ -1,4 +1,1 @@
-pub mod Classes
 pub mod First
-pub mod Halving
-pub mod NameOrder

@@ -1,5 +1,4 @@
 pub mod Calls
-pub mod EventTable
 pub mod Events
 pub mod Heap
 pub mod Library
