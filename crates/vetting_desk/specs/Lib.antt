@@ -1,3 +1,4 @@
+pub mod Answer
 pub mod OneClass
 pub mod Words
 pub mod Printed

@@ -2,11 +2,15 @@
 //! system.
 #![tactic(auto)]
 
+mod judge;
 mod lines;
 mod number;
 mod one_class;
 mod printed;
+mod report;
 mod sample;
+mod verdict;
 mod words;
 
+pub use verdict::{Status, Verdict};
 pub use words::{WordFault, Words, parse_words};
