@@ -1,2 +1,3 @@
+pub mod Safety
 pub mod Singles
 pub mod Texts

@@ -8,6 +8,7 @@ mod number;
 mod one_class;
 mod printed;
 mod report;
+mod run;
 mod sample;
 mod verdict;
 mod words;
