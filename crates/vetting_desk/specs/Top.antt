@@ -1,5 +1,5 @@
 -- What a run does to the files and the sink.
-use Rattle.std.specs.Prelude.{◌≡◌, ◌⊎◌, ℕ, List, ◌++◌, take, Option, Some, None, string_bytes, String, IsTrue, is_some}
+use Rattle.std.specs.Prelude.{◌≡◌, ◌⊎◌, ℕ, ◌≤◌, List, ◌++◌, take, Option, Some, None, string_bytes, String, IsTrue, is_some}
 use Rattle.std.specs.Option.{option_map}
 use Rattle.vet_base.specs.Outside.{HasRisen, Told, held_by}
 use Rattle.vet_base.specs.declared.outside.FailedCall.TheVariants.{Read}
@@ -86,3 +86,7 @@ PrintsPart words old_told new_told old new = (text : List ℕ) × IsDue words ol
 
 abbrev pub IsFaultStatus : Status → Type 0
 IsFaultStatus result = (result ≡ status 5) ⊎ (result ≡ status 6) ⊎ (result ≡ status 7)
+
+-- the statuses that there are
+abbrev pub IsKnown : Status → Type 0
+IsKnown result = result.0 ≤ 7

@@ -2,6 +2,7 @@
 //! system.
 #![tactic(auto)]
 
+mod host;
 mod judge;
 mod lines;
 mod number;
@@ -13,5 +14,7 @@ mod sample;
 mod verdict;
 mod words;
 
+pub use host::{HostFiles, StandardSink};
+pub use run::vet;
 pub use verdict::{Status, Verdict};
 pub use words::{WordFault, Words, parse_words};

@@ -5,7 +5,7 @@ ghost use Rattle.vet_base.specs.Outside.{HasRisen, HasNotRisen};
 ghost use Rattle.vetting_desk.specs.declared.words.Words.TheVariants.{Check};
 ghost use Rattle.vetting_desk.specs.Words.{parse};
 ghost use Rattle.vetting_desk.specs.Answer.{dex_name, text_of, read_fault_text};
-ghost use Rattle.vetting_desk.specs.Top.{IsFound, Prints, IsAnswer, IsUsage, TellsPrinted, PrintsPart, IsFaultStatus, SameFiles, IsSafe};
+ghost use Rattle.vetting_desk.specs.Top.{IsFound, Prints, IsAnswer, IsUsage, TellsPrinted, PrintsPart, IsFaultStatus, SameFiles, IsSafe, IsKnown, status};
 
 use crate::judge::verdict_on;
 use crate::report::{read_fault, report};
@@ -72,5 +72,45 @@ fn printed<O: Sink>(alloc: Global, out: &mut O, status: Status, text: &[u8]) -> 
         Ok(()) => status,
         Err(PutFault::Failed) => Status(6),
         Err(PutFault::Memory) => Status(7),
+    }
+}
+
+/// Runs the words over files, and prints the answer to a sink as one text that ends with one line feed.
+///
+/// Where the files tell what they hold, status 0 says: the folder that the words name holds a DEX file that makes one
+/// app, and no run of the machine brings a value of a listed source to a listed sink, or comes to what is not modelled.
+pub fn vet<F: Files, O: Sink>(alloc: Global, words: &[String], files: &mut F, out: &mut O) -> Status
+    // Clear is a theorem about the very bytes handed in.
+    ensures sound { result ≡ status 0 → IsSafe (parse (map string_bytes words.now)) (F.told files.old) }
+
+    // Where neither count rose and memory was there, the status and the text are the answer to the words and the files.
+    ensures answer { result ≢ status 7 →
+        HasNotRisen (F.fault_count files.old) (F.fault_count files.new) → HasNotRisen (O.fault_count out.old) (O.fault_count out.new) →
+        IsAnswer (parse (map string_bytes words.now)) (F.told files.old) (O.taken out.old) (O.taken out.new) result }
+
+    ensures usage { result ≡ status 4 → IsNone (parse (map string_bytes words.now)) }
+    ensures no_command { IsNone (parse (map string_bytes words.now)) → IsUsage (O.fault_count out.old) (O.fault_count out.new) result }
+    ensures read_fault { result ≡ status 5 → HasRisen (F.fault_count files.old) (F.fault_count files.new)
+        × TellsPrinted (F.told files.new) (O.taken out.old) (O.taken out.new) }
+    ensures write_fault { result ≡ status 6 → HasRisen (O.fault_count out.old) (O.fault_count out.new)
+        × PrintsPart (parse (map string_bytes words.now)) (F.told files.old) (F.told files.new) (O.taken out.old) (O.taken out.new) }
+    ensures memory { result ≡ status 7 → O.taken out.new ≡ O.taken out.old }
+
+    // A fault of the outside is never passed over.
+    ensures put_failed { O.fault_count out.old < O.fault_count out.new → result ≡ status 6 }
+    ensures read_failed { F.fault_count files.old < F.fault_count files.new → IsFaultStatus result }
+    ensures known { IsKnown result }
+    ensures files { SameFiles (F.told files.old) (F.told files.new) }
+{
+    match found_in(alloc, words, files) {
+        Found::Said(verdict) => match report(alloc, &verdict) {
+            Ok(text) => printed(alloc, out, status_for(&verdict), &text),
+            Err(_) => Status(7),
+        },
+        Found::ReadFault(name) => match read_fault(alloc, name.as_bytes()) {
+            Ok(text) => printed(alloc, out, Status(5), &text),
+            Err(_) => Status(7),
+        },
+        Found::Memory => Status(7),
     }
 }
