@@ -18,3 +18,6 @@ pub use host::{HostFiles, StandardSink};
 pub use run::vet;
 pub use verdict::{Status, Verdict};
 pub use words::{WordFault, Words, parse_words};
+
+#[cfg(test)]
+mod tests;
