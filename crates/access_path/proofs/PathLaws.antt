@@ -1,11 +1,10 @@
 -- The laws of paths, by which alone other proofs know how many keys a path has.
-use Rattle.std.proofs.Common.{◌≡◌, ℕ, List, [], ◌∷◌, Bool, true, false, Option, Some, None, refl, ap, sym, ◌∙◌, subst, eq-eqb}
+use Rattle.std.proofs.Common.{◌≡◌, List, [], ◌∷◌, Some, refl, ap, subst, eq-eqb}
 use Rattle.vet_base.specs.declared.key_id.KeyId.{KeyId}
-use Rattle.access_path.specs.declared.path.Keys.{Keys}
 use Rattle.access_path.specs.declared.path.Keys.TheVariants.{Zero, One, Two, Three}
 use Rattle.access_path.specs.declared.path.Path.{Path}
 use Rattle.access_path.specs.declared.path.Path.TheVariants.{Closed, Open}
-use Rattle.access_path.specs.Paths.{Covers, Begins, keys_in, keys_of, cut, rest, empty_path}
+use Rattle.access_path.specs.Paths.{Covers, Begins, keys_of, cut, rest, empty_path}
 use Rattle.access_path.specs.Laws.{PathLaws}
 
 -- a list begins with itself

@@ -1,5 +1,5 @@
 -- What a path stands for, a key in front of it, and what is left behind a key.
-use Rattle.std.specs.Prelude.{◌≡◌, ◌==◌, ℕ, Bool, true, false, if◌then◌else◌, List, [], ◌∷◌, Option, Some, None}
+use Rattle.std.specs.Prelude.{◌≡◌, ◌==◌, if◌then◌else◌, List, [], ◌∷◌, Option, Some, None}
 use Rattle.vet_base.specs.declared.key_id.KeyId.{KeyId}
 use Rattle.access_path.specs.declared.path.Keys.{Keys}
 use Rattle.access_path.specs.declared.path.Keys.TheVariants.{Zero, One, Two, Three}

@@ -1,7 +1,7 @@
 -- The body of an event begins with known parameters, and its end hands its result to the library.
-use Rattle.std.proofs.Common.{◌≡◌, ◌≢◌, ◌==◌, ℕ, zero, suc, ◌+◌, ◌-◌, ◌<◌, List, [], ◌∷◌, ◌++◌, length, Bool, true, false, cond, ◌⊎◌, inl, inr, Option, Some, None, refl, ap, sym, ◌∙◌, subst, arith}
+use Rattle.std.proofs.Common.{◌≡◌, ◌==◌, ℕ, zero, suc, ◌+◌, ◌-◌, ◌<◌, List, [], ◌∷◌, ◌++◌, length, Bool, true, false, cond, ◌⊎◌, inl, inr, Option, Some, None, refl, ap, sym, ◌∙◌, subst, arith}
 use Rattle.std.proofs.lemmas.Bool.{eqb-true}
-use Rattle.std.specs.Prelude.{IsTrue, slice_get, map, filter_map}
+use Rattle.std.specs.Prelude.{IsTrue, slice_get, map}
 use Rattle.std.specs.List.{cons_option}
 use Rattle.vet_base.specs.declared.key_id.KeyId.{KeyId}
 use Rattle.access_path.specs.declared.path.Path.{Path}
@@ -11,11 +11,10 @@ use Rattle.app_model.specs.declared.method.Method.{Method}
 use Rattle.app_model.specs.declared.method.Act.TheVariants.{Return}
 use Rattle.app_model.specs.declared.lists.Lists.{Lists}
 use Rattle.app_model.specs.declared.app.App.{App}
-use Rattle.app_model.specs.Members.{In, IsAt}
+use Rattle.app_model.specs.Members.{In}
 use Rattle.app_model.specs.Names.{Name, is_reference, is_wide}
 use Rattle.app_model.specs.Lookups.{elem_key, ActAt, HasCode}
-use Rattle.app_model.specs.Summaries.{Below}
-use Rattle.app_model.specs.Heap.{Value, Object, labelled, ClassAt, Reaches}
+use Rattle.app_model.specs.Heap.{Value, Object, Reaches}
 use Rattle.app_model.specs.State.{World, Frame, object_at}
 use Rattle.app_model.specs.Calls.{returned, hand}
 use Rattle.app_model.specs.Events.{layout_from, layout, labels_at, labelled_element, Parameter, is_blank, is_fresh, is_given, Parameters, no_more, one_more, MayInitialise}
@@ -26,16 +25,16 @@ use Rattle.fact_rows.specs.declared.context.Activation.{Activation}
 use Rattle.fact_rows.specs.declared.site.Site.{Site}
 use Rattle.fact_rows.specs.declared.site.Site.TheVariants.{Param}
 use Rattle.fact_rows.specs.declared.row.Row.{Row}
-use Rattle.fact_rows.specs.declared.row.Row.TheVariants.{Reached, Points, Taint, Handed, HandedTaint}
+use Rattle.fact_rows.specs.declared.row.Row.TheVariants.{Reached, Points, Taint}
 use Rattle.fact_rows.specs.Contexts.{IsEvent, event_types, parameter_type}
 use Rattle.flow_rules.specs.Nodes.{activation_in, entry, ArgumentRegister, EventRegister}
 use Rattle.flow_rules.specs.Sites.{reference_type, site_class, SiteClass}
 use Rattle.flow_rules.specs.LocalRules.{return_points, return_taint}
 use Rattle.flow_rules.specs.EventRules.{ReferenceParameter, Begins, begin_reached, begin_points, begin_taint, begin_element, handed_parameter, handed_parameter_taint, exit_handed, exit_handed_taint}
 use Rattle.flow_rules.specs.Rules.{Starts, Closed}
-use Rattle.flow_proof.proofs.Fitting.{Fits, Covered, covered_map, fits_map, blank_fits, placeless_fits, none_some, some_same}
+use Rattle.flow_proof.proofs.Fitting.{Fits, Covered, fits_map, blank_fits, placeless_fits, none_some, some_same}
 use Rattle.flow_proof.proofs.Growing.{with_site, NewFits, new_fits, fits_grown}
-use Rattle.flow_proof.proofs.Knowing.{node_of, RegisterFits, HandedFits, handed_of, WorldFits, Waits, none_waits, Running, Runs, Known, idle, running}
+use Rattle.flow_proof.proofs.Knowing.{node_of, RegisterFits, HandedFits, handed_of, WorldFits, Waits, none_waits, Runs, Known, idle, running}
 use Rattle.flow_proof.proofs.Lasting.{loc, evt, world_grown}
 use Rattle.flow_proof.proofs.Framing.{entered_fits}
 use Rattle.flow_proof.proofs.Eventing.{Begun, initialiser_rows, initialiser_owns}

@@ -1,22 +1,17 @@
 -- Each step, and so each run, keeps what is known: the theorem.
-use Rattle.std.proofs.Common.{◌≡◌, ℕ, List, [], ◌∷◌, length, Option, Some, None, refl, inl, inr, ap, sym, ◌∙◌, subst}
+use Rattle.std.proofs.Common.{List, refl}
 use Rattle.std.specs.Prelude.{Contains}
 use Rattle.app_model.specs.declared.lists.Lists.{Lists}
-use Rattle.app_model.specs.declared.papers.Declaration.{Declaration}
 use Rattle.app_model.specs.declared.app.App.{App}
 use Rattle.app_model.specs.Members.{In}
 use Rattle.app_model.specs.State.{Arrival, World, Frame}
 use Rattle.app_model.specs.Run.{Steps, goes_on, raises, throws, calls, calls_library, library_raises, returns, initialises, has_initialised, ends, passes, begins, begins_initialiser, Run, starts as run_starts, then}
 use Rattle.app_model.specs.State.{result_register}
-use Rattle.app_model.specs.Safe.{Stands, Declared, Safe}
 use Rattle.app_model.specs.Sound.{SoundApp}
-use Rattle.fact_rows.specs.declared.context.Node.{Node}
-use Rattle.fact_rows.specs.declared.site.Site.{Site}
 use Rattle.fact_rows.specs.declared.site.Site.TheVariants.{Shared}
 use Rattle.fact_rows.specs.declared.row.Row.{Row}
-use Rattle.fact_rows.specs.declared.row.Row.TheVariants.{Arrive, Unknown}
-use Rattle.flow_rules.specs.Rules.{Starts, Closed, Good}
-use Rattle.flow_proof.specs.Covering.{InSomeContext, CoversEveryRun, EveryGoodTableCoversEveryRun}
+use Rattle.flow_rules.specs.Rules.{Starts, Closed}
+use Rattle.flow_proof.specs.Covering.{CoversEveryRun, EveryGoodTableCoversEveryRun}
 use Rattle.flow_proof.proofs.Fitting.{blank_fits}
 use Rattle.flow_proof.proofs.Knowing.{ArrivalKnown, Known, idle, running}
 use Rattle.flow_proof.proofs.Lasting.{pending_of, goes_writing}

@@ -1,5 +1,5 @@
 -- Each event that comes leads to a known world, in which its body is known to begin.
-use Rattle.std.proofs.Common.{◌≡◌, ◌≢◌, ◌==◌, ℕ, zero, suc, ◌+◌, ◌<◌, List, [], ◌∷◌, ◌++◌, length, Bool, true, false, cond, ◌⊎◌, inl, inr, Option, Some, None, refl, ap, sym, ◌∙◌, subst, arith, eq-eqb}
+use Rattle.std.proofs.Common.{◌≡◌, ◌≢◌, ◌==◌, ℕ, zero, suc, List, [], ◌∷◌, ◌++◌, length, Bool, true, false, cond, ◌⊎◌, inl, inr, Option, Some, None, refl, ap, sym, ◌∙◌, subst, arith, eq-eqb}
 use Rattle.std.proofs.lemmas.Bool.{eqb-true}
 use Rattle.std.specs.Prelude.{IsFalse, slice_get}
 use Rattle.access_path.specs.declared.path.Path.{Path}
@@ -11,25 +11,25 @@ use Rattle.app_model.specs.declared.lists.Lists.{Lists}
 use Rattle.app_model.specs.declared.app.App.{App}
 use Rattle.app_model.specs.Members.{In, IsAt}
 use Rattle.app_model.specs.Names.{Name}
-use Rattle.app_model.specs.Heap.{Value, Object, ClassAt}
+use Rattle.app_model.specs.Heap.{ClassAt}
 use Rattle.app_model.specs.State.{World, Component_state, object_at, new_object}
 use Rattle.app_model.specs.LifeEvents.{LifeEvent}
-use Rattle.app_model.specs.Events.{IsApplication, MayBegin, set_component, after_event, LifeEventAt, CallbackAt, ClickAt, HandedAt, InitialiserAt, Comes, lives, is_born, calls_back, is_clicked, is_handed, MayInitialise}
+use Rattle.app_model.specs.Events.{IsApplication, MayBegin, set_component, after_event, LifeEventAt, CallbackAt, ClickAt, HandedAt, Comes, lives, is_born, calls_back, is_clicked, is_handed, MayInitialise}
 use Rattle.fact_rows.specs.declared.context.Ctx.{Ctx}
 use Rattle.fact_rows.specs.declared.context.Ctx.TheVariants as ctx
 use Rattle.fact_rows.specs.declared.site.Site.{Site}
 use Rattle.fact_rows.specs.declared.site.Site.TheVariants.{Component}
 use Rattle.fact_rows.specs.declared.row.Row.{Row}
-use Rattle.fact_rows.specs.declared.row.Row.TheVariants.{Points, Taint, MethodEffect, Live, CompTaint, Handed, HandedTaint}
-use Rattle.fact_rows.specs.Contexts.{IsEvent, body_at, types_of, callback_types, event_types}
+use Rattle.fact_rows.specs.declared.row.Row.TheVariants.{Points, Taint, MethodEffect, Live, CompTaint}
+use Rattle.fact_rows.specs.Contexts.{IsEvent, types_of, event_types}
 use Rattle.flow_rules.specs.Nodes.{activation_in, entry, ArgumentRegister}
 use Rattle.flow_rules.specs.Sites.{site_class, SiteClass}
 use Rattle.flow_rules.specs.EffectRules.{IsEventBeside, effect_own, effect_other}
 use Rattle.flow_rules.specs.EventRules.{Begins, ComesToLive, by_callback, by_click, life_live, life_begins, life_receiver, life_taint, life_this, live_begins, live_receiver, live_this, handed_begins, handed_receiver, handed_this, initialiser_begins, application_live}
 use Rattle.flow_rules.specs.Rules.{Starts, the_application, a_component, Closed}
-use Rattle.flow_proof.proofs.Fitting.{Fits, HeapFits, fits_map, blank_fits}
-use Rattle.flow_proof.proofs.Growing.{with_site, NewFits, new_fits}
-use Rattle.flow_proof.proofs.Sounding.{HasProto, body_proto}
+use Rattle.flow_proof.proofs.Fitting.{Fits, fits_map, blank_fits}
+use Rattle.flow_proof.proofs.Growing.{NewFits, new_fits}
+use Rattle.flow_proof.proofs.Sounding.{body_proto}
 use Rattle.flow_proof.proofs.Knowing.{ComponentFits, HandedFits, Owns, WorldFits}
 use Rattle.flow_proof.proofs.Lasting.{eff, evt, world_grown}
 

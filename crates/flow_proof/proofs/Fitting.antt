@@ -1,5 +1,5 @@
 -- When rows fit a value in a heap, and how this lasts over a change of the heap.
-use Rattle.std.proofs.Common.{◌≡◌, ℕ, zero, suc, ◌+◌, ◌<◌, ◌≤◌, List, [], ◌∷◌, ◌++◌, length, Bool, true, false, ◌⊎◌, inl, inr, Option, Some, None, refl, ap, sym, ◌∙◌, subst, arith}
+use Rattle.std.proofs.Common.{◌≡◌, ℕ, ◌<◌, List, [], ◌∷◌, length, ◌⊎◌, inl, inr, Option, Some, None, arith}
 use Rattle.vet_base.specs.declared.key_id.KeyId.{KeyId}
 use Rattle.access_path.specs.declared.path.Path.{Path}
 use Rattle.access_path.specs.Paths.{Covers, cut}
@@ -11,7 +11,7 @@ use Rattle.app_model.specs.Names.{Name}
 use Rattle.app_model.specs.Heap.{Value, Object, EntryAt, ClassAt, Reaches, blank, labelled}
 use Rattle.fact_rows.specs.declared.site.Site.{Site}
 use Rattle.fact_rows.specs.declared.row.Row.{Row}
-use Rattle.fact_rows.specs.declared.row.Row.TheVariants.{Cell, Back}
+use Rattle.fact_rows.specs.declared.row.Row.TheVariants.{Cell}
 use Rattle.flow_rules.specs.Sites.{SiteClass}
 
 -- some path of which the fact holds covers the keys

@@ -1,36 +1,34 @@
 -- Calls, returns, exceptions and initialisers keep what is known.
-use Rattle.std.proofs.Common.{◌≡◌, ◌≢◌, ◌==◌, ℕ, zero, suc, ◌+◌, ◌-◌, ◌<◌, ◌≤◌, List, [], ◌∷◌, ◌++◌, length, Bool, true, false, cond, ◌&&◌, ◌⊎◌, inl, inr, Option, Some, None, refl, ap, sym, ◌∙◌, subst, arith}
+use Rattle.std.proofs.Common.{◌≡◌, ℕ, zero, suc, ◌+◌, ◌-◌, ◌<◌, ◌≤◌, List, [], ◌∷◌, Bool, true, false, cond, ◌&&◌, inl, inr, Option, Some, None, refl, ap, sym, ◌∙◌, subst, arith}
 use Rattle.std.proofs.lemmas.Bool.{leb-true, ltb-true}
-use Rattle.std.specs.Prelude.{IsTrue, IsFalse, slice_get, nat_le, nat_lt, map}
-use Rattle.access_path.specs.declared.path.Path.{Path}
+use Rattle.std.specs.Prelude.{slice_get, nat_le, nat_lt}
 use Rattle.app_model.specs.declared.call.MethodRef.{MethodRef}
 use Rattle.app_model.specs.declared.call.CallKind.{CallKind}
 use Rattle.app_model.specs.declared.method.Method.{Method}
 use Rattle.app_model.specs.declared.method.Act.TheVariants.{Throw, Return, Call}
 use Rattle.app_model.specs.declared.app.App.{App}
 use Rattle.app_model.specs.declared.lists.Lists.{Lists}
-use Rattle.app_model.specs.Members.{In, IsAt}
+use Rattle.app_model.specs.Members.{IsAt}
 use Rattle.app_model.specs.Names.{Name}
-use Rattle.app_model.specs.Lookups.{Target, Body, target, is_by_receiver, ActAt, Goes, Catches, HasCode, IsNative, Initialises}
-use Rattle.app_model.specs.Heap.{Value, Object, blank, ClassAt}
+use Rattle.app_model.specs.Lookups.{Target, Body, target, ActAt, Goes, Catches, HasCode, Initialises}
+use Rattle.app_model.specs.Heap.{Value, Object, blank}
 use Rattle.app_model.specs.State.{result_register, exception_register, write, value_or_blank, entered, World, Frame}
 use Rattle.app_model.specs.Calls.{Calls_to, by_name, by_nothing, by_class, arguments, Raises, is_caught, unwinds, ends_event, returned}
 use Rattle.app_model.specs.Run.{frame_of}
 use Rattle.app_model.specs.Sound.{SoundApp}
 use Rattle.fact_rows.specs.declared.context.Ctx.{Ctx}
 use Rattle.fact_rows.specs.declared.context.Activation.{Activation}
-use Rattle.fact_rows.specs.declared.context.Node.{Node}
 use Rattle.fact_rows.specs.declared.site.Site.{Site}
 use Rattle.fact_rows.specs.declared.row.Row.{Row}
-use Rattle.fact_rows.specs.declared.row.Row.TheVariants.{Reached, Points, Taint, Calls, CalledBy, ExitPoints, ExitTaint}
+use Rattle.fact_rows.specs.declared.row.Row.TheVariants.{Reached, Points, CalledBy, ExitPoints, ExitTaint}
 use Rattle.flow_rules.specs.Nodes.{at_pc, entry, callee, pushed, activation_in, ArgumentRegister, InitialisedBy}
 use Rattle.flow_rules.specs.Sites.{SiteClass}
-use Rattle.flow_rules.specs.LocalRules.{returning, throwing, reach_catch, throw_points, throw_taint, throw_exit_points, throw_exit_taint, return_points, return_taint}
+use Rattle.flow_rules.specs.LocalRules.{throwing, reach_catch, throw_points, throw_taint, throw_exit_points, throw_exit_taint, return_points, return_taint}
 use Rattle.flow_rules.specs.CallRules.{Enters, calls_it, is_called, reaches_it, enter_direct, enter_class, enter_receiver, pass_points, pass_taint, returned_points, returned_taint, caught_points, caught_taint, unwound_points, unwound_taint, enter_initialiser}
 use Rattle.flow_rules.specs.Rules.{Closed}
 use Rattle.flow_proof.proofs.Fitting.{Fits, fits_map, blank_fits, some_same}
 use Rattle.flow_proof.proofs.Sounding.{no_arguments, no_body}
-use Rattle.flow_proof.proofs.Knowing.{node_of, Taints, RegisterFits, PendingFits, WorldFits, EventOf, Waits, none_waits, waits_call, waits_initialiser, Running, Runs, RunsPending, Known, idle, running, written}
+use Rattle.flow_proof.proofs.Knowing.{node_of, RegisterFits, PendingFits, WorldFits, EventOf, Waits, waits_call, waits_initialiser, Runs, RunsPending, Known, idle, running, written}
 use Rattle.flow_proof.proofs.Lasting.{loc, cal, pending_of, settle_catch, goes_writing}
 
 -- what is known of the frame directly below a frame of activation b

@@ -1,5 +1,5 @@
 -- What a new object leaves as it was.
-use Rattle.std.proofs.Common.{◌≡◌, ◌≢◌, ◌==◌, ℕ, zero, suc, ◌+◌, ◌<◌, ◌≤◌, List, [], ◌∷◌, ◌++◌, length, Bool, true, false, cond, ◌⊎◌, inl, inr, Option, Some, None, refl, ap, sym, ◌∙◌, subst, arith, eq-eqb}
+use Rattle.std.proofs.Common.{◌≡◌, ◌==◌, ℕ, ◌<◌, List, [], ◌∷◌, ◌++◌, length, cond, ◌⊎◌, inl, inr, Some, refl, sym, subst, arith, eq-eqb}
 use Rattle.std.proofs.lemmas.List.{length-append}
 use Rattle.std.proofs.lemmas.Bool.Decides.{eqb_tells}
 use Rattle.vet_base.specs.declared.key_id.KeyId.{KeyId}
@@ -14,7 +14,7 @@ use Rattle.fact_rows.specs.declared.row.Row.{Row}
 use Rattle.fact_rows.specs.declared.row.Row.TheVariants.{Cell}
 use Rattle.flow_rules.specs.Sites.{SiteClass}
 use Rattle.flow_proof.proofs.HeapLaws.{EntryAt-append, EntryAt-within, EntryAt-new, ClassAt-append, ClassAt-within}
-use Rattle.flow_proof.proofs.Fitting.{Fits, HeapFits, Covered, covered_map, some_same}
+use Rattle.flow_proof.proofs.Fitting.{Fits, HeapFits, Covered, some_same}
 
 -- the sites when the object at the place is new
 abbrev pub with_site : (ℕ → Site) → ℕ → Site → ℕ → Site

@@ -1,5 +1,5 @@
 -- How what is known lasts over an effect of the running node, over a new object and over a step to another pc.
-use Rattle.std.proofs.Common.{◌≡◌, ◌≢◌, ◌==◌, ℕ, List, [], ◌∷◌, ◌++◌, length, Bool, true, false, ◌⊎◌, inl, inr, Option, Some, None, refl, ap, sym, ◌∙◌, subst}
+use Rattle.std.proofs.Common.{◌≡◌, ◌≢◌, ◌==◌, ℕ, List, [], ◌∷◌, ◌++◌, length, Bool, ◌⊎◌, inl, inr, Option, Some, None, refl, sym, ◌∙◌, subst}
 use Rattle.std.specs.Prelude.{IsFalse}
 use Rattle.vet_base.specs.declared.key_id.KeyId.{KeyId}
 use Rattle.access_path.specs.declared.path.Path.{Path}
@@ -9,15 +9,15 @@ use Rattle.app_model.specs.declared.app.App.{App}
 use Rattle.app_model.specs.declared.lists.Lists.{Lists}
 use Rattle.app_model.specs.Members.{In}
 use Rattle.app_model.specs.Lookups.{ActAt, Goes}
-use Rattle.app_model.specs.Heap.{Value, Object, blank}
-use Rattle.app_model.specs.State.{exception_register, holds, write, write_all, World, Frame, object_at}
+use Rattle.app_model.specs.Heap.{Value, Object}
+use Rattle.app_model.specs.State.{exception_register, holds, write, write_all, World, Frame}
 use Rattle.fact_rows.specs.declared.context.Ctx.{Ctx}
 use Rattle.fact_rows.specs.declared.context.Activation.{Activation}
 use Rattle.fact_rows.specs.declared.context.Node.{Node}
 use Rattle.fact_rows.specs.declared.site.Site.{Site}
 use Rattle.fact_rows.specs.declared.site.Site.TheVariants.{Component}
 use Rattle.fact_rows.specs.declared.row.Row.{Row}
-use Rattle.fact_rows.specs.declared.row.Row.TheVariants.{Reached, Points, Taint, Cell, StaticPoints, StaticTaint, CalledBy, Effect, MethodEffect, CompTaint, Handed, HandedTaint}
+use Rattle.fact_rows.specs.declared.row.Row.TheVariants.{Points, Taint, Cell, StaticPoints, StaticTaint, CalledBy, Effect, MethodEffect, CompTaint, Handed, HandedTaint}
 use Rattle.flow_rules.specs.Nodes.{at_pc, activation_in, Act_of, Next_of, Catch_of, writes}
 use Rattle.flow_rules.specs.LocalRules.{LocalRule, reach_next, keep_points, keep_taint, catch_points, catch_taint, cell_back}
 use Rattle.flow_rules.specs.EffectRules.{EffectRule, lift_effect, effect_next, effect_catch, method_effect, caller_effect, effect_static, effect_handed}
@@ -25,9 +25,9 @@ use Rattle.flow_rules.specs.CallRules.{CallRule, initialiser_taint}
 use Rattle.flow_rules.specs.LibraryRules.{LibraryRule}
 use Rattle.flow_rules.specs.EventRules.{EventRule}
 use Rattle.flow_rules.specs.Rules.{by_local, by_effect, by_call, by_library, by_event, Each, Closed}
-use Rattle.flow_proof.proofs.Fitting.{Fits, HeapFits, Changed, Touched, fits_map, fits_after, heap_changed, blank_fits, none_some}
+use Rattle.flow_proof.proofs.Fitting.{HeapFits, Changed, Touched, fits_map, fits_after, heap_changed, blank_fits, none_some}
 use Rattle.flow_proof.proofs.Growing.{with_site, fits_grown, heap_grown, NewFits}
-use Rattle.flow_proof.proofs.Knowing.{node_of, Taints, Pending, RegisterFits, PendingFits, SharedOnly, written, written_all, HandedFits, ComponentFits, Owns, WorldFits, Waits, none_waits, waits_call, waits_initialiser, Running, Runs, RunsPending, Known, running, waits_map}
+use Rattle.flow_proof.proofs.Knowing.{node_of, Pending, RegisterFits, PendingFits, SharedOnly, written, written_all, ComponentFits, WorldFits, Waits, none_waits, waits_call, waits_initialiser, Running, Runs, RunsPending, Known, running, waits_map}
 
 module _ (app : App) (lists : Lists) (has : Row → Type 0) (closed : Closed app lists has) where
   -- the rules, applied to rows that are there

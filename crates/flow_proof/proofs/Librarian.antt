@@ -1,9 +1,9 @@
 -- A library call by its row keeps what is known.
-use Rattle.std.proofs.Common.{◌≡◌, ◌≢◌, ◌==◌, ◌↔◌, ℕ, zero, suc, ◌+◌, ◌<◌, List, [], ◌∷◌, ◌++◌, length, Bool, true, false, cond, ◌⊎◌, inl, inr, Option, Some, None, refl, ap, sym, ◌∙◌, subst, arith}
+use Rattle.std.proofs.Common.{◌≡◌, ℕ, List, [], ◌∷◌, ◌++◌, length, Bool, true, false, cond, ◌⊎◌, inl, inr, Option, Some, None, refl, ap, sym, ◌∙◌, subst, arith}
 use Rattle.std.specs.Prelude.{IsTrue, IsFalse, slice_get, map}
 use Rattle.vet_base.specs.declared.key_id.KeyId.{KeyId}
 use Rattle.access_path.specs.declared.path.Path.{Path}
-use Rattle.access_path.specs.Paths.{cut, rest, empty_path}
+use Rattle.access_path.specs.Paths.{cut, empty_path}
 use Rattle.access_path.proofs.PathLaws.{cut-covers, empty-covers}
 use Rattle.app_model.specs.declared.call.MethodRef.{MethodRef}
 use Rattle.app_model.specs.declared.call.CallKind.{CallKind}
@@ -16,18 +16,17 @@ use Rattle.app_model.specs.declared.lists.SummaryId.{SummaryId}
 use Rattle.app_model.specs.declared.app.App.{App}
 use Rattle.app_model.specs.Members.{In, IsAt}
 use Rattle.app_model.specs.Names.{Name, is_reference, is_void}
-use Rattle.app_model.specs.Lookups.{Target, Library, elem_key, is_static_call, ActAt, Goes}
-use Rattle.app_model.specs.Heap.{Value, Object, blank, labelled, EntryAt, Reaches, add_all, Gets, entry_of}
-use Rattle.app_model.specs.State.{result_register, write, shared_static, Arrival, Component_state, World, Frame, object_at, new_object}
+use Rattle.app_model.specs.Lookups.{Target, Library, elem_key, ActAt, Goes}
+use Rattle.app_model.specs.Heap.{Value, Object, blank, labelled, EntryAt, Reaches, add_all, entry_of}
+use Rattle.app_model.specs.State.{result_register, shared_static, Arrival, Component_state, World, Frame, object_at, new_object}
 use Rattle.app_model.specs.Calls.{Calls_to, by_name, by_nothing, by_class}
-use Rattle.app_model.specs.Library.{positions, value_at, IsSink, AtSink, Hands, result_shared, shared_named, shared_class, Makes_shared, all_there, is_there, is_made, Joins, joined_object, Results, of_void, as_blank, as_same, as_taken, as_shared, as_labels, as_object, Adds, by_put, by_store, by_copy, Library_call, Uses_row}
+use Rattle.app_model.specs.Library.{positions, value_at, AtSink, Hands, result_shared, shared_named, shared_class, Makes_shared, all_there, is_there, is_made, Joins, joined_object, Results, of_void, as_blank, as_same, as_taken, as_shared, as_labels, as_object, Adds, by_put, by_store, by_copy, Library_call, Uses_row}
 use Rattle.fact_rows.specs.declared.context.Ctx.{Ctx}
 use Rattle.fact_rows.specs.declared.context.Activation.{Activation}
-use Rattle.fact_rows.specs.declared.context.Node.{Node}
 use Rattle.fact_rows.specs.declared.site.Site.{Site}
-use Rattle.fact_rows.specs.declared.site.Site.TheVariants.{At, Component, Shared}
+use Rattle.fact_rows.specs.declared.site.Site.TheVariants.{At, Shared}
 use Rattle.fact_rows.specs.declared.row.Row.{Row}
-use Rattle.fact_rows.specs.declared.row.Row.TheVariants.{Points, Taint, Cell, StaticPoints, StaticTaint, Effect, MethodEffect, CompTaint, Uses, Arrive}
+use Rattle.fact_rows.specs.declared.row.Row.TheVariants.{Points, Taint, Cell, StaticPoints, StaticTaint, Effect, Uses, Arrive}
 use Rattle.flow_rules.specs.Nodes.{at_pc}
 use Rattle.flow_rules.specs.Sites.{site_class, SiteClass}
 use Rattle.flow_rules.specs.EffectRules.{effect_next}
@@ -35,9 +34,9 @@ use Rattle.flow_rules.specs.CallRules.{use_plain, use_class, Looks_up, finds_row
 use Rattle.flow_rules.specs.LibraryRules.{RowAt, hand_points, hand_taint, sink_arrives, same_points, same_taint, taken_points, taken_taint, joined_points, joined_taint, joined_element, source_taint, source_element, shared_static_points, shared_points, shared_taint, row_put_cell, row_put_effect, store_static, store_cell, store_effect, copy_cell, copy_effect}
 use Rattle.flow_rules.specs.Rules.{Closed}
 use Rattle.flow_proof.proofs.HeapLaws.{EntryAt-add_all, ClassAt-add_all, length-add_all}
-use Rattle.flow_proof.proofs.Fitting.{Fits, HeapFits, Covered, Changed, PutFits, Touched, covered_map, fits_map, fits_after, blank_fits, placeless_fits, none_some}
+use Rattle.flow_proof.proofs.Fitting.{Fits, Covered, Changed, PutFits, Touched, fits_map, fits_after, blank_fits, placeless_fits, none_some}
 use Rattle.flow_proof.proofs.Growing.{with_site, NewFits, new_fits, fits_grown}
-use Rattle.flow_proof.proofs.Knowing.{node_of, Taints, Pending, RegisterFits, SharedOnly, StaticFits, HandedFits, handed_of, ArrivalKnown, Owns, WorldFits, Waits, Running, Runs, RunsPending}
+use Rattle.flow_proof.proofs.Knowing.{node_of, Taints, RegisterFits, SharedOnly, StaticFits, HandedFits, handed_of, ArrivalKnown, Owns, Waits, Runs, RunsPending}
 use Rattle.flow_proof.proofs.Lasting.{lib, cal, eff, lift_at, running_after, running_grown}
 use Rattle.flow_proof.proofs.Stepping.{class_at, running_writing, gets_fit}
 

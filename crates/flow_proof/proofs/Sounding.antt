@@ -1,8 +1,7 @@
 -- What look-ups in a sound app give.
-use Rattle.std.proofs.Common.{◌≡◌, ◌≢◌, ◌==◌, ℕ, zero, suc, ◌+◌, ◌<◌, List, [], ◌∷◌, length, Bool, true, false, cond, ◌&&◌, ◌||◌, ◌⊎◌, inl, inr, Option, Some, None, refl, ap, sym, ◌∙◌, subst, arith, eq-eqb}
-use Rattle.std.proofs.lemmas.Bool.{eqb-true}
-use Rattle.std.specs.Cmp.Lexicographic.{pointwise, same_text}
-use Rattle.std.specs.Prelude.{slice_get, find, option_map, filter_map, nat_eq, is_some, IsTrue, IsFalse, if◌then◌else◌}
+use Rattle.std.proofs.Common.{◌≡◌, ◌==◌, ℕ, zero, suc, ◌<◌, List, [], ◌∷◌, length, Bool, true, false, cond, ◌&&◌, ◌||◌, inl, inr, Option, Some, None, refl, ap, sym, ◌∙◌, subst, arith}
+use Rattle.std.specs.Cmp.Lexicographic.{same_text}
+use Rattle.std.specs.Prelude.{slice_get, find, option_map, filter_map, is_some, IsTrue}
 use Rattle.std.specs.List.{cons_option}
 use Rattle.app_model.specs.declared.call.Proto.{Proto}
 use Rattle.app_model.specs.declared.call.MethodRef.{MethodRef}
@@ -16,7 +15,7 @@ use Rattle.app_model.specs.declared.app.Class.{Class}
 use Rattle.app_model.specs.declared.app.App.{App}
 use Rattle.app_model.specs.Members.{In, IsAt, first_given, first_index}
 use Rattle.app_model.specs.Names.{Name, same_name, same_names, same_proto, widths, initialiser_name, initialiser_proto}
-use Rattle.app_model.specs.Lookups.{step_at, ActAt, Target, Body, Library, Nothing, body_or, target, direct_target, is_by_receiver, is_static_call, lists_bare, method_of, find_body, up, initialiser_of, initialisers_from, class_initialised, initialisers, Initialises}
+use Rattle.app_model.specs.Lookups.{step_at, ActAt, Body, Library, Nothing, body_or, target, is_by_receiver, is_static_call, lists_bare, method_of, find_body, up, initialiser_of, initialisers_from, class_initialised, initialisers, Initialises}
 use Rattle.app_model.specs.Sound.{SoundStep, SoundMethod, SoundApp, StaticBelow, TakesItsRegisters, taken}
 
 pub get_in : {A : Type 0} (xs : List A) (i : ℕ) (x : A) → slice_get xs i ≡ Some x → In x xs

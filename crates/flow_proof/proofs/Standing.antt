@@ -1,5 +1,5 @@
 -- Where a state stands there is an Unknown row with the cause.
-use Rattle.std.proofs.Common.{◌≡◌, ℕ, List, [], ◌∷◌, Option, Some, None, inl, inr, refl, ap, sym, ◌∙◌, subst}
+use Rattle.std.proofs.Common.{◌≡◌, ℕ, List, refl, ◌∙◌}
 use Rattle.app_model.specs.declared.call.MethodRef.{MethodRef}
 use Rattle.app_model.specs.declared.call.CallKind.{CallKind}
 use Rattle.app_model.specs.declared.method.Act.TheVariants.{Call}
@@ -11,7 +11,6 @@ use Rattle.app_model.specs.Calls.{Calls_to, by_name, by_nothing, by_class}
 use Rattle.app_model.specs.Safe.{native, Stands, native_call, without_row, at_reflection, native_initialiser, native_event, native_class}
 use Rattle.fact_rows.specs.declared.context.Ctx.{Ctx}
 use Rattle.fact_rows.specs.declared.context.Ctx.TheVariants as ctx
-use Rattle.fact_rows.specs.declared.context.Node.{Node}
 use Rattle.fact_rows.specs.declared.site.Site.{Site}
 use Rattle.fact_rows.specs.declared.row.Row.{Row}
 use Rattle.fact_rows.specs.declared.row.Row.TheVariants.{Unknown}

@@ -1,37 +1,37 @@
 -- Each step of the running frame within its method keeps what is known.
-use Rattle.std.proofs.Common.{◌≡◌, ◌==◌, ◌↔◌, ℕ, zero, suc, ◌+◌, ◌<◌, List, [], ◌∷◌, ◌++◌, length, Bool, true, false, cond, ◌⊎◌, inl, inr, Option, Some, None, refl, ap, sym, ◌∙◌, subst, arith}
+use Rattle.std.proofs.Common.{◌≡◌, ℕ, ◌<◌, List, [], ◌∷◌, ◌++◌, length, inl, inr, Option, Some, None, refl, ap, sym, ◌∙◌, subst, arith}
 use Rattle.vet_base.specs.declared.key_id.KeyId.{KeyId}
 use Rattle.access_path.specs.declared.path.Path.{Path}
-use Rattle.access_path.specs.Paths.{Covers, cut, rest, empty_path}
+use Rattle.access_path.specs.Paths.{cut, rest, empty_path}
 use Rattle.access_path.proofs.PathLaws.{cut-covers, rest-covers, empty-covers, covers-empty}
 use Rattle.app_model.specs.declared.method.Step.{Step}
 use Rattle.app_model.specs.declared.method.Act.{Act}
-use Rattle.app_model.specs.declared.method.Act.TheVariants.{Skip, Join, Move, Blank, New, Fill, Get, Put, GetStatic, PutStatic, TakeResult, TakeException, Go}
+use Rattle.app_model.specs.declared.method.Act.TheVariants.{Join, Move, New, Fill, Get, Put, GetStatic, PutStatic, TakeResult, TakeException}
 use Rattle.app_model.specs.declared.app.App.{App}
 use Rattle.app_model.specs.declared.lists.Lists.{Lists}
 use Rattle.app_model.specs.Members.{In}
 use Rattle.app_model.specs.Names.{Name}
 use Rattle.app_model.specs.Lookups.{elem_key, step_at, ActAt, Goes}
 use Rattle.app_model.specs.Heap.{Value, Object, blank, labelled, Reaches, put_at, put_to, Gets, entry_of, no_element, no_entry}
-use Rattle.app_model.specs.State.{result_register, exception_register, write, write_all, shared_static, World, Frame, object_at, new_object}
+use Rattle.app_model.specs.State.{result_register, exception_register, write, write_all, World, Frame, object_at, new_object}
 use Rattle.app_model.specs.Local.{AreOwnLabels, AreElements, Local, skips, goes, blanks, moves, takes_result, takes_exception, joins, makes, fills, gets, puts, gets_static, puts_static}
 use Rattle.app_model.specs.Sound.{SoundApp}
 use Rattle.fact_rows.specs.declared.context.Ctx.{Ctx}
 use Rattle.fact_rows.specs.declared.context.Node.{Node}
 use Rattle.fact_rows.specs.declared.site.Site.{Site}
-use Rattle.fact_rows.specs.declared.site.Site.TheVariants.{At, Shared}
+use Rattle.fact_rows.specs.declared.site.Site.TheVariants.{At}
 use Rattle.fact_rows.specs.declared.row.Row.{Row}
-use Rattle.fact_rows.specs.declared.row.Row.TheVariants.{Points, Taint, Cell, StaticPoints, StaticTaint, Effect}
+use Rattle.fact_rows.specs.declared.row.Row.TheVariants.{Points, Cell, Effect}
 use Rattle.flow_rules.specs.Nodes.{at_pc, Act_of}
 use Rattle.flow_rules.specs.Sites.{class_made, site_class, SiteClass}
 use Rattle.flow_rules.specs.LocalRules.{move_points, move_taint, result_points, result_taint, exception_points, exception_taint, join_taint, new_points, fill_points, fill_cell, fill_taint, get_points, get_taint, put_cell, put_effect, get_static_points, get_static_taint, put_static_points, put_static_taint}
 use Rattle.flow_rules.specs.Rules.{Closed}
 use Rattle.flow_proof.proofs.HeapLaws.{EntryAt-put, ClassAt-put, IsPut, length-put_at}
-use Rattle.flow_proof.proofs.Fitting.{Fits, HeapFits, Covered, Changed, PutFits, covered_map, fits_map, blank_fits, placeless_fits}
-use Rattle.flow_proof.proofs.Growing.{with_site, NewFits, new_fits, walk_before}
+use Rattle.flow_proof.proofs.Fitting.{Fits, HeapFits, Covered, Changed, PutFits, fits_map, blank_fits, placeless_fits}
+use Rattle.flow_proof.proofs.Growing.{NewFits, new_fits, walk_before}
 use Rattle.flow_proof.proofs.Sounding.{put_static_below}
-use Rattle.flow_proof.proofs.Knowing.{node_of, Taints, RegisterFits, SharedOnly, StaticFits, WorldFits, Running, Runs, Known, written}
-use Rattle.flow_proof.proofs.Lasting.{loc, eff, lift_at, running_after, pending_of, running_grown, goes_plain, goes_writing, goes_writing_all}
+use Rattle.flow_proof.proofs.Knowing.{node_of, Taints, SharedOnly, StaticFits, Running, Runs, Known, written}
+use Rattle.flow_proof.proofs.Lasting.{loc, lift_at, running_after, pending_of, running_grown, goes_plain, goes_writing, goes_writing_all}
 
 -- the site of what a step makes has the class of it
 pub class_at : {app : App} {lists : Lists} {n : Node} {act : Act} {class : Name} → Act_of app n act → class_made act ≡ Some class → SiteClass app lists (At n) class
