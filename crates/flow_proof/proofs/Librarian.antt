@@ -31,7 +31,7 @@ use Rattle.flow_rules.specs.Nodes.{at_pc}
 use Rattle.flow_rules.specs.Sites.{site_class, SiteClass}
 use Rattle.flow_rules.specs.EffectRules.{effect_next}
 use Rattle.flow_rules.specs.CallRules.{use_plain, use_class, Looks_up, finds_row}
-use Rattle.flow_rules.specs.LibraryRules.{RowAt, hand_points, hand_taint, sink_arrives, same_points, same_taint, taken_points, taken_taint, joined_points, joined_taint, joined_element, source_taint, source_element, shared_static_points, shared_points, shared_taint, row_put_cell, row_put_effect, store_static, store_cell, store_effect, copy_cell, copy_effect}
+use Rattle.flow_rules.specs.LibraryRules.{RowAt, places_of, hand_points, hand_taint, sink_arrives, same_points, same_taint, taken_points, taken_taint, joined_points, joined_taint, joined_element, source_taint, source_element, shared_static_points, shared_points, shared_taint, row_put_cell, row_put_effect, store_static, store_cell, store_effect, copy_cell, copy_effect}
 use Rattle.flow_rules.specs.Rules.{Closed}
 use Rattle.flow_proof.proofs.HeapLaws.{EntryAt-add_all, ClassAt-add_all, length-add_all}
 use Rattle.flow_proof.proofs.Fitting.{Fits, Covered, Changed, PutFits, Touched, fits_map, fits_after, blank_fits, placeless_fits, none_some}
@@ -121,53 +121,53 @@ module _ (app : App) (lists : Lists) (has : Row → Type 0) (closed : Closed app
       only : (i j : ℕ) → shared_static app i ≡ shared_static app j → Shared i ≡ Shared j
       only i j e = let same : i ≡ j = omega arith in ap (λ k. Shared k) same
 
-  module _ (w : World) (site : ℕ → Site) (c : Ctx) (f : Frame) (fs : List Frame) (known : Runs app lists has w site c f fs) (u : SummaryId) (places : List ℕ) (ret : Name) (row : Summary) (is_row : RowAt app lists (node_of c f) u places ret row) (uses : has (Uses (node_of c f) u)) where
+  module _ (w : World) (site : ℕ → Site) (c : Ctx) (f : Frame) (fs : List Frame) (known : Runs app lists has w site c f fs) (u : SummaryId) (r : RowAt app lists (node_of c f) u) (uses : has (Uses (node_of c f) u)) where
     -- a label of a joined result
-    joined_label : {from : List ℕ} (pc : ℕ) → Goes app f.method f.pc pc → row.gives ≡ Joined from → IsFalse (is_void ret) → (l : ℕ) → Joins w.heap f places from row.source l → has (Taint (at_pc (node_of c f) pc) result_register empty_path l)
-    joined_label pc next is_result not_void l (inl is_source) = lib app lists has closed (source_taint {n = node_of c f} is_row is_result is_source not_void next) (uses, tt)
-    joined_label pc next is_result not_void l (inr (i, is_from, (ks, walk))) = reached (slice_get places i) refl walk
+    joined_label : {from : List ℕ} (pc : ℕ) → Goes app f.method f.pc pc → r.row.gives ≡ Joined from → IsFalse (is_void r.at.proto.ret) → (l : ℕ) → Joins w.heap f (places_of r) from r.row.source l → has (Taint (at_pc (node_of c f) pc) result_register empty_path l)
+    joined_label pc next is_result not_void l (inl is_source) = lib app lists has closed (source_taint {n = node_of c f} r is_result is_source not_void next) (uses, tt)
+    joined_label pc next is_result not_void l (inr (i, is_from, (ks, walk))) = reached (slice_get (places_of r) i) refl walk
       where
-        reached : (o : Option ℕ) → slice_get places i ≡ o → Reaches w.heap (elim o [ Some x ↦ f.registers x | None ↦ blank ]) ks l → has (Taint (at_pc (node_of c f) pc) result_register empty_path l)
+        reached : (o : Option ℕ) → slice_get (places_of r) i ≡ o → Reaches w.heap (elim o [ Some x ↦ f.registers x | None ↦ blank ]) ks l → has (Taint (at_pc (node_of c f) pc) result_register empty_path l)
         reached None e walk = absurd {0} (no_walk ks walk)
           where
             no_walk : (ks : List KeyId) → Reaches w.heap blank ks l → ⊥
             no_walk [] h = h
             no_walk (k ∷ ks) h = none_some h.0 h.1
-        reached (Some x) e walk = lib app lists has closed (joined_taint {n = node_of c f} i is_row is_result is_from not_void (record { there = e }) next) (uses, (((known.registers x).tainted ks l walk).row, tt))
+        reached (Some x) e walk = lib app lists has closed (joined_taint {n = node_of c f} i r is_result is_from not_void (record { there = e }) next) (uses, (((known.registers x).tainted ks l walk).row, tt))
 
-    joined_as_element : {from : List ℕ} (pc : ℕ) → Goes app f.method f.pc pc → row.gives ≡ Joined from → IsFalse (is_void ret) → IsTrue (is_reference ret) → (l : ℕ) → Joins w.heap f places from row.source l → has (Taint (at_pc (node_of c f) pc) result_register (cut elem_key empty_path) l)
-    joined_as_element pc next is_result not_void reference l (inl is_source) = lib app lists has closed (source_element {n = node_of c f} is_row is_result is_source not_void reference next) (uses, tt)
-    joined_as_element pc next is_result not_void reference l (inr (i, is_from, (ks, walk))) = reached (slice_get places i) refl walk
+    joined_as_element : {from : List ℕ} (pc : ℕ) → Goes app f.method f.pc pc → r.row.gives ≡ Joined from → IsFalse (is_void r.at.proto.ret) → IsTrue (is_reference r.at.proto.ret) → (l : ℕ) → Joins w.heap f (places_of r) from r.row.source l → has (Taint (at_pc (node_of c f) pc) result_register (cut elem_key empty_path) l)
+    joined_as_element pc next is_result not_void reference l (inl is_source) = lib app lists has closed (source_element {n = node_of c f} r is_result is_source not_void reference next) (uses, tt)
+    joined_as_element pc next is_result not_void reference l (inr (i, is_from, (ks, walk))) = reached (slice_get (places_of r) i) refl walk
       where
-        reached : (o : Option ℕ) → slice_get places i ≡ o → Reaches w.heap (elim o [ Some x ↦ f.registers x | None ↦ blank ]) ks l → has (Taint (at_pc (node_of c f) pc) result_register (cut elem_key empty_path) l)
+        reached : (o : Option ℕ) → slice_get (places_of r) i ≡ o → Reaches w.heap (elim o [ Some x ↦ f.registers x | None ↦ blank ]) ks l → has (Taint (at_pc (node_of c f) pc) result_register (cut elem_key empty_path) l)
         reached None e walk = absurd {0} (no_walk ks walk)
           where
             no_walk : (ks : List KeyId) → Reaches w.heap blank ks l → ⊥
             no_walk [] h = h
             no_walk (k ∷ ks) h = none_some h.0 h.1
-        reached (Some x) e walk = lib app lists has closed (joined_element {n = node_of c f} i is_row is_result is_from not_void reference (record { there = e }) next) (uses, (((known.registers x).tainted ks l walk).row, tt))
+        reached (Some x) e walk = lib app lists has closed (joined_element {n = node_of c f} i r is_result is_from not_void reference (record { there = e }) next) (uses, (((known.registers x).tainted ks l walk).row, tt))
 
     -- the result
-    result_later : {w' : World} {heap : List Object} {v : Value} {gives : Gives} → (later : Later app lists has w.heap site w' c f fs) → row.gives ≡ gives → Results app w.heap f places row.source ret w'.statics w'.heap gives heap v → WithResult app lists has w.heap site (record w' { heap = heap }) c f fs v
+    result_later : {w' : World} {heap : List Object} {v : Value} {gives : Gives} → (later : Later app lists has w.heap site w' c f fs) → r.row.gives ≡ gives → Results app w.heap f (places_of r) r.row.source r.at.proto.ret w'.statics w'.heap gives heap v → WithResult app lists has w.heap site (record w' { heap = heap }) c f fs v
     result_later later is_result (of_void _) = record { later = later; result = λ pc next. blank_fits _ _ _ _ }
     result_later later is_result (as_blank _) = record { later = later; result = λ pc next. blank_fits _ _ _ _ }
     result_later later is_result (as_same {i = i} not_void) = record {
       later = later;
-      result = λ pc next. position_fits f places i (λ x is_at.
-          fits_map (λ _ h. lib app lists has closed (same_points {n = node_of c f} is_row is_result not_void is_at next) (uses, (h, tt))) (λ _ _ h. lib app lists has closed (same_taint {n = node_of c f} is_row is_result not_void is_at next) (uses, (h, tt))) (later.running.registers x));
+      result = λ pc next. position_fits f (places_of r) i (λ x is_at.
+          fits_map (λ _ h. lib app lists has closed (same_points {n = node_of c f} r is_result not_void is_at next) (uses, (h, tt))) (λ _ _ h. lib app lists has closed (same_taint {n = node_of c f} r is_result not_void is_at next) (uses, (h, tt))) (later.running.registers x));
     }
     result_later later is_result (as_taken {i = i} {v = v} not_void given) = record {
       later = later;
       result = λ pc next.
-          later.stays v _ _ (gets_fit app lists has {P = λ s. (x : ℕ) × IsAt places i x × has (Points (node_of c f) x s)} {T = λ q l. (x : ℕ) × IsAt places i x × has (Taint (node_of c f) x q l)} known.world.heap
-          (λ s t (x, is_at, points) cell. lib app lists has closed (taken_points {n = node_of c f} is_row is_result not_void is_at next) (uses, (points, (cell, tt))))
-          (λ p q l (x, is_at, taint) cut_off. lib app lists has closed (taken_taint {n = node_of c f} is_row is_result not_void is_at cut_off next) (uses, (taint, tt)))
-          (position_fits f places i (λ x is_at. fits_map (λ s h. (x, is_at, h)) (λ q l h. (x, is_at, h)) (known.registers x))) given);
+          later.stays v _ _ (gets_fit app lists has {P = λ s. (x : ℕ) × IsAt (places_of r) i x × has (Points (node_of c f) x s)} {T = λ q l. (x : ℕ) × IsAt (places_of r) i x × has (Taint (node_of c f) x q l)} known.world.heap
+          (λ s t (x, is_at, points) cell. lib app lists has closed (taken_points {n = node_of c f} r is_result not_void is_at next) (uses, (points, (cell, tt))))
+          (λ p q l (x, is_at, taint) cut_off. lib app lists has closed (taken_taint {n = node_of c f} r is_result not_void is_at cut_off next) (uses, (taint, tt)))
+          (position_fits f (places_of r) i (λ x is_at. fits_map (λ s h. (x, is_at, h)) (λ q l h. (x, is_at, h)) (known.registers x))) given);
     }
     result_later later is_result (as_shared {i = i} not_void) = record {
       later = later;
       result = λ pc next.
-          fits_map (λ s h. subst (λ t. has (Points (at_pc (node_of c f) pc) result_register t)) (sym (h.1 i refl)) (lib app lists has closed (shared_points {n = node_of c f} is_row is_result not_void next) (uses, tt))) (λ _ _ h. lib app lists has closed (shared_taint {n = node_of c f} is_row is_result not_void next) (uses, (h, tt))) (later.running.world.statics (shared_static app i));
+          fits_map (λ s h. subst (λ t. has (Points (at_pc (node_of c f) pc) result_register t)) (sym (h.1 i refl)) (lib app lists has closed (shared_points {n = node_of c f} r is_result not_void next) (uses, tt))) (λ _ _ h. lib app lists has closed (shared_taint {n = node_of c f} r is_result not_void next) (uses, (h, tt))) (later.running.world.statics (shared_static app i));
     }
     result_later later is_result (as_labels {labels = labels} not_void plain which) = record {
       later = later;
@@ -177,8 +177,8 @@ module _ (app : App) (lists : Lists) (has : Row → Type 0) (closed : Closed app
     result_later {w'} later is_result (as_object {labels = labels} not_void reference which) =
         record {
           later = record { sites = grown.sites; running = grown.running; stays = λ v P T old. grown.stays v P T (later.stays v P T old) };
-          result = λ pc next. new_fits w'.heap later.sites (At (node_of c f)) (joined_object ret labels) labels _ (Taints has (at_pc (node_of c f) pc) result_register)
-              (lib app lists has closed (joined_points {n = node_of c f} is_row is_result not_void reference next) (uses, tt))
+          result = λ pc next. new_fits w'.heap later.sites (At (node_of c f)) (joined_object r.at.proto.ret labels) labels _ (Taints has (at_pc (node_of c f) pc) result_register)
+              (lib app lists has closed (joined_points {n = node_of c f} r is_result not_void reference next) (uses, tt))
               (λ l h. record { path = empty_path; covers = empty-covers; row = joined_label pc next is_result not_void l ((which l).0 h) })
               (walks pc next);
         }
@@ -187,16 +187,16 @@ module _ (app : App) (lists : Lists) (has : Row → Type 0) (closed : Closed app
         no_place k v t (inl same) e = none_some t (ap (λ (y : KeyId × Value). y.1.place) (sym same) ∙ e)
         no_place k v t (inr none) e = absurd none
 
-        made_class : SiteClass app lists (At (node_of c f)) ret
-        made_class = subst (λ t. SiteClass app lists (At (node_of c f)) t) is_row.same_ret (class_at is_row.act (referred is_row.at.proto.ret (is_reference is_row.at.proto.ret) (ap is_reference is_row.same_ret ∙ reference)))
+        made_class : SiteClass app lists (At (node_of c f)) r.at.proto.ret
+        made_class = class_at r.act (referred r.at.proto.ret (is_reference r.at.proto.ret) reference)
           where
             referred : (t : Name) (b : Bool) → b ≡ true → cond b (Some t) None ≡ Some t
             referred t b e = rw e refl
 
-        grown : Later app lists has w'.heap later.sites (record w' { heap = w'.heap ++ joined_object ret labels ∷ [] }) c f fs
+        grown : Later app lists has w'.heap later.sites (record w' { heap = w'.heap ++ joined_object r.at.proto.ret labels ∷ [] }) c f fs
         grown = made_later later.running (record { within = λ k v t h e. no_place k v t h e; cell = λ k v t h e. no_place k v t h e; class = made_class })
 
-        walks : (pc : ℕ) → Goes app f.method f.pc pc → (k : KeyId) (v : Value) → In {A = KeyId × Value} (k, v) ((elem_key, labelled labels) ∷ []) → (ks : List KeyId) (l : ℕ) → Reaches (w'.heap ++ joined_object ret labels ∷ []) v ks l → Covered (Taints has (at_pc (node_of c f) pc) result_register) (k ∷ ks) l
+        walks : (pc : ℕ) → Goes app f.method f.pc pc → (k : KeyId) (v : Value) → In {A = KeyId × Value} (k, v) ((elem_key, labelled labels) ∷ []) → (ks : List KeyId) (l : ℕ) → Reaches (w'.heap ++ joined_object r.at.proto.ret labels ∷ []) v ks l → Covered (Taints has (at_pc (node_of c f) pc) result_register) (k ∷ ks) l
         walks pc next k v h (j ∷ ks) l walk = no_place k v walk.0 h walk.1
         walks pc next k v (inr none) [] l walk = absurd none
         walks pc next k v (inl same) [] l walk =
@@ -214,27 +214,27 @@ module _ (app : App) (lists : Lists) (has : Row → Type 0) (closed : Closed app
     }
 
     -- a position whose value has a place has a register
-    placed : {i p : ℕ} → (value_at f places i).place ≡ Some p → (x : ℕ) × IsAt places i x × ((f.registers x).place ≡ Some p)
-    placed {i} {p} there = go (slice_get places i) refl there
+    placed : {i p : ℕ} → (value_at f (places_of r) i).place ≡ Some p → (x : ℕ) × IsAt (places_of r) i x × ((f.registers x).place ≡ Some p)
+    placed {i} {p} there = go (slice_get (places_of r) i) refl there
       where
-        go : (o : Option ℕ) → slice_get places i ≡ o → (elim o as (λ _. Value) [ Some x ↦ f.registers x | None ↦ blank ]).place ≡ Some p → (x : ℕ) × IsAt places i x × ((f.registers x).place ≡ Some p)
+        go : (o : Option ℕ) → slice_get (places_of r) i ≡ o → (elim o as (λ _. Value) [ Some x ↦ f.registers x | None ↦ blank ]).place ≡ Some p → (x : ℕ) × IsAt (places_of r) i x × ((f.registers x).place ≡ Some p)
         go None e there = none_some p there
         go (Some x) e there = (x, record { there = e }, there)
 
-    added_fits : {w' : World} → (later : Later app lists has w.heap site w' c f fs) → (p : ℕ) (v : Value) → Adds app w.heap f places w'.statics row (p, v) → PutFits has (λ s q l. has (Effect (node_of c f) s q l)) w'.heap later.sites p elem_key v
+    added_fits : {w' : World} → (later : Later app lists has w.heap site w' c f fs) → (p : ℕ) (v : Value) → Adds app w.heap f (places_of r) w'.statics r.row (p, v) → PutFits has (λ s q l. has (Effect (node_of c f) s q l)) w'.heap later.sites p elem_key v
     added_fits later p v (by_put i j is_put there) =
         let object = placed there in
         let points = (later.running.registers object.0).pointed p object.2 in
         put_of later p v
-        (λ t (x, is_at, h). lib app lists has closed (row_put_cell {n = node_of c f} i j is_row is_put object.1 is_at) (uses, (points, (h, tt))))
-        (λ q l (x, is_at, h). lib app lists has closed (row_put_effect {n = node_of c f} i j is_row is_put object.1 is_at) (uses, (points, (h, tt))))
-        (position_fits f places i {P = λ s. (x : ℕ) × IsAt places i x × has (Points (node_of c f) x s)} {T = λ q l. (x : ℕ) × IsAt places i x × has (Taint (node_of c f) x q l)} (λ x is_at. fits_map (λ s h. (x, is_at, h)) (λ q l h. (x, is_at, h)) (later.running.registers x)))
+        (λ t (x, is_at, h). lib app lists has closed (row_put_cell {n = node_of c f} i j r is_put object.1 is_at) (uses, (points, (h, tt))))
+        (λ q l (x, is_at, h). lib app lists has closed (row_put_effect {n = node_of c f} i j r is_put object.1 is_at) (uses, (points, (h, tt))))
+        (position_fits f (places_of r) i {P = λ s. (x : ℕ) × IsAt (places_of r) i x × has (Points (node_of c f) x s)} {T = λ q l. (x : ℕ) × IsAt (places_of r) i x × has (Taint (node_of c f) x q l)} (λ x is_at. fits_map (λ s h. (x, is_at, h)) (λ q l h. (x, is_at, h)) (later.running.registers x)))
     added_fits later p v (by_store i g is_store there) =
         let same = ((later.running.world.statics (shared_static app g)).pointed p there).1 g refl in
         put_of later p v
-        (λ t (x, is_at, h). subst (λ s. has (Cell s elem_key t)) (sym same) (lib app lists has closed (store_cell {n = node_of c f} i g is_row is_store is_at) (uses, (h, tt))))
-        (λ q l (x, is_at, h). subst (λ s. has (Effect (node_of c f) s (cut elem_key q) l)) (sym same) (lib app lists has closed (store_effect {n = node_of c f} i g is_row is_store is_at) (uses, (h, tt))))
-        (position_fits f places i {P = λ s. (x : ℕ) × IsAt places i x × has (Points (node_of c f) x s)} {T = λ q l. (x : ℕ) × IsAt places i x × has (Taint (node_of c f) x q l)} (λ x is_at. fits_map (λ s h. (x, is_at, h)) (λ q l h. (x, is_at, h)) (later.running.registers x)))
+        (λ t (x, is_at, h). subst (λ s. has (Cell s elem_key t)) (sym same) (lib app lists has closed (store_cell {n = node_of c f} i g r is_store is_at) (uses, (h, tt))))
+        (λ q l (x, is_at, h). subst (λ s. has (Effect (node_of c f) s (cut elem_key q) l)) (sym same) (lib app lists has closed (store_effect {n = node_of c f} i g r is_store is_at) (uses, (h, tt))))
+        (position_fits f (places_of r) i {P = λ s. (x : ℕ) × IsAt (places_of r) i x × has (Points (node_of c f) x s)} {T = λ q l. (x : ℕ) × IsAt (places_of r) i x × has (Taint (node_of c f) x q l)} (λ x is_at. fits_map (λ s h. (x, is_at, h)) (λ q l h. (x, is_at, h)) (later.running.registers x)))
     added_fits later p v (by_copy i j q is_copy source found there) =
         let object = placed there in
         let from = placed source in
@@ -242,11 +242,11 @@ module _ (app : App) (lists : Lists) (has : Row → Type 0) (closed : Closed app
         put_of later p v {P = λ t. has (Cell (later.sites p) elem_key t)} {T = λ q l. has (Effect (node_of c f) (later.sites p) (cut elem_key q) l)}
         (λ t h. h) (λ q l h. h)
         (later.stays v _ _ (gets_fit app lists has known.world.heap
-        (λ s t held cell. lib app lists has closed (copy_cell {n = node_of c f} i j is_row is_copy from.1 object.1) (uses, (held, (cell, (points, tt)))))
-        (λ y q l taint cut_off. lib app lists has closed (copy_effect {n = node_of c f} i j is_row is_copy from.1 object.1 cut_off) (uses, (taint, (points, tt))))
+        (λ s t held cell. lib app lists has closed (copy_cell {n = node_of c f} i j r is_copy from.1 object.1) (uses, (held, (cell, (points, tt)))))
+        (λ y q l taint cut_off. lib app lists has closed (copy_effect {n = node_of c f} i j r is_copy from.1 object.1 cut_off) (uses, (taint, (points, tt))))
         (known.registers from.0) (entry_of from.2 found)))
 
-    adds_changed : {w' : World} → (later : Later app lists has w.heap site w' c f fs) → (added : List (ℕ × Value)) → ((a : ℕ × Value) → In a added → Adds app w.heap f places w'.statics row a) → Changed has (λ s q l. has (Effect (node_of c f) s q l)) later.sites w'.heap (add_all w'.heap added)
+    adds_changed : {w' : World} → (later : Later app lists has w.heap site w' c f fs) → (added : List (ℕ × Value)) → ((a : ℕ × Value) → In a added → Adds app w.heap f (places_of r) w'.statics r.row a) → Changed has (λ s q l. has (Effect (node_of c f) s q l)) later.sites w'.heap (add_all w'.heap added)
     adds_changed {w'} later added adds = record {
       same_length = length-add_all added w'.heap;
       same_class = λ p d h. ClassAt-add_all added w'.heap p d h;
@@ -259,16 +259,16 @@ module _ (app : App) (lists : Lists) (has : Row → Type 0) (closed : Closed app
         entries p k v (inr old) = inl old
 
     -- the shared objects that the row names
-    names_shared : (i : ℕ) → In i (shared_named row ret) → has (StaticPoints (shared_static app i) (Shared i))
-    names_shared i h = by (in_either i (map (λ (s : ℕ × ℕ). s.1) row.stores) _ h)
+    names_shared : (i : ℕ) → In i (shared_named r.row r.at.proto.ret) → has (StaticPoints (shared_static app i) (Shared i))
+    names_shared i h = by (in_either i (map (λ (s : ℕ × ℕ). s.1) r.row.stores) _ h)
       where
-        of_result : (b : Bool) → is_void ret ≡ b → In i (cond b [] (result_shared row.gives)) → has (StaticPoints (shared_static app i) (Shared i))
+        of_result : (b : Bool) → is_void r.at.proto.ret ≡ b → In i (cond b [] (result_shared r.row.gives)) → has (StaticPoints (shared_static app i) (Shared i))
         of_result true e h = absurd h
-        of_result false e h = lib app lists has closed (shared_static_points {n = node_of c f} is_row (shared_result row.gives i h) e) (uses, tt)
+        of_result false e h = lib app lists has closed (shared_static_points {n = node_of c f} r (shared_result r.row.gives i h) e) (uses, tt)
 
-        by : In i (map (λ (s : ℕ × ℕ). s.1) row.stores) ⊎ In i (cond (is_void ret) [] (result_shared row.gives)) → has (StaticPoints (shared_static app i) (Shared i))
-        by (inl h) = let store = stored row.stores i h in lib app lists has closed (store_static {n = node_of c f} store.0 i is_row store.1) (uses, tt)
-        by (inr h) = of_result (is_void ret) refl h
+        by : In i (map (λ (s : ℕ × ℕ). s.1) r.row.stores) ⊎ In i (cond (is_void r.at.proto.ret) [] (result_shared r.row.gives)) → has (StaticPoints (shared_static app i) (Shared i))
+        by (inl h) = let store = stored r.row.stores i h in lib app lists has closed (store_static {n = node_of c f} store.0 i r store.1) (uses, tt)
+        by (inr h) = of_result (is_void r.at.proto.ret) refl h
 
   -- What a call on a library class finds in the lists has its row.
   pub looked_up : {w : World} {site : ℕ → Site} {c : Ctx} {f : Frame} {fs : List Frame} {kind : CallKind} {at : MethodRef} {args : List ℕ} {t : Target} {class : Name} {row : Row} → Runs app lists has w site c f fs → ActAt app f.method f.pc (Call kind at args) → Calls_to app w.heap f kind at args t → t ≡ Library class → Looks_up app lists (node_of c f) kind at class row → has row
@@ -281,8 +281,8 @@ module _ (app : App) (lists : Lists) (has : Row → Type 0) (closed : Closed app
     pub running : RunsPending app lists has new sites c f fs
     pub result : (pc : ℕ) → Goes app f.method f.pc pc → RegisterFits has (at_pc (node_of c f) pc) new.heap sites result_register v
 
-  pub known_library : {w new : World} {site : ℕ → Site} {c : Ctx} {f : Frame} {fs : List Frame} {kind : CallKind} {at : MethodRef} {args : List ℕ} {row : Summary} {v : Value} → Runs app lists has w site c f fs → ActAt app f.method f.pc (Call kind at args) → Uses_row app lists w.heap f kind at args row → Library_call app lists w f (positions kind at args) at.proto.ret row new v → LibraryKnown new c f fs v
-  known_library {w} {new} {site} {c} {f} {fs} {kind} {at} {args} {row} {v} known act used call = record {
+  known_row : {w new : World} {site : ℕ → Site} {c : Ctx} {f : Frame} {fs : List Frame} {v : Value} {u : SummaryId} → Runs app lists has w site c f fs → (r : RowAt app lists (node_of c f) u) → has (Uses (node_of c f) u) → Library_call app lists w f (places_of r) r.at.proto.ret r.row new v → LibraryKnown new c f fs v
+  known_row {w} {new} {site} {c} {f} {fs} {v} {u} known r uses call = record {
     sites = last.later.sites;
     running = record {
       reached = after.reached;
@@ -302,31 +302,22 @@ module _ (app : App) (lists : Lists) (has : Row → Type 0) (closed : Closed app
     result = λ pc next. rw call.heap (fits_after last.later.running.world.heap changed (take_in pc next) (last.result pc next));
   }
     where
-      places : List ℕ
-      places = positions kind at args
-
-      is_row : RowAt app lists (node_of c f) used.key (positions kind at args) at.proto.ret row
-      is_row = record { kind = kind; at = at; args = args; act = act; is_row = used.is_row; same_places = refl; same_ret = refl }
-
-      uses : has (Uses (node_of c f) used.key)
-      uses = looked_up known act used.goes refl (finds_row used.is_key used.is_row used.plain)
-
       shared : Later app lists has w.heap site (record w { heap = call.with_shared; statics = new.statics }) c f fs
-      shared = shared_later w site (names_shared w site c f fs known used.key (positions kind at args) at.proto.ret row is_row uses) call.shared known
+      shared = shared_later w site (names_shared w site c f fs known u r uses) call.shared known
 
       last : WithResult app lists has w.heap site (record w { heap = call.with_result; statics = new.statics }) c f fs v
-      last = result_later w site c f fs known used.key (positions kind at args) at.proto.ret row is_row uses shared refl call.results
+      last = result_later w site c f fs known u r uses shared refl call.results
 
       changed : Changed has (λ s q l. has (Effect (node_of c f) s q l)) last.later.sites call.with_result (add_all call.with_result call.added)
-      changed = adds_changed w site c f fs known used.key (positions kind at args) at.proto.ret row is_row uses last.later call.added (λ a h. (call.adds a).0 h)
+      changed = adds_changed w site c f fs known u r uses last.later call.added (λ a h. (call.adds a).0 h)
 
-      handed_now : (p : ℕ) → In p w.handed ⊎ Hands f (positions kind at args) p → HandedFits has call.with_result last.later.sites p
+      handed_now : (p : ℕ) → In p w.handed ⊎ Hands f (places_of r) p → HandedFits has call.with_result last.later.sites p
       handed_now p (inl old) = last.later.running.world.handed p old
       handed_now p (inr hands) =
-          let of = placed w site c f fs known used.key (positions kind at args) at.proto.ret row is_row uses hands.place in
+          let of = placed w site c f fs known u r uses hands.place in
           handed_of p (last.later.running.registers of.0) of.2
-          (λ s h. lib app lists has closed (hand_points {n = node_of c f} hands.at is_row of.1) (uses, (h, tt)))
-          (λ s q l h t. lib app lists has closed (hand_taint {n = node_of c f} hands.at is_row of.1) (uses, (h, (t, tt))))
+          (λ s h. lib app lists has closed (hand_points {n = node_of c f} hands.at r of.1) (uses, (h, tt)))
+          (λ s q l h t. lib app lists has closed (hand_taint {n = node_of c f} hands.at r of.1) (uses, (h, (t, tt))))
 
       handing : Runs app lists has (record w { heap = call.with_result; statics = new.statics; handed = new.handed }) last.later.sites c f fs
       handing = let k = last.later.running in record {
@@ -344,17 +335,21 @@ module _ (app : App) (lists : Lists) (has : Row → Type 0) (closed : Closed app
       take_in pc next q l (inl old) = old
       take_in pc next q l (inr (s, points, e)) = eff app lists has closed (effect_next {n = node_of c f} next) (e, (points, tt))
 
-      at_sink : (a : Arrival) → AtSink w.heap f (positions kind at args) row a → has (Arrive a.label a.sink (node_of c f))
-      at_sink a s = reached (slice_get (positions kind at args) s.at) refl s.walk
+      at_sink : (a : Arrival) → AtSink w.heap f (places_of r) r.row a → has (Arrive a.label a.sink (node_of c f))
+      at_sink a s = reached (slice_get (places_of r) s.at) refl s.walk
         where
-          reached : (o : Option ℕ) → slice_get (positions kind at args) s.at ≡ o → Reaches w.heap (elim o [ Some x ↦ f.registers x | None ↦ blank ]) s.keys a.label → has (Arrive a.label a.sink (node_of c f))
+          reached : (o : Option ℕ) → slice_get (places_of r) s.at ≡ o → Reaches w.heap (elim o [ Some x ↦ f.registers x | None ↦ blank ]) s.keys a.label → has (Arrive a.label a.sink (node_of c f))
           reached None e walk = absurd {0} (no_walk s.keys walk)
             where
               no_walk : (ks : List KeyId) → Reaches w.heap blank ks a.label → ⊥
               no_walk [] h = h
               no_walk (k ∷ ks) h = none_some h.0 h.1
-          reached (Some x) e walk = lib app lists has closed (sink_arrives {n = node_of c f} s.at a.sink is_row s.is_sink (record { there = e })) (uses, (((known.registers x).tainted s.keys a.label walk).row, tt))
+          reached (Some x) e walk = lib app lists has closed (sink_arrives {n = node_of c f} s.at a.sink r s.is_sink (record { there = e })) (uses, (((known.registers x).tainted s.keys a.label walk).row, tt))
 
-      arrived : (a : Arrival) → In a w.arrivals ⊎ AtSink w.heap f (positions kind at args) row a → ArrivalKnown has a
+      arrived : (a : Arrival) → In a w.arrivals ⊎ AtSink w.heap f (places_of r) r.row a → ArrivalKnown has a
       arrived a (inl old) = known.world.arrivals a old
       arrived a (inr s) = record { node = node_of c f; same_method = sym s.method; same_pc = sym s.pc; holds = at_sink a s }
+
+  pub known_library : {w new : World} {site : ℕ → Site} {c : Ctx} {f : Frame} {fs : List Frame} {kind : CallKind} {at : MethodRef} {args : List ℕ} {row : Summary} {v : Value} → Runs app lists has w site c f fs → ActAt app f.method f.pc (Call kind at args) → Uses_row app lists w.heap f kind at args row → Library_call app lists w f (positions kind at args) at.proto.ret row new v → LibraryKnown new c f fs v
+  known_library {kind = kind} {at = at} {args = args} {row = row} known act used call =
+      known_row known (record { kind = kind; at = at; args = args; row = row; act = act; is_row = used.is_row }) (looked_up known act used.goes refl (finds_row used.is_key used.is_row used.plain)) call
