@@ -72,7 +72,7 @@ def listing(name):
             code['header'] = count
         elif 'header' in code and (m := re.match(r'([0-9a-f]{6}): +\|\[', line)):
             print(''.join(' %04x' % unit for unit in units_of(name, int(m[1], 16) + 16, code.pop('header'))))
-        elif m := re.match(r'        (0x\w+) - (0x\w+)', line):
+        elif m := re.match(r'        (0x\w+) - (0x\w+)$', line):
             print(f'    try {m[1]} {int(m[2], 16) - int(m[1], 16)}')
         elif m := re.match(r'          (\S+) -> (0x\w+)', line):
             print(f"      {'any' if m[1] == '<any>' else shown(m[1])} {m[2]}")

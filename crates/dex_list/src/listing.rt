@@ -63,14 +63,14 @@ fn code_of<W: Write>(out: &mut W, dex: &Dex, code: &RawCode) -> io::Result<()> {
     }
     writeln!(out)?;
     for item in code.tries.as_slice() {
-        writeln!(out, "    try {:#x} {}", item.start, item.count)?;
+        writeln!(out, "    try {:#06x} {}", item.start, item.count)?;
         for (kind, address) in item.handlers.as_slice() {
             write!(out, "      ")?;
             descriptor(out, dex, *kind)?;
-            writeln!(out, " {:#x}", *address)?;
+            writeln!(out, " {:#06x}", *address)?;
         }
         if let Some(address) = item.catch_all {
-            writeln!(out, "      any {address:#x}")?;
+            writeln!(out, "      any {address:#06x}")?;
         }
     }
     Ok(())
