@@ -6,7 +6,7 @@ use Rattle.vet_base.specs.Outside.{Told, held_by}
 use Rattle.vet_base.specs.Script.{run}
 use Rattle.dex_reader.specs.declared.dex.Dex.{Dex}
 use Rattle.dex_reader.specs.Told.{shown}
-use Rattle.dex_reader.specs.Whole.{IsDexByTests}
+use Rattle.dex_reader.specs.Dex.{IsDex}
 use Rattle.app_model.specs.declared.app.App.{App}
 use Rattle.app_model.specs.declared.lists.Lists.{Lists}
 use Rattle.app_model.specs.Safe.{Safe}
@@ -45,7 +45,7 @@ small_number false false h = absurd cc
 clear_flow : {A B : Type 0} (unknown : List A) (found : List B) → number (not (length unknown == 0)) (not (length found == 0)) ≡ 0 → (unknown ≡ []) × (found ≡ [])
 clear_flow unknown found clear = let h = clear_number _ _ clear in (is_empty unknown h.0, is_empty found h.1)
 
-safe_app : (bytes : List ℕ) (dex : Dex) (app : App) (verdict : Verdict) → run (app_at dex) ≡ Ok app → IsDexByTests bytes dex → JudgesApp app verdict → IsSafeIfClear verdict → status_of verdict ≡ 0 → IsSafeFile bytes
+safe_app : (bytes : List ℕ) (dex : Dex) (app : App) (verdict : Verdict) → run (app_at dex) ≡ Ok app → IsDex bytes dex → JudgesApp app verdict → IsSafeIfClear verdict → status_of verdict ≡ 0 → IsSafeFile bytes
 safe_app bytes dex app Usage made stands h safe clear = absurd h
 safe_app bytes dex app Absent made stands h safe clear = absurd h
 safe_app bytes dex app TooLong made stands h safe clear = absurd h
@@ -58,7 +58,7 @@ safe_app bytes dex app (Judged same lists flow) made stands h safe clear =
     let Q : Lists → Type 0 = λ ls. Safe same ls nothing_declared in
     record { dex = dex; stands = stands; app = app; app_is = made; safe = subst P h.0 (subst Q h.1.lists_are here) }
 
-safe_dex : (bytes : List ℕ) (dex : Dex) (verdict : Verdict) → IsDexByTests bytes dex → JudgesDex dex verdict → IsSafeIfClear verdict → status_of verdict ≡ 0 → IsSafeFile bytes
+safe_dex : (bytes : List ℕ) (dex : Dex) (verdict : Verdict) → IsDex bytes dex → JudgesDex dex verdict → IsSafeIfClear verdict → status_of verdict ≡ 0 → IsSafeFile bytes
 safe_dex bytes dex verdict stands (inl h) safe clear = let e : status_of verdict ≡ 3 = ap status_of h.1 in absurd (omega arith)
 safe_dex bytes dex verdict stands (inr h) safe clear = safe_app bytes dex h.0 verdict h.1 stands h.2 safe clear
 

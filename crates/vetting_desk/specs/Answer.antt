@@ -5,7 +5,8 @@ use Rattle.vet_base.specs.Script.{run}
 use Rattle.dex_reader.specs.declared.dex.Dex.{Dex}
 use Rattle.dex_reader.specs.declared.fault.Fault.{Fault}
 use Rattle.dex_reader.specs.Told.{shown}
-use Rattle.dex_reader.specs.Whole.{IsDexByTests, FirstDexFault}
+use Rattle.dex_reader.specs.Dex.{IsDex}
+use Rattle.dex_reader.specs.Whole.{FirstDexFault}
 use Rattle.app_model.specs.declared.app.App.{App}
 use Rattle.app_model.specs.declared.call.MethodRef.{MethodRef}
 use Rattle.app_model.specs.declared.lists.Lists.{Lists}
@@ -48,7 +49,7 @@ JudgesDex dex verdict = ((run (app_at dex) ≡ Err app_fault.Unbuilt) × (verdic
 
 -- what the bytes of `classes.dex` come to: the first fault of the file, or what the file makes
 abbrev pub Judges : List ℕ → Verdict → Type 0
-Judges bytes verdict = ((f : Fault) × (verdict ≡ Unread (shown f)) × FirstDexFault bytes f) ⊎ ((dex : Dex) × IsDexByTests bytes dex × JudgesDex dex verdict)
+Judges bytes verdict = ((f : Fault) × (verdict ≡ Unread (shown f)) × FirstDexFault bytes f) ⊎ ((dex : Dex) × IsDex bytes dex × JudgesDex dex verdict)
 
 -- What a file, where it is there, comes to. It has at most 16,777,216 bytes.
 abbrev pub AnswersFile : Option (List ℕ) → Verdict → Type 0
@@ -148,7 +149,7 @@ IsSafeIfClear _ = Unit {0}
 -- or comes to what is not modelled.
 pub record IsSafeFile (bytes : List ℕ) : Type 0 where
   pub dex : Dex
-  pub stands : IsDexByTests bytes dex
+  pub stands : IsDex bytes dex
   pub app : App
   pub app_is : run (app_at dex) ≡ Ok app
   pub safe : Safe app sample_lists nothing_declared
