@@ -1,5 +1,5 @@
 -- What runs in the context of an event.
-use Rattle.std.specs.Prelude.{◌≡◌, ℕ, zero, suc, List, [], ◌∷◌, Option, Some, None, slice_get}
+use Rattle.std.specs.Prelude.{ℕ, zero, suc, List, [], Option, Some, None, slice_get}
 use Rattle.app_model.specs.declared.app.App.{App}
 use Rattle.app_model.specs.declared.component.Component.{Component}
 use Rattle.app_model.specs.declared.lists.Callback.{Callback}

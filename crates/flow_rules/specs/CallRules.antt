@@ -1,5 +1,5 @@
 -- Rules 22 to 29: calls, results, exceptions and initialisers.
-use Rattle.std.specs.Prelude.{◌≡◌, ◌≢◌, ◌⊎◌, ℕ, true, false, IsTrue, IsFalse, List, [], ◌∷◌, Option, Some, None}
+use Rattle.std.specs.Prelude.{◌≡◌, ◌≢◌, ◌⊎◌, ℕ, true, false, IsTrue, IsFalse, List, [], ◌∷◌, Some, None}
 use Rattle.access_path.specs.declared.path.Path.{Path}
 use Rattle.app_model.specs.declared.call.MethodRef.{MethodRef}
 use Rattle.app_model.specs.declared.call.CallKind.{CallKind}

@@ -1,5 +1,5 @@
 -- Rules 40 to 47: events.
-use Rattle.std.specs.Prelude.{◌≡◌, ◌≢◌, ◌⊎◌, ℕ, zero, suc, IsTrue, List, [], ◌∷◌, Option, Some, None, slice_get}
+use Rattle.std.specs.Prelude.{◌≡◌, ◌≢◌, ℕ, IsTrue, List, [], ◌∷◌, Option, Some, slice_get}
 use Rattle.access_path.specs.declared.path.Path.{Path}
 use Rattle.access_path.specs.Paths.{cut, empty_path}
 use Rattle.app_model.specs.declared.method.Method.{Method}

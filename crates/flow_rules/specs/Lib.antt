@@ -3,6 +3,7 @@ pub mod EffectRules
 pub mod EventRules
 pub mod LibraryRules
 pub mod LocalRules
+pub mod Naming
 pub mod Nodes
 pub mod Rules
 pub mod Sites

@@ -1,5 +1,5 @@
 -- Rules 30 to 39: library calls, by the rows that they use.
-use Rattle.std.specs.Prelude.{◌≡◌, ℕ, IsTrue, IsFalse, List, [], ◌∷◌, Option, Some}
+use Rattle.std.specs.Prelude.{◌≡◌, ℕ, IsTrue, IsFalse, List, [], ◌∷◌, Some}
 use Rattle.access_path.specs.declared.path.Path.{Path}
 use Rattle.access_path.specs.Paths.{cut, rest, empty_path}
 use Rattle.app_model.specs.declared.call.MethodRef.{MethodRef}
@@ -11,7 +11,7 @@ use Rattle.app_model.specs.declared.lists.Lists.{Lists}
 use Rattle.app_model.specs.declared.lists.SummaryId.{SummaryId}
 use Rattle.app_model.specs.declared.app.App.{App}
 use Rattle.app_model.specs.Members.{In, IsAt}
-use Rattle.app_model.specs.Names.{Name, is_reference, is_void}
+use Rattle.app_model.specs.Names.{is_reference, is_void}
 use Rattle.app_model.specs.Lookups.{elem_key, is_static_call}
 use Rattle.app_model.specs.Summaries.{summary}
 use Rattle.app_model.specs.State.{result_register, shared_static}

@@ -1,5 +1,5 @@
 -- Rules 1 to 13: steps within a method.
-use Rattle.std.specs.Prelude.{◌≡◌, ◌==◌, ℕ, IsFalse, List, [], ◌∷◌, Option, Some}
+use Rattle.std.specs.Prelude.{◌≡◌, ◌==◌, ℕ, IsFalse, List, [], ◌∷◌, Some}
 use Rattle.vet_base.specs.declared.key_id.KeyId.{KeyId}
 use Rattle.access_path.specs.declared.path.Path.{Path}
 use Rattle.access_path.specs.Paths.{keys_of, cut, rest, empty_path}

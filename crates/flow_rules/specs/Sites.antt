@@ -1,5 +1,5 @@
 -- The class of the objects that are made at a site.
-use Rattle.std.specs.Prelude.{◌≡◌, ℕ, Bool, if◌then◌else◌, Option, Some, None, option_map, slice_get}
+use Rattle.std.specs.Prelude.{◌≡◌, if◌then◌else◌, Option, Some, None, option_map, slice_get}
 use Rattle.app_model.specs.declared.method.Act.{Act}
 use Rattle.app_model.specs.declared.method.Act.TheVariants.{Skip, Join, Move, Blank, New, Fill, Get, Put, GetStatic, PutStatic, Call, Return, Throw, TakeResult, TakeException, Go}
 use Rattle.app_model.specs.declared.component.Component.{Component as ComponentOf}
