@@ -268,7 +268,7 @@ joined_again handlers list code (item ∷ items) t (x ∷ xs) are fit =
     (bind_runs (walk (try_of handlers list code) items (t + length x.handlers)) (xs, t + length x.handlers + sum_by pairs_of xs) _ _ rest
     (ap (λ (u : ℕ). Ok (x ∷ xs, u)) sum))
 
-some_is : {A : Type 0} (x y : A) → Some x ≡ Some y → x ≡ y
+pub some_is : {A : Type 0} (x y : A) → Some x ≡ Some y → x ≡ y
 some_is x y e = cc
 
 value_of_u2 : (file : List ℕ) (at x : ℕ) → Is2 file at x → at + 2 ≤ length file → slice_index file at + 256 * slice_index file (at + 1) ≡ x
@@ -286,7 +286,7 @@ units_stand file at (suc n) le =
     let below : nat_le (at + 2) (length file) ≡ true = le-leb _ _ (omega arith) in
     ((rw below refl, rest.0), ap (λ (k : ℕ). suc k) rest.1)
 
-units_again : (file : List ℕ) (at : ℕ) (xs : List ℕ) → RowsStand (Is2 file) 2 at xs → at ≤ length file → (units_from file at (length xs) ≡ xs) × (at + 2 * length xs ≤ length file)
+pub units_again : (file : List ℕ) (at : ℕ) (xs : List ℕ) → RowsStand (Is2 file) 2 at xs → at ≤ length file → (units_from file at (length xs) ≡ xs) × (at + 2 * length xs ≤ length file)
 unfolding units_from
 units_again file at [] stand le = (refl, omega arith)
 units_again file at (x ∷ xs) stand le =
@@ -300,7 +300,7 @@ above_zero : (n m : ℕ) → m ≡ n → (n ≡ 0 → ⊥) → 0 < m
 above_zero zero m same other = absurd (other refl)
 above_zero (suc n) m same other = omega arith
 
-as_many : (handlers : List Handler) (list : ℕ) (items : List TryItem) (xs : List RawTry) → AreTries handlers list items xs → length items ≡ length xs
+pub as_many : (handlers : List Handler) (list : ℕ) (items : List TryItem) (xs : List RawTry) → AreTries handlers list items xs → length items ≡ length xs
 as_many handlers list [] [] are = refl
 as_many handlers list [] (x ∷ xs) are = absurd are
 as_many handlers list (item ∷ items) [] are = absurd are

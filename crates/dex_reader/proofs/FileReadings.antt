@@ -1,5 +1,5 @@
 -- A file that is read is a DEX file in which that stands, and a DEX file is read.
-use Rattle.std.proofs.Common.{◌≡◌, ◌⊎◌, inl, inr, ℕ, zero, suc, ◌+◌, ◌*◌, ◌<◌, ◌≤◌, Bool, true, false, List, [], ◌∷◌, length, take, Option, Some, None, Ok, refl, sym, ap, subst, ◌∙◌, arith}
+use Rattle.std.proofs.Common.{Result, Err, ◌≡◌, ◌⊎◌, inl, inr, ℕ, zero, suc, ◌+◌, ◌*◌, ◌<◌, ◌≤◌, Bool, true, false, List, [], ◌∷◌, ◌++◌, length, take, Option, Some, None, Ok, refl, sym, ap, subst, ◌∙◌, arith}
 use Rattle.std.proofs.lemmas.Bool.{ltb-true, lt-ltb, leb-true, le-leb, eq-eqb, eqb-true}
 use Rattle.std.proofs.lemmas.Bool.Decides.{nat_tests, eqb_tells}
 use Rattle.std.proofs.lemmas.List.Sums.{sum_by-cons}
@@ -7,7 +7,8 @@ use Rattle.std.proofs.Math.Bool.{or-true}
 use Rattle.std.specs.Prelude.{nat_lt, nat_le, nat_eq, sum_by, ◌||◌, ◌&&◌}
 use Rattle.std.specs.List.{starts_with}
 use Rattle.vet_base.specs.Numbers.{u4}
-use Rattle.vet_base.specs.Script.{Script, Value, ◌>>=◌, run, rows, walk}
+use Rattle.vet_base.specs.Script.{Script, Value, Test, ◌>>=◌, test, run, then_run, rows, walk, tests, AllHold, IsFirst}
+use Rattle.vet_base.proofs.Scripts.{is_first}
 use Rattle.dex_reader.specs.declared.fault.Fault.{Fault}
 use Rattle.dex_reader.specs.declared.fault.Table.TheVariants as tables
 use Rattle.dex_reader.specs.declared.dex.ClassDef.{ClassDef}
@@ -25,12 +26,12 @@ use Rattle.dex_reader.specs.TypeLists.{place, type_list_at}
 use Rattle.dex_reader.specs.Tables.{strings_at, types_at, protos_at, fields_at, methods_at}
 use Rattle.dex_reader.specs.ClassDefs.{superclass_of, superclass_at, data_offset_at, class_row_of, class_row, class_rows_at}
 use Rattle.dex_reader.specs.ClassData.{class_def_of, class_data_at, class_of, classes_at}
-use Rattle.dex_reader.specs.Whole.{sizes_of, ids_at, file_at, dex_at}
+use Rattle.dex_reader.specs.Whole.{FirstDexFault, sizes_of, ids_at, file_at, dex_at}
 use Rattle.dex_reader.specs.Sequences.{Is4, RowsStand, Follow}
 use Rattle.dex_reader.specs.TablesStand.{TableStands, MaybeTypeList, IsName, IsType, IsProto, IsField, IsMethod}
 use Rattle.dex_reader.specs.CodeStands.{no_totals}
 use Rattle.dex_reader.specs.ClassesStand.{plus, MaybeClassData, IsSuperclass, IsClass, IsClassRow}
-use Rattle.dex_reader.specs.Dex.{IsSection, IsHeader, params_of, interfaces_of, HasTables, WithinLimits, IsDex}
+use Rattle.dex_reader.specs.Dex.{IsSection, IsHeader, params_of, interfaces_of, HasTables, WithinLimits, IsDex, ExactlyOne}
 use Rattle.dex_reader.proofs.Readings.{bind_ok, bind_runs, there_ok, test_ok, ok_is, follow_read, OneRead}
 use Rattle.dex_reader.proofs.TableReadings.{u4_is, u4_behind, u4_within, number_adds, rows_from_follow, maybe_list_is, maybe_list_again, strings_are, strings_again, protos_are, protos_again, types_are, types_again, fields_are, fields_again, methods_are, methods_again}
 use Rattle.dex_reader.proofs.CodeReadings.{WithinTotals, same_totals, totals_add, four_there}
@@ -645,3 +646,51 @@ pub dex_again : (bytes : List ℕ) (dex : Dex) → IsDex bytes dex → run (dex_
 unfolding dex_at
 dex_again bytes dex is =
     bind_runs (header_at bytes) _ _ _ (header_again bytes is.header is.header_is) (file_again (take is.header.file_size bytes) is.header (sizes_of is.header) dex is.totals is.tables is.limits)
+
+-- the first fault is what running gives
+first_run : (s : Script Fault Dex) (before after : List (Bool × Fault)) (f : Fault) → tests s ≡ before ++ (false, f) ∷ after → AllHold before → run s ≡ Err f
+first_run (Value x) [] after f e hold = absurd cc
+first_run (Value x) (b ∷ before) after f e hold = absurd cc
+first_run (Test true fault rest) [] after f e hold =
+    let same : (true, fault) ≡ (false, f) = cc in
+    let never : true ≡ false = ap (λ (x : Bool × Fault). x.0) same in
+    absurd cc
+first_run (Test false fault rest) [] after f e hold =
+    let same : (false, fault) ≡ (false, f) = cc in
+    let is : fault ≡ f = ap (λ (x : Bool × Fault). x.1) same in
+    ap (λ (x : Fault). Err x) is
+first_run (Test true fault rest) (b ∷ before) after f e hold = first_run rest before after f (cc) hold.1
+first_run (Test false fault rest) (b ∷ before) after f e hold =
+    let same : (false, fault) ≡ b = cc in
+    let never : false ≡ b.0 = ap (λ (x : Bool × Fault). x.0) same in
+    let holds : b.0 ≡ true = hold.0 in
+    absurd cc
+
+fault_runs : (bytes : List ℕ) (f : Fault) → FirstDexFault bytes f → run (dex_at bytes) ≡ Err f
+fault_runs bytes f first = first_run (dex_at bytes) first.before first.after f first.stands first.hold
+
+some_answer : (bytes : List ℕ) (r : Result Dex Fault) → run (dex_at bytes) ≡ r → ((dex : Dex) × IsDex bytes dex) ⊎ ((fault : Fault) × FirstDexFault bytes fault)
+some_answer bytes (Ok dex) e = inl (dex, dex_is bytes dex e)
+some_answer bytes (Err f) e = inr (f, is_first (dex_at bytes) f e)
+
+abbrev ok_of : Dex → Result Dex Fault
+ok_of d = Ok d
+
+abbrev err_of : Fault → Result Dex Fault
+err_of f = Err f
+
+never_both : (r : Result Dex Fault) (d : Dex) (f : Fault) → r ≡ Ok d → r ≡ Err f → ⊥
+never_both r d f a b = let same : ok_of d ≡ err_of f = sym a ∙ b in absurd cc
+
+result_is : (r : Result Dex Fault) (d e : Dex) → r ≡ Ok d → r ≡ Ok e → d ≡ e
+result_is r d e a b = let same : ok_of d ≡ ok_of e = sym a ∙ b in cc
+
+fault_is : (r : Result Dex Fault) (f g : Fault) → r ≡ Err f → r ≡ Err g → f ≡ g
+fault_is r f g a b = let same : err_of f ≡ err_of g = sym a ∙ b in cc
+
+pub exactly_one : (bytes : List ℕ) → ExactlyOne bytes
+exactly_one bytes = record {
+  either = some_answer bytes (run (dex_at bytes)) refl;
+  one_dex = λ d e a b. result_is (run (dex_at bytes)) d e (dex_again bytes d a) (dex_again bytes e b);
+  one_fault = λ f g a b. fault_is (run (dex_at bytes)) f g (fault_runs bytes f a) (fault_runs bytes g b);
+  not_both = λ d f a b. never_both (run (dex_at bytes)) d f (dex_again bytes d a) (fault_runs bytes f b) }

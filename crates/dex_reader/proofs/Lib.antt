@@ -8,3 +8,4 @@ pub mod TableReadings
 pub mod CodeReadings
 pub mod ClassReadings
 pub mod FileReadings
+pub mod SoundReadings

@@ -4,12 +4,13 @@ use Rattle.std.specs.List.{starts_with}
 use Rattle.dex_reader.specs.declared.dex.Dex.{Dex}
 use Rattle.dex_reader.specs.declared.dex.ProtoId.{ProtoId}
 use Rattle.dex_reader.specs.declared.dex.ClassDef.{ClassDef}
+use Rattle.dex_reader.specs.declared.fault.Fault.{Fault}
 use Rattle.dex_reader.specs.declared.header.Header.{Header}
 use Rattle.dex_reader.specs.declared.header.Section.{Section}
 use Rattle.dex_reader.specs.declared.place.Sizes.{Sizes}
 use Rattle.dex_reader.specs.declared.place.Totals.{Totals}
 use Rattle.dex_reader.specs.Headers.{magic}
-use Rattle.dex_reader.specs.Whole.{sizes_of}
+use Rattle.dex_reader.specs.Whole.{sizes_of, FirstDexFault}
 use Rattle.dex_reader.specs.Sequences.{Is4, Follow}
 use Rattle.dex_reader.specs.TablesStand.{TableStands, IsName, IsType, IsProto, IsField, IsMethod}
 use Rattle.dex_reader.specs.CodeStands.{no_totals}
@@ -67,3 +68,10 @@ pub record IsDex (bytes : List ℕ) (dex : Dex) : Type 0 where
   pub header_is : IsHeader bytes header
   pub tables : HasTables (take header.file_size bytes) header (sizes_of header) dex totals
   pub limits : WithinLimits dex totals
+
+-- For all bytes exactly one of the two: one DEX file stands in them, or one fault is that of the first test that fails.
+pub record ExactlyOne (bytes : List ℕ) : Type 0 where
+  pub either : ((dex : Dex) × IsDex bytes dex) ⊎ ((fault : Fault) × FirstDexFault bytes fault)
+  pub one_dex : (dex other : Dex) → IsDex bytes dex → IsDex bytes other → dex ≡ other
+  pub one_fault : (fault other : Fault) → FirstDexFault bytes fault → FirstDexFault bytes other → fault ≡ other
+  pub not_both : (dex : Dex) (fault : Fault) → IsDex bytes dex → FirstDexFault bytes fault → ⊥

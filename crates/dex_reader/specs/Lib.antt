@@ -9,6 +9,7 @@ pub mod Headers
 pub mod Parts
 pub mod Rising
 pub mod Sequences
+pub mod Sound
 pub mod Tables
 pub mod TablesStand
 pub mod Told

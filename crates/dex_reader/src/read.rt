@@ -1,6 +1,7 @@
 ghost use Rattle.std.specs.Prelude.{◌≡◌, IfOk, IfErr, OnErr};
 ghost use Rattle.dex_reader.specs.declared.dex.Dex.{Dex as DexValue};
-ghost use Rattle.dex_reader.specs.Dex.{IsDex};
+ghost use Rattle.dex_reader.specs.Dex.{IsDex, ExactlyOne};
+ghost use Rattle.dex_reader.specs.Sound.{SoundDex};
 ghost use Rattle.dex_reader.specs.Told.{IsToldOf};
 
 use crate::dex::Dex;
@@ -20,10 +21,14 @@ use vet_base::Stop;
 /// type lists, then class data with the code items.
 pub fn read_dex(alloc: Global, bytes: &[u8]) -> Result<Dex, DexFault>
     ensures found { IfOk result (λ d. IsDex bytes.now d) }
+    ensures sound { IfOk result (λ d. SoundDex d) }
     ensures fault { IfErr result (λ e. IsToldOf bytes.now e) }
 
     // A file in which this stands is read, unless memory runs out.
     ensures only { (d : DexValue) → IsDex bytes.now d → OnErr result (result ≡ Err DexFault.Memory) }
+
+    // Bytes that are no DEX file have one first fault, and no bytes are both.
+    ensures law { ExactlyOne bytes.now }
 {
     match dex_of(alloc, bytes) {
         Ok(dex) => Ok(dex),

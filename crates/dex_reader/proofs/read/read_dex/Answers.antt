@@ -1,12 +1,26 @@
-use Rattle.std.proofs.Common.{◌≡◌, Err, inl, inr}
+use Rattle.std.proofs.Common.{◌≡◌, Err, inl, inr, arith}
 use Rattle.vet_base.specs.Script.{run}
 use Rattle.dex_reader.specs.Whole.{dex_at}
 use Rattle.vet_base.proofs.Scripts.{is_first}
-use Rattle.dex_reader.proofs.FileReadings.{dex_is, dex_again}
+use Rattle.dex_reader.proofs.FileReadings.{dex_is, dex_again, exactly_one}
+use Rattle.dex_reader.proofs.SoundReadings.{dex_sound}
 use Rattle.dex_reader.proofs.read.read_dex.Goals as goal
 
 pub returns-in-Ok-clause-found : goal.returns-in-Ok-clause-found
 returns-in-Ok-clause-found c = dex_is c.args.bytes.now c.in-Ok.dex c.in-Ok.ensures
+
+pub returns-in-Ok-clause-sound : goal.returns-in-Ok-clause-sound
+returns-in-Ok-clause-sound c =
+    dex_sound c.args.bytes.now c.in-Ok.dex (λ i. omega (arith, c.type_inv.bytes i)) (dex_is c.args.bytes.now c.in-Ok.dex c.in-Ok.ensures)
+
+pub returns-in-Ok-clause-law : goal.returns-in-Ok-clause-law
+returns-in-Ok-clause-law c = exactly_one c.args.bytes.now
+
+pub returns-in-Err-Memory-clause-law : goal.returns-in-Err-Memory-clause-law
+returns-in-Err-Memory-clause-law c = exactly_one c.args.bytes.now
+
+pub returns-in-Err-Fault-clause-law : goal.returns-in-Err-Fault-clause-law
+returns-in-Err-Fault-clause-law c = exactly_one c.args.bytes.now
 
 pub returns-in-Err-Fault-clause-fault : goal.returns-in-Err-Fault-clause-fault
 returns-in-Err-Fault-clause-fault c =
