@@ -1,4 +1,5 @@
 pub mod Classes
+pub mod Descriptors
 pub mod First
 pub mod Halving
 pub mod NameOrder

@@ -1,4 +1,5 @@
 pub mod Calls
+pub mod DescriptorText
 pub mod EventTable
 pub mod Events
 pub mod Heap

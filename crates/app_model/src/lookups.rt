@@ -1,6 +1,7 @@
 //! The look-ups in a linked app and in the lists. They take no memory.
 
 mod classes;
+mod descriptor;
 mod equality;
 mod library;
 mod life;
