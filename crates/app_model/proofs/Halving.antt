@@ -45,6 +45,12 @@ any_default [] j d e below = absurd (omega arith)
 any_default (x ∷ xs) zero d e below = refl
 any_default (x ∷ xs) (suc j) d e below = any_default xs j d e (omega arith)
 
+-- the element at an index that is there
+pub element_at : {A : Type 0} (xs : List A) (i : ℕ) → i < length xs → (x : A) × (x ≡ get_or xs i x)
+element_at [] i within = absurd (omega arith)
+element_at (x ∷ xs) zero within = (x, refl)
+element_at (x ∷ xs) (suc i) within = element_at xs i (omega arith)
+
 module _ {A K : Type 0} (key : A → K) {cmp : K → K → Ordering} (total : IsTotalOrder cmp) where
   -- the first is below each later one
   front : (x : A) (xs : List A) → Ascends (λ a b. cmp (key a) (key b)) (x ∷ xs) → (j : ℕ) (d : A) → j < length xs → cmp (key x) (key (get_or xs j d)) ≡ Less

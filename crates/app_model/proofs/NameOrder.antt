@@ -1,10 +1,10 @@
 -- The order of names and their sameness.
-use Rattle.std.proofs.Common.{◌≡◌, ℕ, Bool, true, refl, sym, ◌∙◌, ap}
+use Rattle.std.proofs.Common.{◌≡◌, ℕ, Bool, true, List, refl, sym, ◌∙◌, ap}
 use Rattle.std.specs.declared.cmp.Ordering.{Ordering}
 use Rattle.std.specs.declared.cmp.Ordering.TheVariants.{Less, Equal, Greater}
 use Rattle.std.specs.Ordering.{is_eq}
-use Rattle.std.specs.Cmp.Lexicographic.{texts_ties, bytes_decides}
-use Rattle.app_model.specs.Names.{Name, same_name}
+use Rattle.std.specs.Cmp.Lexicographic.{texts_ties, bytes_decides, pointwise_decides}
+use Rattle.app_model.specs.Names.{Name, same_name, same_names}
 use Rattle.app_model.specs.Sound.{name_order}
 
 ties_if : (o : Ordering) → is_eq o ≡ true → o ≡ Equal
@@ -21,3 +21,6 @@ tied_same a b ties = texts_ties a b ∙ ap is_eq ties
 
 pub same_equal : (a b : Name) → same_name a b ≡ true → a ≡ b
 same_equal a b same = (bytes_decides a b).0 same
+
+pub names_equal : (xs ys : List Name) → same_names xs ys ≡ true → xs ≡ ys
+names_equal xs ys same = (pointwise_decides bytes_decides xs ys).0 same

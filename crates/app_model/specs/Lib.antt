@@ -12,6 +12,8 @@ pub mod Members
 pub mod Names
 pub mod Run
 pub mod Safe
+pub mod Search
 pub mod Sound
 pub mod State
 pub mod Summaries
+pub mod Upward

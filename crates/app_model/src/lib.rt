@@ -17,7 +17,9 @@ pub use app::{App, Class, Key};
 pub use call::{CallKind, MethodRef, Proto, Target};
 pub use component::{Component, EventRow, Kind};
 pub use lists::{Callback, FallbackWord, LibClass, Lists, SummaryId};
-pub use lookups::{SummaryView, event_rows, library_key, summary_of};
+pub use lookups::{
+    SummaryView, body_named, event_rows, find_body, instance_key, library_key, summary_of,
+};
 pub use method::{Act, Method, Step};
 pub use papers::{Declaration, Layouts, Manifest, Word};
 pub use summary::{Gives, Summary};

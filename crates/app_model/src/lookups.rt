@@ -3,8 +3,12 @@
 mod classes;
 mod descriptor;
 mod equality;
+mod fields;
 mod library;
 mod life;
+mod methods;
+mod upward;
 
 pub use library::{SummaryView, library_key, summary_of};
 pub use life::event_rows;
+pub use upward::{body_named, find_body, instance_key};
