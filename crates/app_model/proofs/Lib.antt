@@ -1,3 +1,4 @@
+pub mod Above
 pub mod Classes
 pub mod Descriptors
 pub mod Fields

@@ -1,3 +1,4 @@
+pub mod Above
 pub mod Calls
 pub mod DescriptorText
 pub mod EventTable
@@ -16,4 +17,5 @@ pub mod Search
 pub mod Sound
 pub mod State
 pub mod Summaries
+pub mod Targets
 pub mod Upward

@@ -19,6 +19,7 @@ pub use component::{Component, EventRow, Kind};
 pub use lists::{Callback, FallbackWord, LibClass, Lists, SummaryId};
 pub use lookups::{
     SummaryView, body_named, event_rows, find_body, instance_key, library_key, summary_of,
+    target,
 };
 pub use method::{Act, Method, Step};
 pub use papers::{Declaration, Layouts, Manifest, Word};

@@ -6,6 +6,7 @@ ghost use Rattle.app_model.specs.Members.{first_given};
 ghost use Rattle.app_model.specs.Names.{is_array, object_class};
 ghost use Rattle.app_model.specs.Sound.{SoundApp};
 ghost use Rattle.app_model.specs.Summaries.{row_of, default_of, listed_class, listed_above, row_walk, library_key, summary};
+ghost use Rattle.app_model.specs.Above.{is_among, is_listed_below};
 ghost use Rattle.app_model.specs.LibraryWalk.{NumberedLists, found, found_above, is_row, shown_summary};
 
 use crate::lookups::classes::class_of;
@@ -177,6 +178,28 @@ fn default_at(lists: &Lists, class: &Name) -> Option<u32>
         }
     }
     None
+}
+
+/// Whether the two names are the same, or the lists have the second one above the first.
+#[tactic(auto, unfolding(crate::specs::Above::is_listed_below, crate::specs::Above::is_among, crate::specs::Summaries::listed_above))]
+pub(super) fn is_listed_below(lists: &Lists, class: &[u8], kind: &[u8]) -> bool
+    ensures { result ≡ is_listed_below lists.now class.now kind.now }
+{
+    if class == kind {
+        return true;
+    }
+    match listed(lists, class) {
+        Some(class) => is_among(class.above.as_slice(), kind),
+        None => false,
+    }
+}
+
+/// Whether the name is one of these.
+#[tactic(auto, unfolding(crate::specs::Above::is_among))]
+fn is_among(names: &[Name], name: &[u8]) -> bool
+    ensures { result ≡ is_among names.now name.now }
+{
+    names.iter().any(|other| other.as_bytes() == name)
 }
 
 /// The listed class of this name.

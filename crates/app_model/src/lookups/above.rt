@@ -1,0 +1,108 @@
+ghost use Rattle.std.specs.Prelude.{◌≡◌, flat_map};
+ghost use Rattle.std.specs.List.{list_any};
+ghost use Rattle.app_model.specs.Lookups.{above_within, all_above};
+ghost use Rattle.app_model.specs.Sound.{SoundApp};
+ghost use Rattle.app_model.specs.Above.{has, any_listed_below, has_bare, has_below};
+
+use crate::lookups::classes::class_of;
+use crate::lookups::equality::is_same_proto;
+use crate::lookups::library::is_listed_below;
+use crate::{App, Class, Lists, Proto};
+use vet_base::Name;
+
+/// What is asked of the app classes and interfaces above a class.
+#[derive(Clone, Copy)]
+pub(super) enum Quality<'a> {
+    /// It has the method without code.
+    Bare(&'a Name, &'a Proto),
+    /// A class or interface directly above it is of this name, or the lists have that name above it.
+    Below(&'a Lists, &'a [u8]),
+}
+
+/// Whether the class, or an app class or interface above it, has the quality.
+#[tactic(auto, unfolding(crate::specs::Lookups::all_above))]
+pub(super) fn any_above(app: &App, class: &[u8], quality: Quality) -> bool
+    requires { SoundApp app.now }
+    ensures { result ≡ list_any (has quality.entry) (all_above app.now class.now) }
+{
+    any_within(app, class, quality, app.classes.len())
+}
+
+/// The same within so many steps upward.
+#[cycle(upward)]
+#[tactic(auto, using(crate::proofs::Above::any_outside, crate::proofs::Above::any_after_no_step))]
+fn any_within(app: &App, class: &[u8], quality: Quality, steps: usize) -> bool
+    requires { SoundApp app.now }
+    ensures { result ≡ list_any (has quality.entry) (above_within steps app.now.classes class.now) }
+{
+    if steps == 0 {
+        return false;
+    }
+    match class_of(app, class) {
+        Some(class) => {
+            if has(class, quality) {
+                return true;
+            }
+            if any_of(app, class.superclass.as_slice(), quality, steps - 1) {
+                return true;
+            }
+            any_of(app, class.interfaces.as_slice(), quality, steps - 1)
+        }
+        None => false,
+    }
+}
+
+/// Whether one of the classes has it, within so many steps upward.
+#[cycle(upward)]
+#[tactic(auto, using(crate::proofs::Above::none_first, crate::proofs::Above::none_more, crate::proofs::Above::one_has, crate::proofs::Above::none_has))]
+fn any_of(app: &App, classes: &[Name], quality: Quality, steps: usize) -> bool
+    requires { SoundApp app.now }
+    ensures { result ≡ list_any (has quality.entry) (flat_map (above_within steps app.now.classes) classes.now) }
+{
+    for class in classes {
+        if any_within(app, class.as_bytes(), quality, steps) {
+            return true;
+        }
+    }
+    false
+}
+
+fn has(class: &Class, quality: Quality) -> bool
+    ensures { result ≡ has quality.entry class.now }
+{
+    match quality {
+        Quality::Bare(name, proto) => has_bare(class, name, proto),
+        Quality::Below(lists, kind) => has_below(class, lists, kind),
+    }
+}
+
+/// Whether the class has the method without code.
+#[tactic(auto, unfolding(crate::specs::Above::has_bare))]
+fn has_bare(class: &Class, name: &Name, proto: &Proto) -> bool
+    ensures { result ≡ has_bare class.now name.now proto.now }
+{
+    class
+        .bare
+        .as_slice()
+        .iter()
+        .any(|bare| bare.0 == *name && is_same_proto(&bare.1, proto))
+}
+
+/// Whether a class or interface directly above the class is of this name, or the lists have the
+/// name above it.
+#[tactic(auto, using(crate::proofs::Above::below_parts))]
+fn has_below(class: &Class, lists: &Lists, kind: &[u8]) -> bool
+    ensures { result ≡ has_below class.now lists.now kind.now }
+{
+    is_any_listed_below(lists, class.superclass.as_slice(), kind)
+        || is_any_listed_below(lists, class.interfaces.as_slice(), kind)
+}
+
+#[tactic(auto, unfolding(crate::specs::Above::any_listed_below))]
+fn is_any_listed_below(lists: &Lists, classes: &[Name], kind: &[u8]) -> bool
+    ensures { result ≡ any_listed_below lists.now classes.now kind.now }
+{
+    classes
+        .iter()
+        .any(|class| is_listed_below(lists, class.as_bytes(), kind))
+}
