@@ -1,9 +1,12 @@
 pub mod Above
+pub mod BelowRelation
 pub mod Classes
 pub mod Descriptors
 pub mod Fields
+pub mod Elements
 pub mod First
 pub mod Halving
 pub mod Methods
 pub mod NameOrder
+pub mod Reach
 pub mod Upward

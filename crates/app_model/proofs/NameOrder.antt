@@ -24,3 +24,6 @@ same_equal a b same = (bytes_decides a b).0 same
 
 pub names_equal : (xs ys : List Name) → same_names xs ys ≡ true → xs ≡ ys
 names_equal xs ys same = (pointwise_decides bytes_decides xs ys).0 same
+
+pub same_itself : (a : Name) → same_name a a ≡ true
+same_itself a = (bytes_decides a a).1 refl

@@ -2,12 +2,13 @@
 use Rattle.std.specs.Prelude.{ℕ, Bool, ◌&&◌, ◌||◌, List}
 use Rattle.std.specs.List.{list_any}
 use Rattle.app_model.specs.declared.call.Proto.{Proto}
+use Rattle.app_model.specs.declared.app.App.{App}
 use Rattle.app_model.specs.declared.app.Class.{Class}
 use Rattle.app_model.specs.declared.lists.Lists.{Lists}
 use Rattle.app_model.specs.declared.lookups.above.Quality.{Quality}
 use Rattle.app_model.specs.declared.lookups.above.Quality.TheVariants as quality
-use Rattle.app_model.specs.Names.{Name, same_name, same_proto}
-use Rattle.app_model.specs.Lookups.{directly_above}
+use Rattle.app_model.specs.Names.{Name, same_name, same_proto, object_class}
+use Rattle.app_model.specs.Lookups.{directly_above, all_above}
 use Rattle.app_model.specs.Summaries.{listed_above}
 
 unfoldable pub is_among : List Name → Name → Bool
@@ -25,6 +26,10 @@ any_listed_below lists classes type = list_any (λ class. is_listed_below lists 
 
 unfoldable pub has_below : Class → Lists → Name → Bool
 has_below c lists type = any_listed_below lists (directly_above c) type
+
+-- the answer to whether the class is below the type
+unfoldable pub is_below : App → Lists → Name → Name → Bool
+is_below app lists class type = same_name type object_class || (is_listed_below lists class type || list_any (λ (c : Class). has_below c lists type) (all_above app class))
 
 abbrev pub has : Quality → Class → Bool
 has (quality.Bare name proto) c = has_bare c name.now proto.now

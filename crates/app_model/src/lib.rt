@@ -18,7 +18,7 @@ pub use call::{CallKind, MethodRef, Proto, Target};
 pub use component::{Component, EventRow, Kind};
 pub use lists::{Callback, FallbackWord, LibClass, Lists, SummaryId};
 pub use lookups::{
-    SummaryView, body_named, event_rows, find_body, instance_key, library_key, summary_of,
+    SummaryView, below, body_named, event_rows, find_body, instance_key, library_key, summary_of,
     target,
 };
 pub use method::{Act, Method, Step};

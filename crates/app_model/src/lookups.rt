@@ -11,6 +11,7 @@ mod methods;
 mod targets;
 mod upward;
 
+pub use above::below;
 pub use library::{SummaryView, library_key, summary_of};
 pub use life::event_rows;
 pub use targets::target;

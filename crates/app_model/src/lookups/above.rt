@@ -1,12 +1,13 @@
-ghost use Rattle.std.specs.Prelude.{◌≡◌, flat_map};
+ghost use Rattle.std.specs.Prelude.{◌≡◌, ◌↔◌, IsTrue, flat_map};
 ghost use Rattle.std.specs.List.{list_any};
 ghost use Rattle.app_model.specs.Lookups.{above_within, all_above};
 ghost use Rattle.app_model.specs.Sound.{SoundApp};
-ghost use Rattle.app_model.specs.Above.{has, any_listed_below, has_bare, has_below};
+ghost use Rattle.app_model.specs.Summaries.{Below};
+ghost use Rattle.app_model.specs.Above.{has, any_listed_below, has_bare, has_below, is_below};
 
 use crate::lookups::classes::class_of;
 use crate::lookups::equality::is_same_proto;
-use crate::lookups::library::is_listed_below;
+use crate::lookups::library::{is_listed_below, object_name};
 use crate::{App, Class, Lists, Proto};
 use vet_base::Name;
 
@@ -17,6 +18,26 @@ pub(super) enum Quality<'a> {
     Bare(&'a Name, &'a Proto),
     /// A class or interface directly above it is of this name, or the lists have that name above it.
     Below(&'a Lists, &'a [u8]),
+}
+
+/// Whether a value of the class may stand where the type `kind` is asked for: they are equal,
+/// `kind` is `Ljava/lang/Object;`, a class or interface directly above the app class `class` is
+/// below `kind`, or the lists have `kind` above `class`.
+pub fn below(app: &App, lists: &Lists, class: &Name, kind: &Name) -> bool
+    requires { SoundApp app.now }
+    ensures { IsTrue result ↔ Below app.now lists.now class.now kind.now }
+{
+    is_below(app, lists, class.as_bytes(), kind.as_bytes())
+}
+
+#[tactic(auto, unfolding(crate::specs::Above::is_below))]
+fn is_below(app: &App, lists: &Lists, class: &[u8], kind: &[u8]) -> bool
+    requires { SoundApp app.now }
+    ensures { result ≡ is_below app.now lists.now class.now kind.now }
+{
+    kind == object_name()
+        || is_listed_below(lists, class, kind)
+        || any_above(app, class, Quality::Below(lists, kind))
 }
 
 /// Whether the class, or an app class or interface above it, has the quality.

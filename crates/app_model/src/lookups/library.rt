@@ -227,7 +227,7 @@ fn starts_array(name: &[u8]) -> bool
 }
 
 #[tactic(auto, unfolding(crate::specs::Names::object_class))]
-fn object_name() -> &'static [u8]
+pub(super) fn object_name() -> &'static [u8]
     ensures { result.now ≡ object_class }
 {
     b"Ljava/lang/Object;"
