@@ -1,0 +1,12 @@
+pub mod ClassData
+pub mod ClassDefs
+pub mod Code
+pub mod Handlers
+pub mod Headers
+pub mod Parts
+pub mod Rising
+pub mod Tables
+pub mod Told
+pub mod Tries
+pub mod TypeLists
+pub mod Whole

@@ -1,0 +1,5 @@
+pub mod Leb
+pub mod RisingHandlers
+pub mod Units
+pub mod WalkItems
+pub mod WalkRest

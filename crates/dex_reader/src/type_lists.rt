@@ -1,0 +1,101 @@
+ghost use Rattle.std.specs.Prelude.{◌≡◌, ◌<◌, ◌^◌, length};
+ghost use Rattle.vet_base.specs.Script.{Gives};
+ghost use Rattle.dex_reader.specs.TypeLists.{place, entry_row, entries_at, listed_at, type_list_at};
+
+use crate::fault::{Fault, Limit, ReadError, Table};
+use crate::parts::{test_index, u2_of, u4_of};
+use crate::place::Place;
+use std::alloc::Global;
+use vet_base::{Seq, Stop};
+
+const TYPE_LISTS: u32 = 4_000_000;
+
+/// The row that names a list.
+#[derive(Clone, Copy)]
+pub struct Owner {
+    pub table: Table,
+    pub row: u32,
+}
+
+#[tactic(auto, unfolding(crate::specs::TypeLists::entry_row), using(vet_base::proofs::Scripts::run_bind))]
+fn entry_of(
+    file: &[u8],
+    types: u32,
+    owner: Owner,
+    list: u32,
+    _i: u32,
+    place: Place,
+) -> Result<(u32, Place), ReadError>
+    requires { length file.now < 2 ^ 32 }
+    ensures { Gives (λ x. x) result (entry_row file.now types owner.table owner.row list _i place) }
+{
+    let (index, at) = u2_of(file, place.at, list)?;
+    test_index(u32::from(index), types, owner.table, owner.row)?;
+    if place.total >= TYPE_LISTS {
+        return Err(Stop::Fault(Fault::TooMany(Limit::TypeLists)));
+    }
+    let total = place.total + 1;
+    Ok((u32::from(index), Place { at, total }))
+}
+
+#[tactic(auto, unfolding(crate::specs::TypeLists::entries_at), using(vet_base::proofs::Scripts::begins, vet_base::proofs::Scripts::goes_on, vet_base::proofs::Scripts::ends, vet_base::proofs::Scripts::is_done))]
+fn entries_of(
+    alloc: Global,
+    file: &[u8],
+    types: u32,
+    owner: Owner,
+    list: u32,
+    size: u32,
+    begin: Place,
+) -> Result<(Seq<u32>, Place), ReadError>
+    requires { length file.now < 2 ^ 32 }
+    ensures { Gives (λ x. x) result (entries_at file.now types owner.table owner.row list size begin) }
+{
+    let mut entries = Vec::with_capacity(alloc, size as usize)?;
+    let mut place = begin;
+    for i in 0..size {
+        let (index, next) = entry_of(file, types, owner, list, i, place)?;
+        entries.push(index)?;
+        place = next;
+    }
+    Ok((Seq::from_vec(entries), place))
+}
+
+#[tactic(auto, unfolding(crate::specs::TypeLists::listed_at), using(vet_base::proofs::Scripts::run_bind))]
+fn listed_of(
+    alloc: Global,
+    file: &[u8],
+    types: u32,
+    owner: Owner,
+    list: u32,
+    total: u32,
+) -> Result<(Seq<u32>, u32), ReadError>
+    requires { length file.now < 2 ^ 32 }
+    ensures { Gives (λ x. x) result (listed_at file.now types owner.table owner.row list total) }
+{
+    let (size, at) = u4_of(file, list, list)?;
+    if at as usize + 2 * size as usize > file.len() {
+        return Err(Stop::Fault(Fault::Outside(list)));
+    }
+    let (entries, place) = entries_of(alloc, file, types, owner, list, size, Place { at, total })?;
+    Ok((entries, place.total))
+}
+
+/// The types in a list, and the entries of all lists so far. Offset 0 stands for the list of nothing.
+#[tactic(auto, unfolding(crate::specs::TypeLists::type_list_at))]
+pub fn type_list_of(
+    alloc: Global,
+    file: &[u8],
+    types: u32,
+    owner: Owner,
+    list: u32,
+    total: u32,
+) -> Result<(Seq<u32>, u32), ReadError>
+    requires { length file.now < 2 ^ 32 }
+    ensures { Gives (λ x. x) result (type_list_at file.now types owner.table owner.row list total) }
+{
+    if list == 0 {
+        return Ok((Seq::new(alloc), total));
+    }
+    listed_of(alloc, file, types, owner, list, total)
+}

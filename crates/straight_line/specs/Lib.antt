@@ -1,0 +1,4 @@
+pub mod Coverage
+pub mod Flow
+pub mod Found
+pub mod Straight

@@ -1,0 +1,4 @@
+pub mod OneClass
+pub mod Words
+pub mod Printed
+pub mod Sample

@@ -1,0 +1,53 @@
+-- The words of the command line.
+use Rattle.std.specs.Prelude.{◌≡◌, ℕ, ◌+◌, ◌-◌, ◌*◌, Bool, ◌&&◌, ◌==◌, nat_le, nat_eq, List, [], ◌∷◌, length, Option, Some, None, Result, Ok, Err, codes, if◌then◌else◌}
+use Rattle.std.specs.Char.{is_ascii_digit}
+use Rattle.std.specs.Option.{option_map}
+use Rattle.std.specs.Cmp.Lexicographic.{pointwise}
+use Rattle.vetting_desk.specs.declared.words.Words.{Words}
+use Rattle.vetting_desk.specs.declared.words.Words.TheVariants.{Check}
+use Rattle.vetting_desk.specs.declared.words.Command.{Command}
+use Rattle.vetting_desk.specs.declared.words.Command.TheVariants as borrowed
+use Rattle.vetting_desk.specs.declared.words.WordFault.{WordFault}
+use Rattle.vetting_desk.specs.declared.words.WordFault.TheVariants.{Usage, Memory}
+
+-- the number that decimal digits spell behind those of n, none above the limit
+unfoldable pub digits : ℕ → ℕ → List ℕ → Option ℕ
+digits limit n [] = Some n
+digits limit n (c ∷ cs) = if is_ascii_digit c && nat_le (10 * n + (c - 48)) limit then digits limit (10 * n + (c - 48)) cs else None
+
+-- a decimal number up to the limit, without sign and without a leading zero unless it is 0
+unfoldable pub number : ℕ → List ℕ → Option ℕ
+number limit [] = None
+number limit (c ∷ []) = digits limit 0 (c ∷ [])
+number limit (c ∷ d ∷ ds) = if c == 48 then None else digits limit 0 (c ∷ d ∷ ds)
+
+unfoldable pub is_check : List ℕ → Bool
+is_check word = pointwise nat_eq word (codes "check")
+
+-- the name of a folder or file has 1 to 1,024 bytes
+unfoldable pub is_file_name : List ℕ → Bool
+is_file_name word = nat_le 1 (length word) && nat_le (length word) 1024
+
+-- 1 to 16 workers
+abbrev pub positive : ℕ → Option ℕ
+positive n = if n == 0 then None else Some n
+
+abbrev pub positive_of : Option ℕ → Option ℕ
+positive_of None = None
+positive_of (Some n) = positive n
+
+unfoldable pub workers : List ℕ → Option ℕ
+workers word = positive_of (number 16 word)
+
+-- the command, where the words are one: `check DIR WORKERS`
+abbrev pub parse : List (List ℕ) → Option Words
+parse (command ∷ dir ∷ count ∷ []) = if is_check command && is_file_name dir then option_map (λ n. Check dir n) (workers count) else None
+parse words = None
+
+abbrev pub command_words : Command → Words
+command_words (borrowed.Check dir n) = Check dir.now n
+
+abbrev pub Parses : Result Words WordFault → Option Words → Type 0
+Parses (Ok words) parsed = parsed ≡ Some words
+Parses (Err Usage) parsed = parsed ≡ None
+Parses (Err Memory) parsed = Unit {0}
