@@ -1,5 +1,5 @@
 -- The answer to whether a class is below a type is that of the relation.
-use Rattle.std.proofs.Common.{◌≡◌, ℕ, zero, suc, Bool, true, false, ◌||◌, List, [], ◌∷◌, length, Option, Some, None, refl, sym, ◌∙◌, ap, subst, ◌⊎◌, inl, inr}
+use Rattle.std.proofs.Common.{◌≡◌, ℕ, zero, suc, Bool, true, ◌||◌, [], ◌∷◌, length, Option, Some, None, refl, sym, ◌∙◌, ap, subst, inl, inr}
 use Rattle.std.specs.Prelude.{IsTrue, ◌↔◌, flat_map}
 use Rattle.std.specs.List.{list_any}
 use Rattle.app_model.specs.declared.app.App.{App}
@@ -22,7 +22,7 @@ module _ (app : App) (lists : Lists) (type : Name) where
   listed_so class holds = elim (either (same_name class type) (is_among (listed_above lists class) type) holds) [
     | inl same ↦ subst (λ x. Below app lists class x) (same_equal class type same) is_same
     | inr among ↦ let one = one_passes (λ other. same_name other type) (listed_above lists class) among in is_listed (subst (λ x. In x (listed_above lists class)) (same_equal one.0 type one.2) one.1)
-    ]
+  ]
 
   above_so : (c : Class) → has_below c lists type ≡ true → (a : Name) × In a (directly_above c) × Below app lists a type
   unfolding has_below any_listed_below
@@ -48,10 +48,10 @@ module _ (app : App) (lists : Lists) (type : Name) where
   below_if class holds = elim (either (same_name type object_class) (is_listed_below lists class type || list_any (λ (c : Class). has_below c lists type) (all_above app class)) holds) [
     | inl object ↦ is_object (same_equal type object_class object)
     | inr rest ↦ elim (either (is_listed_below lists class type) (list_any (λ (c : Class). has_below c lists type) (all_above app class)) rest) [
-        | inl here ↦ listed_so class here
-        | inr up ↦ let one = one_passes (λ (c : Class). has_below c lists type) (all_above app class) up in way_so (length app.classes) class one.0 one.1 one.2
-        ]
+      | inl here ↦ listed_so class here
+      | inr up ↦ let one = one_passes (λ (c : Class). has_below c lists type) (all_above app class) up in way_so (length app.classes) class one.0 one.1 one.2
     ]
+  ]
 
   -- the classes directly above a class of the app lead on
   module _ (no_circle : (class : Name) → IsAbove app class class → ⊥) where
@@ -69,7 +69,7 @@ module _ (app : App) (lists : Lists) (type : Name) where
     unfolding class_named
     met n class above c d there up at =
         within_all app no_circle (suc n) class c (subst (λ o. In c (elim o [ None ↦ [] | Some d ↦ d ∷ flat_map (λ above. above_within n app.classes above) (directly_above d) ])) (sym there)
-          (inr (in_flat (λ above. above_within n app.classes above) (directly_above d) above c up at)))
+        (inr (in_flat (λ above. above_within n app.classes above) (directly_above d) above c up at)))
 
     met_itself : (class : Name) (d : Class) → class_named app class ≡ Some d → In d (all_above app class)
     unfolding class_named
@@ -81,10 +81,10 @@ module _ (app : App) (lists : Lists) (type : Name) where
     one_further class above d there up holds = elim (either (same_name type object_class) (is_listed_below lists above type || list_any (λ (c : Class). has_below c lists type) (all_above app above)) holds) [
       | inl object ↦ first_holds (same_name type object_class) (is_listed_below lists class type || list_any (λ (c : Class). has_below c lists type) (all_above app class)) object
       | inr rest ↦ elim (either (is_listed_below lists above type) (list_any (λ (c : Class). has_below c lists type) (all_above app above)) rest) [
-          | inl here ↦ answer_above class d (met_itself class d there) (passes_if (λ a. is_listed_below lists a type) (directly_above d) above up here)
-          | inr higher ↦ let one = one_passes (λ (c : Class). has_below c lists type) (all_above app above) higher in answer_above class one.0 (met (length app.classes) class above one.0 d there up one.1) one.2
-          ]
+        | inl here ↦ answer_above class d (met_itself class d there) (passes_if (λ a. is_listed_below lists a type) (directly_above d) above up here)
+        | inr higher ↦ let one = one_passes (λ (c : Class). has_below c lists type) (all_above app above) higher in answer_above class one.0 (met (length app.classes) class above one.0 d there up one.1) one.2
       ]
+    ]
 
     pub below_only_if : (class : Name) → Below app lists class type → is_below app lists class type ≡ true
     unfolding is_below is_listed_below is_among

@@ -1,5 +1,5 @@
 -- The class of a name, as halving over the classes finds it.
-use Rattle.std.proofs.Common.{◌≡◌, ℕ, ◌<◌, ◌≤◌, Bool, true, List, length, get_or, Some, None, Err, sym, ◌∙◌, ap}
+use Rattle.std.proofs.Common.{◌≡◌, ℕ, ◌<◌, ◌≤◌, List, length, get_or, Some, None, Err, ◌∙◌, ap}
 use Rattle.std.specs.declared.cmp.Ordering.TheVariants.{Equal}
 use Rattle.std.specs.List.Sorted.{IsBinarySearchResult}
 use Rattle.std.proofs.lemmas.Cmp.{nat_list_cmp_total}
@@ -14,7 +14,7 @@ module _ (classes : List Class) (sorted : Ascends class_order classes) (name : N
   pub class_there : (x : Class) → i < length classes → x ≡ get_or classes i x → name_order (get_or classes i x).name name ≡ Equal → class_among classes name ≡ Some x
   class_there x within is ties =
       (found_at (λ (c : Class). c.name) nat_list_cmp_total classes sorted name (λ (c : Class). same_name c.name name) (λ c same. same_tie c.name name same)
-        i x within is ties (ap (λ (c : Class). same_name c.name name) is ∙ tied_same (get_or classes i x).name name ties)).1
+      i x within is ties (ap (λ (c : Class). same_name c.name name) is ∙ tied_same (get_or classes i x).name name ties)).1
 
   pub class_missing : i ≤ length classes → IsBinarySearchResult (λ (c : Class). name_order c.name name) classes (Err i) → class_among classes name ≡ None
   class_missing within parted = (found_nowhere (λ (c : Class). c.name) nat_list_cmp_total classes sorted name (λ (c : Class). same_name c.name name) (λ c same. same_tie c.name name same) i within parted).1

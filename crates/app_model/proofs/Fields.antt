@@ -1,11 +1,10 @@
 -- The key of a field, as halving over the keys behind the first finds it.
-use Rattle.std.proofs.Common.{◌≡◌, ℕ, zero, suc, ◌+◌, ◌<◌, ◌≤◌, Bool, true, false, ◌&&◌, List, [], ◌∷◌, map, length, get_or, drop, Option, Some, None, Err, refl, sym, ◌∙◌, ap, subst, arith, add-one}
+use Rattle.std.proofs.Common.{◌≡◌, ℕ, zero, suc, ◌+◌, ◌<◌, ◌≤◌, true, List, [], ◌∷◌, map, length, get_or, drop, Some, None, Err, refl, sym, ◌∙◌, ap, subst, arith, add-one}
 use Rattle.std.specs.Option.{option_map}
-use Rattle.std.specs.declared.cmp.Ordering.TheVariants.{Less, Equal, Greater}
+use Rattle.std.specs.declared.cmp.Ordering.TheVariants.{Equal}
 use Rattle.std.specs.List.Sorted.{IsBinarySearchResult}
 use Rattle.app_model.specs.declared.app.Key.{Key}
 use Rattle.app_model.specs.declared.app.Key.TheVariants.{Elem, Field}
-use Rattle.vet_base.specs.declared.key_id.KeyId.{KeyId}
 use Rattle.app_model.specs.declared.app.App.{App}
 use Rattle.app_model.specs.declared.app.Class.{Class}
 use Rattle.app_model.specs.Members.{first_index, first_given}
@@ -60,7 +59,7 @@ module _ (class name kind : Name) where
         let at : (k : Key) × (k ≡ get_or (map as_key fields) i k) = element_at (map as_key fields) i within in
         let is : (f : Name × Name × Name) × (get_or (map as_key fields) i at.0 ≡ as_key f) = is_a_field fields i at.0 within in
         let passes : is_field at.0 class name kind ≡ true =
-            ap (λ (k : Key). is_field k class name kind) (at.1 ∙ is.1) ∙ tied_field is.0 (ap (λ (k : Key). field_order (field_key k) (class, name, kind)) (sym is.1) ∙ ties at.0) in
+        ap (λ (k : Key). is_field k class name kind) (at.1 ∙ is.1) ∙ tied_field is.0 (ap (λ (k : Key). field_order (field_key k) (class, name, kind)) (sym is.1) ∙ ties at.0) in
         (found_at field_key triples_total (map as_key fields) (keys_ascend fields sorted) (class, name, kind) (λ (k : Key). is_field k class name kind) field_ties i at.0 within at.1 (ties at.0) passes).0
 
     missing_among : i ≤ length (map as_key fields) → IsBinarySearchResult (λ (k : Key). field_order (field_key k) (class, name, kind)) (map as_key fields) (Err i) → first_index (λ (k : Key). is_field k class name kind) (map as_key fields) ≡ None
@@ -77,7 +76,7 @@ module _ (class name kind : Name) where
     field_missing within parted =
         let same : drop 1 keys ≡ map as_key fields = behind_are keys fields are in
         let missing : first_index (λ (k : Key). is_field k class name kind) (drop 1 keys) ≡ None =
-            subst (λ ks. i ≤ length ks → IsBinarySearchResult (λ (k : Key). field_order (field_key k) (class, name, kind)) ks (Err i) → first_index (λ (k : Key). is_field k class name kind) ks ≡ None) (sym same) missing_among within parted in
+        subst (λ ks. i ≤ length ks → IsBinarySearchResult (λ (k : Key). field_order (field_key k) (class, name, kind)) ks (Err i) → first_index (λ (k : Key). is_field k class name kind) ks ≡ None) (sym same) missing_among within parted in
         behind_first keys fields are ∙ ap (λ o. option_map suc o) missing
 
 -- the key by what the classes upward give

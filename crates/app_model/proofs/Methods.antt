@@ -1,6 +1,5 @@
 -- The method of a class, name and descriptor, as halving over the methods finds it.
-use Rattle.std.proofs.Common.{◌≡◌, ℕ, ◌<◌, ◌≤◌, Bool, true, false, ◌&&◌, List, length, get_or, Option, Some, None, Err, refl, sym, ◌∙◌, ap, arith}
-use Rattle.std.specs.Prelude.{find}
+use Rattle.std.proofs.Common.{◌≡◌, ℕ, ◌<◌, ◌≤◌, Bool, true, false, ◌&&◌, List, length, get_or, Some, None, Err, refl, ◌∙◌, ap}
 use Rattle.std.specs.declared.cmp.Ordering.{Ordering}
 use Rattle.std.specs.declared.cmp.Ordering.TheVariants.{Less, Equal, Greater}
 use Rattle.std.specs.Ordering.{ordering_then}
@@ -10,7 +9,7 @@ use Rattle.std.proofs.lemmas.Cmp.{nat_list_cmp_total, tied_itself}
 use Rattle.app_model.specs.declared.call.Proto.{Proto}
 use Rattle.app_model.specs.declared.method.Method.{Method}
 use Rattle.app_model.specs.Members.{first_index}
-use Rattle.app_model.specs.Names.{Name, same_name, same_names, same_proto, descriptor_of, joined}
+use Rattle.app_model.specs.Names.{Name, same_name, same_names, same_proto, descriptor_of}
 use Rattle.app_model.specs.Sound.{Ascends, method_order, field_order, name_order}
 use Rattle.app_model.specs.Search.{method_key}
 use Rattle.app_model.proofs.Halving.{element_at, found_at, found_none, found_nowhere}
@@ -62,13 +61,13 @@ module _ (class name : Name) where
   by_proto_ties proto m passes =
       let parts = three_parts (same_name m.at.class class) (same_name m.at.name name) (same_proto m.at.proto proto) passes in
       all_tie (name_order m.at.class class) (name_order m.at.name name) (name_order (descriptor_of m.at.proto) (descriptor_of proto))
-        (same_tie m.at.class class parts.0) (same_tie m.at.name name parts.1) (rw (same_descriptor m.at.proto proto parts.2) (tied_itself nat_list_cmp_total (descriptor_of proto)))
+      (same_tie m.at.class class parts.0) (same_tie m.at.name name parts.1) (rw (same_descriptor m.at.proto proto parts.2) (tied_itself nat_list_cmp_total (descriptor_of proto)))
 
   by_text_ties : (descriptor : Name) (m : Method) → by_text descriptor m ≡ true → field_order (method_key m) (class, name, descriptor) ≡ Equal
   by_text_ties descriptor m passes =
       let parts = three_parts (same_name m.at.class class) (same_name m.at.name name) (same_name (descriptor_of m.at.proto) descriptor) passes in
       all_tie (name_order m.at.class class) (name_order m.at.name name) (name_order (descriptor_of m.at.proto) descriptor)
-        (same_tie m.at.class class parts.0) (same_tie m.at.name name parts.1) (same_tie (descriptor_of m.at.proto) descriptor parts.2)
+      (same_tie m.at.class class parts.0) (same_tie m.at.name name parts.1) (same_tie (descriptor_of m.at.proto) descriptor parts.2)
 
   ties_by_proto : (proto : Proto) (m : Method) → field_order (method_key m) (class, name, descriptor_of proto) ≡ Equal → same_proto m.at.proto proto ≡ true → by_proto proto m ≡ true
   ties_by_proto proto m ties same =
@@ -88,7 +87,7 @@ module _ (class name : Name) where
         first_index (by_proto proto) methods ≡ Some i
     method_there proto m within is ties same =
         (found_at method_key triples_total methods sorted (class, name, descriptor_of proto) (by_proto proto) (by_proto_ties proto) i m within is ties
-          (ties_by_proto proto m (ap (λ (x : Method). field_order (method_key x) (class, name, descriptor_of proto)) is ∙ ties) same)).0
+        (ties_by_proto proto m (ap (λ (x : Method). field_order (method_key x) (class, name, descriptor_of proto)) is ∙ ties) same)).0
 
     pub method_differs : (proto : Proto) (m : Method) → i < length methods → m ≡ get_or methods i m → field_order (method_key (get_or methods i m)) (class, name, descriptor_of proto) ≡ Equal → same_proto m.at.proto proto ≡ false →
         first_index (by_proto proto) methods ≡ None
@@ -102,7 +101,7 @@ module _ (class name : Name) where
     text_there descriptor within ties =
         let at : (m : Method) × (m ≡ get_or methods i m) = element_at methods i within in
         (found_at method_key triples_total methods sorted (class, name, descriptor) (by_text descriptor) (by_text_ties descriptor) i at.0 within at.1 (ties at.0)
-          (ties_by_text descriptor at.0 (ap (λ (x : Method). field_order (method_key x) (class, name, descriptor)) at.1 ∙ ties at.0))).0
+        (ties_by_text descriptor at.0 (ap (λ (x : Method). field_order (method_key x) (class, name, descriptor)) at.1 ∙ ties at.0))).0
 
     pub text_missing : (descriptor : Name) → i ≤ length methods → IsBinarySearchResult (λ (m : Method). field_order (method_key m) (class, name, descriptor)) methods (Err i) → first_index (by_text descriptor) methods ≡ None
     text_missing descriptor within parted = (found_nowhere method_key triples_total methods sorted (class, name, descriptor) (by_text descriptor) (by_text_ties descriptor) i within parted).0

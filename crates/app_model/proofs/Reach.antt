@@ -1,13 +1,13 @@
 -- However far one goes upward, one meets the classes that stand within as many steps as there are classes.
-use Rattle.std.proofs.Common.{◌≡◌, ◌≢◌, ℕ, zero, suc, ◌+◌, ◌<◌, ◌≤◌, Bool, true, false, if◌then◌else◌, List, [], ◌∷◌, map, length, Option, Some, None, refl, sym, ◌∙◌, ap, subst, ◌⊎◌, inl, inr, arith}
+use Rattle.std.proofs.Common.{◌≡◌, ℕ, zero, suc, ◌+◌, ◌<◌, ◌≤◌, Bool, true, false, if◌then◌else◌, List, [], ◌∷◌, map, length, Option, Some, None, refl, sym, ◌∙◌, ap, subst, ◌⊎◌, inl, inr, arith}
 use Rattle.std.specs.Prelude.{flat_map}
 use Rattle.std.proofs.lemmas.List.{length-map}
 use Rattle.app_model.specs.declared.app.App.{App}
 use Rattle.app_model.specs.declared.app.Class.{Class}
 use Rattle.app_model.specs.Members.{In}
 use Rattle.app_model.specs.Names.{Name, same_name}
-use Rattle.app_model.specs.Lookups.{class_among, class_named, above_within, all_above, directly_above}
-use Rattle.app_model.specs.Sound.{SoundApp, IsAbove}
+use Rattle.app_model.specs.Lookups.{class_among, above_within, all_above, directly_above}
+use Rattle.app_model.specs.Sound.{IsAbove}
 use Rattle.app_model.specs.Sound.IsAbove.{directly, beyond}
 use Rattle.app_model.proofs.NameOrder.{same_equal}
 use Rattle.app_model.proofs.Elements.{in_flat, from_flat, in_map, Apart, no_more}
@@ -22,7 +22,7 @@ found_is_in [] name c there = absurd (cc)
 found_is_in (d ∷ classes) name c there = elim (first_or (same_name d.name name) d (class_among classes name) c there) [
   | inl here ↦ (inl (sym here.1), ap (λ (x : Class). x.name) (sym here.1) ∙ same_equal d.name name here.0)
   | inr later ↦ let rest = found_is_in classes name c later in (inr rest.0, rest.1)
-  ]
+]
 
 class_names : App → List Name
 class_names app = map (λ (c : Class). c.name) app.classes

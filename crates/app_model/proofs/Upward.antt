@@ -1,5 +1,5 @@
 -- The first that classes give from one upward along superclasses, as a loop finds it.
-use Rattle.std.proofs.Common.{◌≡◌, ℕ, zero, suc, ◌+◌, ◌-◌, ◌<◌, ◌≤◌, List, [], ◌∷◌, length, Option, Some, None, refl, sym, ◌∙◌, ap, arith}
+use Rattle.std.proofs.Common.{◌≡◌, ℕ, zero, suc, ◌+◌, ◌-◌, ◌<◌, ◌≤◌, List, [], ◌∷◌, length, Option, Some, None, refl, ◌∙◌, ap, arith}
 use Rattle.app_model.specs.declared.app.App.{App}
 use Rattle.app_model.specs.declared.app.Class.{Class}
 use Rattle.app_model.specs.Members.{first_given}

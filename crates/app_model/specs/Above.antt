@@ -1,5 +1,5 @@
 -- What is asked of the app classes and interfaces above a class.
-use Rattle.std.specs.Prelude.{ℕ, Bool, ◌&&◌, ◌||◌, List}
+use Rattle.std.specs.Prelude.{Bool, ◌&&◌, ◌||◌, List}
 use Rattle.std.specs.List.{list_any}
 use Rattle.app_model.specs.declared.call.Proto.{Proto}
 use Rattle.app_model.specs.declared.app.App.{App}

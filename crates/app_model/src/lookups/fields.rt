@@ -34,7 +34,10 @@ fn compare_key(key: &Key, class: &[u8], name: &[u8], kind: &[u8]) -> Ordering
 {
     match key {
         Key::Elem => compare_parts((b"", b"", b""), (class, name, kind)),
-        Key::Field(of, field, is) => compare_parts((of.as_bytes(), field.as_bytes(), is.as_bytes()), (class, name, kind)),
+        Key::Field(of, field, is) => compare_parts(
+            (of.as_bytes(), field.as_bytes(), is.as_bytes()),
+            (class, name, kind),
+        ),
     }
 }
 

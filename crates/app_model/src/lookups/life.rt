@@ -50,7 +50,12 @@ static SERVICE: [EventRow; 7] = [
     row!(0, "<init>", "()V", 1),
     row!(1, "onCreate", "()V", 2),
     row!(2, "onStartCommand", "(Landroid/content/Intent;II)I", 2),
-    row!(2, "onBind", "(Landroid/content/Intent;)Landroid/os/IBinder;", 2),
+    row!(
+        2,
+        "onBind",
+        "(Landroid/content/Intent;)Landroid/os/IBinder;",
+        2
+    ),
     row!(2, "onUnbind", "(Landroid/content/Intent;)Z", 2),
     row!(2, "onRebind", "(Landroid/content/Intent;)V", 2),
     row!(2, "onDestroy", "()V", 0),
@@ -58,5 +63,10 @@ static SERVICE: [EventRow; 7] = [
 
 static RECEIVER: [EventRow; 2] = [
     row!(0, "<init>", "()V", 1),
-    row!(1, "onReceive", "(Landroid/content/Context;Landroid/content/Intent;)V", 0),
+    row!(
+        1,
+        "onReceive",
+        "(Landroid/content/Context;Landroid/content/Intent;)V",
+        0
+    ),
 ];

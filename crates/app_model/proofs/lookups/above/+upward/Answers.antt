@@ -1,7 +1,4 @@
-use Rattle.std.proofs.Common.{refl, sym, ◌∙◌, ◌-◌, true, false, ◌≡◌}
-use Rattle.std.specs.Prelude.{flat_map, option_to_list}
-use Rattle.std.specs.List.{list_any}
-use Rattle.app_model.specs.Lookups.{above_within}
+use Rattle.std.proofs.Common.{refl, sym, ◌∙◌}
 use Rattle.app_model.specs.Above.{has}
 use Rattle.app_model.proofs.Above.{any_at, any_in_order, first_is_true, first_is_false}
 use Rattle.app_model.proofs.lookups.above.+upward.Goals as goal

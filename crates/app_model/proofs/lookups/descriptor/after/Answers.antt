@@ -1,4 +1,4 @@
-use Rattle.std.proofs.Common.{sym, ◌∙◌, [], ◌∷◌, ◌++◌, length, arith}
+use Rattle.std.proofs.Common.{sym, ◌∙◌, ◌++◌, arith}
 use Rattle.app_model.specs.Names.{joined}
 use Rattle.app_model.specs.DescriptorText.{later_parts, text_left}
 use Rattle.app_model.proofs.Descriptors.{no_text, ends_first, differs_on, alike_further, alike_part}

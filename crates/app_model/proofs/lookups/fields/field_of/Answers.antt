@@ -16,4 +16,4 @@ pub returns-in-Err : goal.returns-in-Err
 returns-in-Err c =
     let position = c.in-Err.ensures.position (λ (k : Key). field_order (field_key k) (c.args.class.now, c.args.name.now, c.args.kind.now)) (always_returns_same _ _ _ (λ a r g k. search rules)) in
     sym (field_missing c.args.class.now c.args.name.now c.args.kind.now c.args.app.now.keys c.requires.fields c.requires.keys c.requires.fields_order c.in-Err.field-0 (rw (← c.field_keys-fields.ensures) c.in-Err.ensures.bound)
-      (subst (λ ks. IsBinarySearchResult (λ (k : Key). field_order (field_key k) (c.args.class.now, c.args.name.now, c.args.kind.now)) ks (Err c.in-Err.field-0)) c.field_keys-fields.ensures position))
+    (subst (λ ks. IsBinarySearchResult (λ (k : Key). field_order (field_key k) (c.args.class.now, c.args.name.now, c.args.kind.now)) ks (Err c.in-Err.field-0)) c.field_keys-fields.ensures position))

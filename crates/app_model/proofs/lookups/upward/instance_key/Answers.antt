@@ -1,4 +1,4 @@
-use Rattle.std.proofs.Common.{sym, ◌∙◌}
+use Rattle.std.proofs.Common.{sym}
 use Rattle.app_model.proofs.Fields.{key_found, key_of_all}
 use Rattle.app_model.proofs.lookups.upward.instance_key.Goals as goal
 
