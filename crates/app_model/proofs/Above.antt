@@ -37,7 +37,7 @@ any_at app name c p (suc n) some there =
     ∙ (ap (λ b. p c || b) (flat_append (above_within n app.classes) p (option_to_list c.superclass) c.interfaces)
     ∙ ap (λ m. p c || (list_any p (flat_map (above_within m app.classes) (option_to_list c.superclass)) || list_any p (flat_map (above_within m app.classes) c.interfaces))) (sym less))
 
-slice_of_option : {A : Type 0} (o : Option A) (xs : List A) → MatchOption o (xs ≡ []) (λ x. xs ≡ x ∷ []) → xs ≡ option_to_list o
+pub slice_of_option : {A : Type 0} (o : Option A) (xs : List A) → MatchOption o (xs ≡ []) (λ x. xs ≡ x ∷ []) → xs ≡ option_to_list o
 slice_of_option None xs is = is
 slice_of_option (Some x) xs is = is
 

@@ -6,6 +6,8 @@ pub mod Fields
 pub mod Elements
 pub mod First
 pub mod Halving
+pub mod Marked
+pub mod Searches
 pub mod Methods
 pub mod NameOrder
 pub mod Reach

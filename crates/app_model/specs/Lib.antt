@@ -9,7 +9,9 @@ pub mod LibraryWalk
 pub mod LifeEvents
 pub mod Local
 pub mod Lookups
+pub mod Marks
 pub mod Members
+pub mod Met
 pub mod Names
 pub mod Run
 pub mod Safe

@@ -7,6 +7,7 @@ mod equality;
 mod fields;
 mod library;
 mod life;
+mod marks;
 mod methods;
 mod targets;
 mod upward;

@@ -1,13 +1,16 @@
-ghost use Rattle.std.specs.Prelude.{◌≡◌, ◌↔◌, IsTrue, flat_map};
+ghost use Rattle.std.specs.Prelude.{◌≡◌, ◌≤◌, ◌↔◌, [], ◌∷◌, IsTrue, flat_map, length};
 ghost use Rattle.std.specs.List.{list_any};
 ghost use Rattle.app_model.specs.Lookups.{above_within, all_above};
+ghost use Rattle.app_model.specs.Marks.{is_marked};
+ghost use Rattle.app_model.specs.Met.{Adds};
 ghost use Rattle.app_model.specs.Sound.{SoundApp};
 ghost use Rattle.app_model.specs.Summaries.{Below};
 ghost use Rattle.app_model.specs.Above.{has, any_listed_below, has_bare, has_below, is_below};
 
-use crate::lookups::classes::class_of;
+use crate::lookups::classes::{class_of, number_of};
 use crate::lookups::equality::is_same_proto;
 use crate::lookups::library::{is_listed_below, object_name};
+use crate::lookups::marks::{Marks, ROOM};
 use crate::{App, Class, Lists, Proto};
 use vet_base::Name;
 
@@ -40,9 +43,75 @@ fn is_below(app: &App, lists: &Lists, class: &[u8], kind: &[u8]) -> bool
         || any_above(app, class, Quality::Below(lists, kind))
 }
 
-/// Whether the class, or an app class or interface above it, has the quality.
-#[tactic(auto, unfolding(crate::specs::Lookups::all_above))]
+/// Whether the class, or an app class or interface above it, has the quality. Each class is asked
+/// once, where they are few enough to be marked.
 pub(super) fn any_above(app: &App, class: &[u8], quality: Quality) -> bool
+    requires { SoundApp app.now }
+    ensures { result ≡ list_any (has quality.entry) (all_above app.now class.now) }
+{
+    if app.classes.len() <= ROOM {
+        any_marked(app, class, quality)
+    } else {
+        any_by_all_ways(app, class, quality)
+    }
+}
+
+/// The same, class by class: those that were met are marked, and those that wait for their turn.
+fn any_marked(app: &App, class: &[u8], quality: Quality) -> bool
+    requires sound { SoundApp app.now }
+    requires room { length app.now.classes ≤ 131072 }
+    ensures { result ≡ list_any (has quality.entry) (all_above app.now class.now) }
+{
+    let mut seen = Marks::new();
+    let mut waiting = Marks::new();
+    add(app, class, &mut seen, &mut waiting);
+    for _turn in 0..app.classes.len() + 1 {
+        let Some(i) = waiting.first() else {
+            return false;
+        };
+        waiting.remove(i);
+        let class = app.classes.at(i);
+        if has(class, quality) {
+            return true;
+        }
+        add_each(app, class.superclass.as_slice(), &mut seen, &mut waiting);
+        add_each(app, class.interfaces.as_slice(), &mut seen, &mut waiting);
+    }
+    // not reached, since each class waits once
+    any_by_all_ways(app, class, quality)
+}
+
+/// Adds the classes of these names to those that wait, where they were not seen.
+fn add_each(app: &App, names: &[Name], seen: &mut Marks, waiting: &mut Marks)
+    requires sound { SoundApp app.now }
+    requires room { length app.now.classes ≤ 131072 }
+    ensures { Adds app.now names.now (is_marked seen.old.words) (is_marked waiting.old.words) (is_marked seen.new.words) (is_marked waiting.new.words) }
+{
+    for name in names {
+        add(app, name.as_bytes(), seen, waiting);
+    }
+}
+
+/// Adds the class of the name to those that wait, where it was not seen.
+#[tactic(auto, using(crate::proofs::Searches::adds_no_class, crate::proofs::Searches::adds_seen, crate::proofs::Searches::adds_found))]
+fn add(app: &App, name: &[u8], seen: &mut Marks, waiting: &mut Marks)
+    requires sound { SoundApp app.now }
+    requires room { length app.now.classes ≤ 131072 }
+    ensures { Adds app.now (name.now ∷ []) (is_marked seen.old.words) (is_marked waiting.old.words) (is_marked seen.new.words) (is_marked waiting.new.words) }
+{
+    let Some(i) = number_of(app, name) else {
+        return;
+    };
+    if seen.has(i) {
+        return;
+    }
+    seen.insert(i);
+    waiting.insert(i);
+}
+
+/// The same by every way upward, and as often as ways lead to a class.
+#[tactic(auto, unfolding(crate::specs::Lookups::all_above))]
+fn any_by_all_ways(app: &App, class: &[u8], quality: Quality) -> bool
     requires { SoundApp app.now }
     ensures { result ≡ list_any (has quality.entry) (all_above app.now class.now) }
 {
