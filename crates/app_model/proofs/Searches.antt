@@ -32,13 +32,17 @@ module _ (app : App) where
 
   -- first these names, and then those
   pub adds_both : (xs ys : List Name) (s w s1 w1 s2 w2 : ℕ → Bool) → Adds app xs s w s1 w1 → Adds app ys s1 w1 s2 w2 → Adds app (xs ++ ys) s w s2 w2
-  adds_both xs ys s w s1 w1 s2 w2 first then = record {
-    kept = λ j at. then.kept j (first.kept j at);
-    settled = λ name is_in. elim (in_either name xs ys is_in) [ inl front ↦ settled_on s1 s2 then.kept name (first.settled name front) | inr back ↦ then.settled name back ];
-    comes = λ j at. elim (then.comes j at) [ inl before ↦ elim (first.comes j before) [ inl old ↦ inl old | inr is ↦ inr (numbered_front xs ys j is) ] | inr is ↦ inr (numbered_back xs ys j is) ];
-    waits = λ j at. elim (then.waits j at) [ inl before ↦ elim (first.waits j before) [ inl old ↦ inl old | inr seen ↦ inr (then.kept j seen) ] | inr seen ↦ inr seen ];
-    rest = λ j at free. let before = then.rest j at free in first.rest j before.0 before.1;
+  adds_both xs ys s w s1 w1 s2 w2 first after = record {
+    kept = λ j at. after.kept j (first.kept j at);
+    settled = λ name is_in. elim (in_either name xs ys is_in) [ inl front ↦ settled_on s1 s2 after.kept name (first.settled name front) | inr back ↦ after.settled name back ];
+    comes = λ j at. elim (after.comes j at) [ inl before ↦ elim (first.comes j before) [ inl old ↦ inl old | inr is ↦ inr (numbered_front xs ys j is) ] | inr is ↦ inr (numbered_back xs ys j is) ];
+    waits = λ j at. elim (after.waits j at) [ inl before ↦ elim (first.waits j before) [ inl old ↦ inl old | inr new ↦ inr (new.0, after.kept j new.1) ] | inr new ↦ inr (not_before j (s j) refl new.0, new.1) ];
+    rest = λ j at free. let before = after.rest j at free in first.rest j before.0 before.1;
   }
+    where
+      not_before : (j : ℕ) (b : Bool) → s j ≡ b → s1 j ≡ false → b ≡ false
+      not_before j true is fails = let both : true ≡ false = sym (first.kept j is) ∙ fails in absurd (cc)
+      not_before j false is fails = refl
 
   -- no class has the name
   pub adds_no_class : (name : Name) (seen waiting : ℕ → Bool) → class_named app name ≡ None → Adds app (name ∷ []) seen waiting seen waiting
@@ -65,9 +69,9 @@ module _ (app : App) where
   }
 
   -- its class was not seen
-  pub adds_new : (name : Name) (i : ℕ) (c : Class) (seen waiting new_seen new_waiting : ℕ → Bool) → slice_get app.classes i ≡ Some c → class_named app name ≡ Some c →
+  pub adds_new : (name : Name) (i : ℕ) (c : Class) (seen waiting new_seen new_waiting : ℕ → Bool) → slice_get app.classes i ≡ Some c → class_named app name ≡ Some c → seen i ≡ false →
       ((j : ℕ) → new_seen j ≡ ((j == i) || seen j)) → ((j : ℕ) → new_waiting j ≡ ((j == i) || waiting j)) → Adds app (name ∷ []) seen waiting new_seen new_waiting
-  adds_new name i c seen waiting new_seen new_waiting at_i there sees awaits = record {
+  adds_new name i c seen waiting new_seen new_waiting at_i there unseen sees awaits = record {
     kept = λ j at. sees j ∙ second (j == i) (seen j) at;
     settled = settles_one name i new_seen (at_i ∙ sym there) (sees i ∙ ap (λ b. b || seen i) (eq-eqb i i refl));
     comes = λ j at. elim (cases_eq j i) [
@@ -75,7 +79,7 @@ module _ (app : App) where
       | inr other ↦ inl (sym (ap (λ b. b || seen j) (ne_eqb j i other)) ∙ (sym (sees j) ∙ at))
       ];
     waits = λ j at. elim (cases_eq j i) [
-      | inl same ↦ inr (sees j ∙ ap (λ b. b || seen j) (eq-eqb j i same))
+      | inl same ↦ inr (ap (λ k. seen k) same ∙ unseen, sees j ∙ ap (λ b. b || seen j) (eq-eqb j i same))
       | inr other ↦ inl (sym (ap (λ b. b || waiting j) (ne_eqb j i other)) ∙ (sym (awaits j) ∙ at))
       ];
     rest = λ j at free. elim (cases_eq j i) [
@@ -126,7 +130,7 @@ module _ (app : App) (p : Class → Bool) (name : Name) where
   search_begins seen waiting new_seen new_waiting unseen none_waits adds = record {
     start = adds.settled name (inl refl);
     met = λ j at. elim (adds.comes j at) [ inl old ↦ absurd (never j old) | inr is ↦ first_met j is ];
-    waits = λ j at. elim (adds.waits j at) [ inl old ↦ let both : true ≡ false = sym old ∙ none_waits j in absurd (cc) | inr seen ↦ seen ];
+    waits = λ j at. elim (adds.waits j at) [ inl old ↦ let both : true ≡ false = sym old ∙ none_waits j in absurd (cc) | inr new ↦ new.1 ];
     done = λ j c at seen_j free. absurd (never j (adds.rest j seen_j free).0);
   }
     where
@@ -186,7 +190,7 @@ module _ (app : App) (p : Class → Bool) (name : Name) where
       search_goes_on fails left s2 w2 leaves adds = record {
         start = settled_on app seen s2 adds.kept name search.start;
         met = λ j at. elim (adds.comes j at) [ inl old ↦ search.met j old | inr is ↦ record { class = is.class; at = is.at; steps = suc c_met.0; met = further app c_met.0 name is.name c is.class c_met.1 is.is_one is.there } ];
-        waits = λ j at. elim (adds.waits j at) [ inl old ↦ adds.kept j (search.waits j (second (not (j == i)) (waiting j) (sym (leaves j) ∙ old))) | inr now ↦ now ];
+        waits = λ j at. elim (adds.waits j at) [ inl old ↦ adds.kept j (search.waits j (second (not (j == i)) (waiting j) (sym (leaves j) ∙ old))) | inr new ↦ new.1 ];
         done = λ j d at seen_j free. let old = adds.rest j seen_j free in elim (cases_eq j i) [
           | inl same ↦ let is_c : c ≡ d = same_Some c d (sym at_i ∙ (ap (λ k. slice_get app.classes k) (sym same) ∙ at)) in
               (ap p (sym is_c) ∙ fails, λ a up. adds.settled a (subst (λ (x : Class). In a (directly_above x)) (sym is_c) up))
@@ -206,15 +210,98 @@ pub goes_on_by : (app : App) (p : Class → Bool) (name : Name) (seen waiting : 
     (i : ℕ) → waiting i ≡ true → (c : Class) → slice_get app.classes i ≡ Some c → p c ≡ false → (left s1 w1 s2 w2 : ℕ → Bool) → ((j : ℕ) → left j ≡ (not (j == i) && waiting j)) →
     (superclass interfaces : List Name) → MatchOption c.superclass (superclass ≡ []) (λ x. superclass ≡ x ∷ []) → interfaces ≡ c.interfaces →
     Adds app superclass seen left s1 w1 → Adds app interfaces s1 w1 s2 w2 → Searched app p name s2 w2
-goes_on_by app p name seen waiting search no_circle i waits_i c at_i fails left s1 w1 s2 w2 leaves superclass interfaces is are first then =
-    let both : Adds app (superclass ++ interfaces) seen left s2 w2 = adds_both app superclass interfaces seen left s1 w1 s2 w2 first then in
+goes_on_by app p name seen waiting search no_circle i waits_i c at_i fails left s1 w1 s2 w2 leaves superclass interfaces is are first after =
+    let both : Adds app (superclass ++ interfaces) seen left s2 w2 = adds_both app superclass interfaces seen left s1 w1 s2 w2 first after in
     let names : superclass ++ interfaces ≡ directly_above c = ap (λ xs. xs ++ interfaces) (slice_of_option c.superclass superclass is) ∙ ap (λ ys. option_to_list c.superclass ++ ys) are in
     search_goes_on app p name seen waiting search no_circle i waits_i c at_i fails left s2 w2 leaves (subst (λ xs. Adds app xs seen left s2 w2) names both)
 
 -- a class that halving found, and that was not seen
-pub adds_found : (app : App) (name : Name) (i : ℕ) (seen waiting new_seen new_waiting : ℕ → Bool) → i < length app.classes → slice_get app.classes i ≡ class_named app name →
+pub adds_found : (app : App) (name : Name) (i : ℕ) (seen waiting new_seen new_waiting : ℕ → Bool) → i < length app.classes → slice_get app.classes i ≡ class_named app name → seen i ≡ false →
     ((j : ℕ) → new_seen j ≡ ((j == i) || seen j)) → ((j : ℕ) → new_waiting j ≡ ((j == i) || waiting j)) → Adds app (name ∷ []) seen waiting new_seen new_waiting
-adds_found app name i seen waiting new_seen new_waiting within is sees awaits =
+adds_found app name i seen waiting new_seen new_waiting within is unseen sees awaits =
     let at : (c : Class) × (c ≡ get_or app.classes i c) = element_at app.classes i within in
     let there : slice_get app.classes i ≡ Some at.0 = slice_get_read app.classes (length app.classes) i at.0 refl within at.1 in
-    adds_new app name i at.0 seen waiting new_seen new_waiting there (sym is ∙ there) sees awaits
+    adds_new app name i at.0 seen waiting new_seen new_waiting there (sym is ∙ there) unseen sees awaits
+
+weight : Bool → ℕ
+weight true = 0
+weight false = 1
+
+-- how many of the first n are not done: they were not seen, or wait
+pub undone : ℕ → (ℕ → Bool) → (ℕ → Bool) → ℕ
+undone zero seen waiting = 0
+undone (suc n) seen waiting = weight (seen n && not (waiting n)) + undone n seen waiting
+
+-- what is done stays done
+Stays : (s w s2 w2 : ℕ → Bool) → Type 0
+Stays s w s2 w2 = (j : ℕ) → (s j && not (w j)) ≡ true → (s2 j && not (w2 j)) ≡ true
+
+at_most : (a b : Bool) → (a ≡ true → b ≡ true) → weight b ≤ weight a
+unfolding weight
+at_most true true stays = omega arith
+at_most true false stays = let clash : false ≡ true = stays refl in absurd (cc)
+at_most false true stays = omega arith
+at_most false false stays = omega arith
+
+no_more_undone : (n : ℕ) (s w s2 w2 : ℕ → Bool) → Stays s w s2 w2 → undone n s2 w2 ≤ undone n s w
+unfolding undone Stays
+no_more_undone zero s w s2 w2 stays = omega arith
+no_more_undone (suc n) s w s2 w2 stays =
+    let here : weight (s2 n && not (w2 n)) ≤ weight (s n && not (w n)) = at_most (s n && not (w n)) (s2 n && not (w2 n)) (stays n) in
+    let rest : undone n s2 w2 ≤ undone n s w = no_more_undone n s w s2 w2 stays in
+    omega arith
+
+stays_at : (j : ℕ) (s w s2 w2 : ℕ → Bool) → Stays s w s2 w2 → (s j && not (w j)) ≡ true → (s2 j && not (w2 j)) ≡ true
+unfolding Stays
+stays_at j s w s2 w2 stays = stays j
+
+fewer_undone : (n i : ℕ) (s w s2 w2 : ℕ → Bool) → Stays s w s2 w2 → i < n → (s i && not (w i)) ≡ false → (s2 i && not (w2 i)) ≡ true → undone n s2 w2 < undone n s w
+unfolding undone weight
+fewer_undone zero i s w s2 w2 stays below before now = absurd (omega arith)
+fewer_undone (suc n) i s w s2 w2 stays below before now = elim (cases_eq i n) [
+  | inl same ↦
+      let was : weight (s n && not (w n)) ≡ 1 = ap weight (ap (λ k. s k && not (w k)) (sym same) ∙ before) in
+      let is : weight (s2 n && not (w2 n)) ≡ 0 = ap weight (ap (λ k. s2 k && not (w2 k)) (sym same) ∙ now) in
+      let rest : undone n s2 w2 ≤ undone n s w = no_more_undone n s w s2 w2 stays in
+      rw (was, is) (omega arith)
+  | inr other ↦
+      let here : weight (s2 n && not (w2 n)) ≤ weight (s n && not (w n)) = here_at_most n s w s2 w2 stays in
+      let rest : undone n s2 w2 < undone n s w = fewer_undone n i s w s2 w2 stays (omega arith) before now in
+      omega arith
+  ]
+  where
+    here_at_most : (n : ℕ) (s w s2 w2 : ℕ → Bool) → Stays s w s2 w2 → weight (s2 n && not (w2 n)) ≤ weight (s n && not (w n))
+    here_at_most n s w s2 w2 stays = at_most (s n && not (w n)) (s2 n && not (w2 n)) (stays_at n s w s2 w2 stays)
+
+-- a turn leaves fewer that are not done
+pub turn_takes_one : (app : App) (i : ℕ) (xs ys : List Name) (s w left s1 w1 s2 w2 : ℕ → Bool) → i < 131072 → s i ≡ true → w i ≡ true → ((j : ℕ) → left j ≡ (not (j == i) && w j)) → Adds app xs s left s1 w1 → Adds app ys s1 w1 s2 w2 → undone 131072 s2 w2 < undone 131072 s w
+unfolding Stays
+turn_takes_one app i xs ys s w left s1 w1 s2 w2 below seen_i waits_i leaves first after =
+    let both : Adds app (xs ++ ys) s left s2 w2 = adds_both app xs ys s left s1 w1 s2 w2 first after in
+    fewer_undone 131072 i s w s2 w2 (λ j done. stays both j (s j) (w j) refl refl done) below (was_waiting (s i) (w i) waits_i) (both_so (s2 i) (w2 i) (both.kept i seen_i) (idle both i seen_i (w2 i) refl left_i))
+  where
+    left_i : left i ≡ false
+    left_i = leaves i ∙ ap (λ b. not b && w i) (eq-eqb i i refl)
+
+    was_waiting : (a b : Bool) → b ≡ true → (a && not b) ≡ false
+    was_waiting true true e = refl
+    was_waiting false b e = refl
+    was_waiting true false e = absurd (cc)
+
+    both_so : (a b : Bool) → a ≡ true → b ≡ false → (a && not b) ≡ true
+    both_so true false e f = refl
+    both_so true true e f = absurd (cc)
+    both_so false b e f = absurd (cc)
+
+    idle : Adds app (xs ++ ys) s left s2 w2 → (j : ℕ) → s j ≡ true → (b : Bool) → w2 j ≡ b → left j ≡ false → b ≡ false
+    idle both j seen_j true is free = elim (both.waits j is) [ inl old ↦ let clash : true ≡ false = sym old ∙ free in absurd (cc) | inr new ↦ let clash : true ≡ false = sym seen_j ∙ new.0 in absurd (cc) ]
+    idle both j seen_j false is free = refl
+
+    stays : Adds app (xs ++ ys) s left s2 w2 → (j : ℕ) (a b : Bool) → s j ≡ a → w j ≡ b → (a && not b) ≡ true → (s2 j && not (w2 j)) ≡ true
+    stays both j true false is_a is_b done = both_so (s2 j) (w2 j) (both.kept j is_a) (idle both j is_a (w2 j) refl (leaves j ∙ (ap (λ b. not (j == i) && b) is_b ∙ never (not (j == i)))))
+      where
+        never : (b : Bool) → (b && false) ≡ false
+        never true = refl
+        never false = refl
+    stays both j true true is_a is_b done = absurd (cc)
+    stays both j false b is_a is_b done = absurd (cc)

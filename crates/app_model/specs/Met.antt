@@ -23,5 +23,5 @@ pub record Adds (app : App) (names : List Name) (seen waiting new_seen new_waiti
   pub kept : (j : ℕ) → seen j ≡ true → new_seen j ≡ true
   pub settled : (name : Name) → In name names → Settled app new_seen name
   pub comes : (j : ℕ) → new_seen j ≡ true → (seen j ≡ true) ⊎ IsNumbered app names j
-  pub waits : (j : ℕ) → new_waiting j ≡ true → (waiting j ≡ true) ⊎ (new_seen j ≡ true)
+  pub waits : (j : ℕ) → new_waiting j ≡ true → (waiting j ≡ true) ⊎ ((seen j ≡ false) × (new_seen j ≡ true))
   pub rest : (j : ℕ) → new_seen j ≡ true → new_waiting j ≡ false → (seen j ≡ true) × (waiting j ≡ false)

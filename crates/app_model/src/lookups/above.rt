@@ -65,10 +65,7 @@ fn any_marked(app: &App, class: &[u8], quality: Quality) -> bool
     let mut seen = Marks::new();
     let mut waiting = Marks::new();
     add(app, class, &mut seen, &mut waiting);
-    for _turn in 0..app.classes.len() + 1 {
-        let Some(i) = waiting.first() else {
-            return false;
-        };
+    while let Some(i) = waiting.first() {
         waiting.remove(i);
         let class = app.classes.at(i);
         if has(class, quality) {
@@ -77,8 +74,7 @@ fn any_marked(app: &App, class: &[u8], quality: Quality) -> bool
         add_each(app, class.superclass.as_slice(), &mut seen, &mut waiting);
         add_each(app, class.interfaces.as_slice(), &mut seen, &mut waiting);
     }
-    // not reached, since each class waits once
-    any_by_all_ways(app, class, quality)
+    false
 }
 
 /// Adds the classes of these names to those that wait, where they were not seen.
