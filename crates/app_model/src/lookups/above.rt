@@ -45,10 +45,15 @@ fn is_below(app: &App, lists: &Lists, class: &[u8], kind: &[u8]) -> bool
 
 /// Whether the class, or an app class or interface above it, has the quality. Each class is asked
 /// once, where they are few enough to be marked.
+#[tactic(auto, unfolding(crate::specs::Lookups::all_above), using(crate::proofs::Above::any_outside))]
 pub(super) fn any_above(app: &App, class: &[u8], quality: Quality) -> bool
     requires { SoundApp app.now }
     ensures { result ≡ list_any (has quality.entry) (all_above app.now class.now) }
 {
+    // most classes are not of the app, and for those no marks are set up
+    if number_of(app, class).is_none() {
+        return false;
+    }
     if app.classes.len() <= ROOM {
         any_marked(app, class, quality)
     } else {
@@ -56,7 +61,8 @@ pub(super) fn any_above(app: &App, class: &[u8], quality: Quality) -> bool
     }
 }
 
-/// The same, class by class: those that were met are marked, and those that wait for their turn.
+/// The same, class by class, with marks for those that were met and those that wait for their turn.
+/// A turn costs the halving for each class directly above.
 fn any_marked(app: &App, class: &[u8], quality: Quality) -> bool
     requires sound { SoundApp app.now }
     requires room { length app.now.classes ≤ 131072 }
@@ -105,7 +111,8 @@ fn add(app: &App, name: &[u8], seen: &mut Marks, waiting: &mut Marks)
     waiting.insert(i);
 }
 
-/// The same by every way upward, and as often as ways lead to a class.
+/// The same for more classes than can be marked: by every way upward, so that a class is asked as
+/// often as ways lead to it.
 #[tactic(auto, unfolding(crate::specs::Lookups::all_above))]
 fn any_by_all_ways(app: &App, class: &[u8], quality: Quality) -> bool
     requires { SoundApp app.now }
