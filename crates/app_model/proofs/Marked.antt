@@ -1,9 +1,9 @@
 -- Marks: what a change of one bit of one word leaves.
-use Rattle.std.proofs.Common.{◌≡◌, ◌≢◌, ℕ, ◌+◌, ◌*◌, ◌/◌, ◌%◌, ◌<◌, ◌≤◌, Bool, true, false, ◌||◌, List, length, get_or, set, refl, sym, ◌∙◌, ap, subst, ◌⊎◌, inl, inr, arith, eq-eqb}
-use Rattle.std.specs.Prelude.{◌==◌, ◌&&◌, not, replicate}
+use Rattle.std.proofs.Common.{◌≡◌, ◌≢◌, ℕ, ◌+◌, ◌*◌, ◌/◌, ◌%◌, ◌<◌, true, false, ◌||◌, List, length, get_or, set, refl, sym, ◌∙◌, ap, inl, inr, arith, eq-eqb}
+use Rattle.std.specs.Prelude.{◌==◌, ◌&&◌, not}
 use Rattle.std.specs.Int.{bit_at}
 use Rattle.std.proofs.lemmas.Bool.{cases_eq, cases_lt, ne_eqb}
-use Rattle.std.proofs.lemmas.List.{get_or-set_same, get_or-set_other, get_or-replicate, get_or_past}
+use Rattle.std.proofs.lemmas.List.{get_or-set_same, get_or-set_other, get_or_past}
 use Rattle.std.proofs.lemmas.Nat.Bits.{bit_at-zero}
 use Rattle.app_model.specs.Marks.{is_marked}
 
@@ -28,19 +28,19 @@ module _ (words : List ℕ) (i v : ℕ) (within : i / 64 < length words) where
   marked_by here others j = elim (cases_eq (j / 64) (i / 64)) [
     | inr other ↦ in_other_word j other ∙ ap (λ b. b || is_marked words j) (sym (ne_eqb j i (λ same. other (ap (λ n. n / 64) same))))
     | inl word ↦ elim (cases_eq (j % 64) (i % 64)) [
-        | inl bit ↦ in_the_word j word ∙ (ap (λ b. b == 1) (ap (λ k. bit_at v k) bit ∙ here) ∙ ap (λ b. b || is_marked words j) (sym (eq-eqb j i (same_place i j word bit))))
-        | inr apart ↦ in_the_word j word ∙ (as_before j word (others (j % 64) apart) ∙ ap (λ b. b || is_marked words j) (sym (ne_eqb j i (λ same. apart (ap (λ n. n % 64) same)))))
-        ]
+      | inl bit ↦ in_the_word j word ∙ (ap (λ b. b == 1) (ap (λ k. bit_at v k) bit ∙ here) ∙ ap (λ b. b || is_marked words j) (sym (eq-eqb j i (same_place i j word bit))))
+      | inr apart ↦ in_the_word j word ∙ (as_before j word (others (j % 64) apart) ∙ ap (λ b. b || is_marked words j) (sym (ne_eqb j i (λ same. apart (ap (λ n. n % 64) same)))))
     ]
+  ]
 
   pub unmarked_by : bit_at v (i % 64) ≡ 0 → ((k : ℕ) → k < 64 → k ≢ i % 64 → bit_at v k ≡ bit_at (get_or words (i / 64) 0) k) → (j : ℕ) → is_marked (set words (i / 64) v) j ≡ (not (j == i) && is_marked words j)
   unmarked_by here others j = elim (cases_eq (j / 64) (i / 64)) [
     | inr other ↦ in_other_word j other ∙ ap (λ b. not b && is_marked words j) (sym (ne_eqb j i (λ same. other (ap (λ n. n / 64) same))))
     | inl word ↦ elim (cases_eq (j % 64) (i % 64)) [
-        | inl bit ↦ in_the_word j word ∙ (ap (λ b. b == 1) (ap (λ k. bit_at v k) bit ∙ here) ∙ ap (λ b. not b && is_marked words j) (sym (eq-eqb j i (same_place i j word bit))))
-        | inr apart ↦ in_the_word j word ∙ (as_before j word (others (j % 64) (omega arith) apart) ∙ ap (λ b. not b && is_marked words j) (sym (ne_eqb j i (λ same. apart (ap (λ n. n % 64) same)))))
-        ]
+      | inl bit ↦ in_the_word j word ∙ (ap (λ b. b == 1) (ap (λ k. bit_at v k) bit ∙ here) ∙ ap (λ b. not b && is_marked words j) (sym (eq-eqb j i (same_place i j word bit))))
+      | inr apart ↦ in_the_word j word ∙ (as_before j word (others (j % 64) (omega arith) apart) ∙ ap (λ b. not b && is_marked words j) (sym (ne_eqb j i (λ same. apart (ap (λ n. n % 64) same)))))
     ]
+  ]
 
 unmarked_word : (words : List ℕ) (j : ℕ) → get_or words (j / 64) 0 ≡ 0 → is_marked words j ≡ false
 unfolding is_marked
@@ -50,7 +50,7 @@ pub none_marked : (words : List ℕ) → ((k : ℕ) → k < length words → get
 none_marked words nothing j = elim (cases_lt (j / 64) (length words)) [
   | inl within ↦ unmarked_word words j (nothing (j / 64) within)
   | inr past ↦ unmarked_word words j (get_or_past words (j / 64) 0 past)
-  ]
+]
 
 pub is_marked_at : (words : List ℕ) (at bit : ℕ) → bit < 64 → bit_at (get_or words at 0) bit ≡ 1 → is_marked words (at * 64 + bit) ≡ true
 unfolding is_marked

@@ -1,5 +1,5 @@
 -- A search upward that takes each class once.
-use Rattle.std.proofs.Common.{◌≡◌, ◌≢◌, ℕ, zero, suc, ◌+◌, ◌<◌, ◌≤◌, Bool, true, false, ◌||◌, List, [], ◌∷◌, ◌++◌, length, get_or, Option, Some, None, refl, sym, ◌∙◌, ap, subst, ◌⊎◌, inl, inr, arith, eq-eqb}
+use Rattle.std.proofs.Common.{◌≡◌, ℕ, zero, suc, ◌+◌, ◌<◌, ◌≤◌, Bool, true, false, ◌||◌, List, [], ◌∷◌, ◌++◌, length, get_or, Option, Some, None, refl, sym, ◌∙◌, ap, subst, inl, inr, arith, eq-eqb}
 use Rattle.std.specs.Prelude.{◌==◌, ◌&&◌, not, slice_get, flat_map, option_to_list}
 use Rattle.std.specs.List.{list_any}
 use Rattle.std.proofs.lemmas.Bool.{cases_eq, ne_eqb}
@@ -49,7 +49,9 @@ module _ (app : App) where
   adds_no_class name seen waiting absent = record {
     kept = λ j at. at;
     settled = λ other is_in c there. no_class other is_in c there;
-    comes = λ j at. inl at; waits = λ j at. inl at; rest = λ j at free. (at, free);
+    comes = λ j at. inl at;
+    waits = λ j at. inl at;
+    rest = λ j at free. (at, free);
   }
     where
       no_class : (other : Name) → In other (name ∷ []) → (c : Class) → class_named app other ≡ Some c → (j : ℕ) × (slice_get app.classes j ≡ Some c) × (seen j ≡ true)
@@ -65,7 +67,9 @@ module _ (app : App) where
   adds_seen name i seen waiting is marked = record {
     kept = λ j at. at;
     settled = settles_one name i seen is marked;
-    comes = λ j at. inl at; waits = λ j at. inl at; rest = λ j at free. (at, free);
+    comes = λ j at. inl at;
+    waits = λ j at. inl at;
+    rest = λ j at free. (at, free);
   }
 
   -- its class was not seen
@@ -77,15 +81,15 @@ module _ (app : App) where
     comes = λ j at. elim (cases_eq j i) [
       | inl same ↦ inr (record { name = name; class = c; is_one = inl refl; there = there; at = ap (λ k. slice_get app.classes k) same ∙ at_i })
       | inr other ↦ inl (sym (ap (λ b. b || seen j) (ne_eqb j i other)) ∙ (sym (sees j) ∙ at))
-      ];
+    ];
     waits = λ j at. elim (cases_eq j i) [
       | inl same ↦ inr (ap (λ k. seen k) same ∙ unseen, sees j ∙ ap (λ b. b || seen j) (eq-eqb j i same))
       | inr other ↦ inl (sym (ap (λ b. b || waiting j) (ne_eqb j i other)) ∙ (sym (awaits j) ∙ at))
-      ];
+    ];
     rest = λ j at free. elim (cases_eq j i) [
       | inl same ↦ let waits : true ≡ false = sym (ap (λ b. b || waiting j) (eq-eqb j i same)) ∙ (sym (awaits j) ∙ free) in absurd (cc)
       | inr other ↦ (sym (ap (λ b. b || seen j) (ne_eqb j i other)) ∙ (sym (sees j) ∙ at), sym (ap (λ b. b || waiting j) (ne_eqb j i other)) ∙ (sym (awaits j) ∙ free))
-      ];
+    ];
   }
     where
       second : (a b : Bool) → b ≡ true → (a || b) ≡ true
@@ -198,7 +202,7 @@ module _ (app : App) (p : Class → Bool) (name : Name) where
               let idle : waiting j ≡ false = sym (ap (λ b. not b && waiting j) (ne_eqb j i other)) ∙ (sym (leaves j) ∙ old.1) in
               let before = search.done j d at old.0 idle in
               (before.0, λ a up. settled_on app seen s2 adds.kept a (before.1 a up))
-          ];
+        ];
       }
         where
           second : (a b : Bool) → (a && b) ≡ true → b ≡ true
@@ -268,7 +272,7 @@ fewer_undone (suc n) i s w s2 w2 stays below before now = elim (cases_eq i n) [
       let here : weight (s2 n && not (w2 n)) ≤ weight (s n && not (w n)) = here_at_most n s w s2 w2 stays in
       let rest : undone n s2 w2 < undone n s w = fewer_undone n i s w s2 w2 stays (omega arith) before now in
       omega arith
-  ]
+]
   where
     here_at_most : (n : ℕ) (s w s2 w2 : ℕ → Bool) → Stays s w s2 w2 → weight (s2 n && not (w2 n)) ≤ weight (s n && not (w n))
     here_at_most n s w s2 w2 stays = at_most (s n && not (w n)) (s2 n && not (w2 n)) (stays_at n s w s2 w2 stays)

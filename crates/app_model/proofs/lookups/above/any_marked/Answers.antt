@@ -1,4 +1,4 @@
-use Rattle.std.proofs.Common.{◌≡◌, ℕ, ◌<◌, Some, length, refl, sym, ◌∙◌}
+use Rattle.std.proofs.Common.{◌≡◌, ◌<◌, Some, length, refl, sym, ◌∙◌}
 use Rattle.std.specs.Prelude.{slice_get}
 use Rattle.std.proofs.lemmas.Option.{slice_get_read}
 use Rattle.app_model.specs.Above.{has}
@@ -24,15 +24,15 @@ loop-i-preserved c =
     let within : c.in-Some.i < length c.args.app.now.classes = waiting_is c.args.app.now (has c.args.quality) c.args.class.now (is_marked c.loop-i.seen.words) (is_marked c.loop-i.waiting.words) c.loop-i.invariant c.in-Some.i c.in-Some.ensures.1 in
     let at : slice_get c.args.app.now.classes c.in-Some.i ≡ Some c.at-class.result.now = slice_get_read c.args.app.now.classes (length c.args.app.now.classes) c.in-Some.i c.at-class.result.now refl within c.at-class.ensures in
     goes_on_by c.args.app.now (has c.args.quality) c.args.class.now (is_marked c.loop-i.seen.words) (is_marked c.loop-i.waiting.words) c.loop-i.invariant c.requires.sound.no_circle
-      c.in-Some.i c.in-Some.ensures.1 c.at-class.result.now at (sym c.has.ensures ∙ c.if-has.false)
-      (is_marked c.remove.new.self.words) (is_marked c.add_each.new.seen.words) (is_marked c.add_each.new.waiting.words) (is_marked c.add_each-in-Some.new.seen.words) (is_marked c.add_each-in-Some.new.waiting.words)
-      c.remove.ensures c.as_slice.result.now c.as_slice-in-Some.result.now c.as_slice.ensures c.as_slice-in-Some.ensures c.add_each.ensures c.add_each-in-Some.ensures
+    c.in-Some.i c.in-Some.ensures.1 c.at-class.result.now at (sym c.has.ensures ∙ c.if-has.false)
+    (is_marked c.remove.new.self.words) (is_marked c.add_each.new.seen.words) (is_marked c.add_each.new.waiting.words) (is_marked c.add_each-in-Some.new.seen.words) (is_marked c.add_each-in-Some.new.waiting.words)
+    c.remove.ensures c.as_slice.result.now c.as_slice-in-Some.result.now c.as_slice.ensures c.as_slice-in-Some.ensures c.add_each.ensures c.add_each-in-Some.ensures
 
 pub loop-i-smaller : goal.loop-i-smaller
 loop-i-smaller c =
     turn_takes_one c.args.app.now c.in-Some.i c.as_slice.result.now c.as_slice-in-Some.result.now (is_marked c.loop-i.seen.words) (is_marked c.loop-i.waiting.words)
-      (is_marked c.remove.new.self.words) (is_marked c.add_each.new.seen.words) (is_marked c.add_each.new.waiting.words) (is_marked c.add_each-in-Some.new.seen.words) (is_marked c.add_each-in-Some.new.waiting.words)
-      c.in-Some.ensures.0 (c.loop-i.invariant.waits c.in-Some.i c.in-Some.ensures.1) c.in-Some.ensures.1 c.remove.ensures c.add_each.ensures c.add_each-in-Some.ensures
+    (is_marked c.remove.new.self.words) (is_marked c.add_each.new.seen.words) (is_marked c.add_each.new.waiting.words) (is_marked c.add_each-in-Some.new.seen.words) (is_marked c.add_each-in-Some.new.waiting.words)
+    c.in-Some.ensures.0 (c.loop-i.invariant.waits c.in-Some.i c.in-Some.ensures.1) c.in-Some.ensures.1 c.remove.ensures c.add_each.ensures c.add_each-in-Some.ensures
 
 pub returns : goal.returns
 returns c = sym (search_ends c.args.app.now (has c.args.quality) c.args.class.now (is_marked c.loop-i.seen.words) (is_marked c.loop-i.waiting.words) c.loop-i.invariant c.in_default.ensures)

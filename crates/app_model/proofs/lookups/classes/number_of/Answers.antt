@@ -1,4 +1,4 @@
-use Rattle.std.proofs.Common.{rules, sym}
+use Rattle.std.proofs.Common.{rules}
 use Rattle.std.proofs.lemmas.Fn.{always_returns_same}
 use Rattle.app_model.specs.declared.app.Class.{Class}
 use Rattle.app_model.specs.Lookups.{class_named}

@@ -1,4 +1,4 @@
-use Rattle.std.proofs.Common.{rules, sym, ◌∙◌}
+use Rattle.std.proofs.Common.{sym, ◌∙◌}
 use Rattle.app_model.proofs.Marked.{has_mark}
 use Rattle.app_model.proofs.lookups.marks.Marks.has.Goals as goal
 

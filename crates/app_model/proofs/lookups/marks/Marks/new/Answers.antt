@@ -1,4 +1,4 @@
-use Rattle.std.proofs.Common.{ℕ, ◌<◌, replicate}
+use Rattle.std.proofs.Common.{replicate}
 use Rattle.std.proofs.lemmas.List.{get_or-replicate}
 use Rattle.app_model.proofs.Marked.{none_marked}
 use Rattle.app_model.proofs.lookups.marks.Marks.new.Goals as goal
