@@ -32,33 +32,64 @@ set_component components c new d = if d == c then new else components d
 abbrev pub after_event : LifeEvent → Option ℕ → Component_state
 after_event life place = record { state = life.to; place = if life.to == 0 then None else place }
 
+-- Event e in the life of component c, of this class: the body that runs, where there is one.
+pub record LifeEventAt (app : App) (c e : ℕ) (class : Name) (life : LifeEvent) (body : Option ℕ) : Type 0 where
+  pub component : Component
+  pub there : IsAt app.components c component
+  pub of_class : component.class ≡ class
+  pub is_event : IsAt (life_events component.kind) e life
+  pub is_body : body_named app class life.name life.descriptor ≡ body
+
+-- callback row q on component c, whose class is below the row's class and has a body for it
+pub record CallbackAt (app : App) (lists : Lists) (c q : ℕ) (sources : List (ℕ × ℕ)) (body : ℕ) : Type 0 where
+  pub component : Component
+  pub callback : Callback
+  pub there : IsAt app.components c component
+  pub is_row : IsAt lists.callbacks q callback
+  pub same_sources : callback.sources ≡ sources
+  pub is_below : Below app lists component.class callback.class
+  pub is_body : find_body app component.class callback.name callback.proto ≡ Some body
+
+-- click i on component c, an activity with a body for it
+pub record ClickAt (app : App) (c i body : ℕ) : Type 0 where
+  pub component : Component
+  pub name : Name
+  pub there : IsAt app.components c component
+  pub is_click : IsAt app.clicks i name
+  pub is_activity : component.kind ≡ Activity
+  pub is_body : body_named app component.class name click_descriptor ≡ Some body
+
+-- callback row q on an object of the class, which is below the row's class and has a body for it
+pub record HandedAt (app : App) (lists : Lists) (q : ℕ) (class : Name) (sources : List (ℕ × ℕ)) (body : ℕ) : Type 0 where
+  pub callback : Callback
+  pub is_row : IsAt lists.callbacks q callback
+  pub same_sources : callback.sources ≡ sources
+  pub is_below : Below app lists class callback.class
+  pub is_body : find_body app class callback.name callback.proto ≡ Some body
+
+-- an initialiser of the class of component c, or of an app class above it
+pub record InitialiserAt (app : App) (c body : ℕ) : Type 0 where
+  pub component : Component
+  pub there : IsAt app.components c component
+  pub is_one : In body (initialisers_from app component.class)
+
 -- An event with a receiver that may come: the body, where there is one, the place of the receiver, the positions whose
 -- values come labelled, and the world as it is when the body begins.
 pub data Comes (app : App) (lists : Lists) (w : World) : Option ℕ → Option ℕ → List (ℕ × ℕ) → World → Type 0 where
-  lives : {c e : ℕ} {component : Component} {life : LifeEvent} → IsAt app.components c component → IsAt (life_events component.kind) e life →
-      (w.components c).state ≡ life.from → life.from ≢ 0 →
-      Comes app lists w (body_named app component.class life.name life.descriptor) (w.components c).place [] (record w { components = set_component w.components c (after_event life (w.components c).place) })
-  is_born : {c e : ℕ} {component : Component} {life : LifeEvent} → IsAt app.components c component → IsAt (life_events component.kind) e life →
-      (w.components c).state ≡ 0 → life.from ≡ 0 → MayBegin app w c →
-      Comes app lists w (body_named app component.class life.name life.descriptor) (Some (length w.heap)) [] (record w { heap = w.heap ++ new_object component.class ∷ []; components = set_component w.components c (after_event life (Some (length w.heap))) })
-  calls_back : {c q body : ℕ} {component : Component} {callback : Callback} → IsAt app.components c component → IsAt lists.callbacks q callback →
-      (w.components c).state ≢ 0 → Below app lists component.class callback.class → find_body app component.class callback.name callback.proto ≡ Some body →
-      Comes app lists w (Some body) (w.components c).place callback.sources w
-  is_clicked : {c i body : ℕ} {component : Component} {name : Name} → IsAt app.components c component → IsAt app.clicks i name →
-      component.kind ≡ Activity → (w.components c).state ≢ 0 → body_named app component.class name click_descriptor ≡ Some body →
-      Comes app lists w (Some body) (w.components c).place [] w
-  is_handed : {p q body : ℕ} {class : Name} {callback : Callback} → In p w.handed → ClassAt w.heap p class → IsAt lists.callbacks q callback →
-      Below app lists class callback.class → find_body app class callback.name callback.proto ≡ Some body →
-      Comes app lists w (Some body) (Some p) callback.sources w
+  lives : {c e : ℕ} {class : Name} {life : LifeEvent} {body : Option ℕ} → LifeEventAt app c e class life body → (w.components c).state ≡ life.from → life.from ≢ 0 →
+      Comes app lists w body (w.components c).place [] (record w { components = set_component w.components c (after_event life (w.components c).place) })
+  is_born : {c e : ℕ} {class : Name} {life : LifeEvent} {body : Option ℕ} → LifeEventAt app c e class life body → (w.components c).state ≡ 0 → life.from ≡ 0 → MayBegin app w c →
+      Comes app lists w body (Some (length w.heap)) [] (record w { heap = w.heap ++ new_object class ∷ []; components = set_component w.components c (after_event life (Some (length w.heap))) })
+  calls_back : {c q body : ℕ} {sources : List (ℕ × ℕ)} → CallbackAt app lists c q sources body → (w.components c).state ≢ 0 → Comes app lists w (Some body) (w.components c).place sources w
+  is_clicked : {c i body : ℕ} → ClickAt app c i body → (w.components c).state ≢ 0 → Comes app lists w (Some body) (w.components c).place [] w
+  is_handed : {p q body : ℕ} {class : Name} {sources : List (ℕ × ℕ)} → In p w.handed → ClassAt w.heap p class → HandedAt app lists q class sources body → Comes app lists w (Some body) (Some p) sources w
 
--- an initialiser of the class of a component that is not there, or of an app class above it, may come
+-- an initialiser of the class of a component that is not there may come
 pub record MayInitialise (app : App) (w : World) (body : ℕ) : Type 0 where
   pub c : ℕ
-  pub component : Component
-  pub there : IsAt app.components c component
+  pub at : InitialiserAt app c body
   pub absent : (w.components c).state ≡ 0
   pub begins : MayBegin app w c
-  pub is_one : In body (initialisers_from app component.class)
 
 -- The position of each argument register of an event's body: of the receiver 0, and then of each parameter, a wide one twice.
 abbrev pub layout_from : ℕ → List Name → List ℕ

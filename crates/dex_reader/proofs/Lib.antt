@@ -3,3 +3,8 @@ pub mod RisingHandlers
 pub mod Units
 pub mod WalkItems
 pub mod WalkRest
+pub mod Readings
+pub mod TableReadings
+pub mod CodeReadings
+pub mod ClassReadings
+pub mod FileReadings

@@ -1,11 +1,16 @@
 pub mod ClassData
 pub mod ClassDefs
+pub mod ClassesStand
 pub mod Code
+pub mod CodeStands
+pub mod Dex
 pub mod Handlers
 pub mod Headers
 pub mod Parts
 pub mod Rising
+pub mod Sequences
 pub mod Tables
+pub mod TablesStand
 pub mod Told
 pub mod Tries
 pub mod TypeLists

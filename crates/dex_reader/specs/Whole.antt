@@ -1,6 +1,6 @@
 -- The tests of a whole file in their order, and the value behind them.
-use Rattle.std.specs.Prelude.{◌≡◌, ℕ, List, take, Bool}
-use Rattle.vet_base.specs.Script.{Script, Value, ◌>>=◌, tests, value_of, AllHold, IsFirst}
+use Rattle.std.specs.Prelude.{ℕ, List, take, Bool}
+use Rattle.vet_base.specs.Script.{Script, Value, ◌>>=◌, tests, IsFirst}
 use Rattle.dex_reader.specs.declared.fault.Fault.{Fault}
 use Rattle.dex_reader.specs.declared.dex.Dex.{Dex}
 use Rattle.dex_reader.specs.declared.dex.ClassDef.{ClassDef}
@@ -57,8 +57,3 @@ tests_of bytes = tests (dex_at bytes)
 -- the fault of the first test that does not hold
 abbrev pub FirstDexFault : List ℕ → Fault → Type 0
 FirstDexFault bytes fault = IsFirst (tests_of bytes) fault
-
--- every test holds, and this is the value behind them
-pub record IsDexByTests (bytes : List ℕ) (dex : Dex) : Type 0 where
-  pub tests_hold : AllHold (tests_of bytes)
-  pub stands : dex ≡ value_of (dex_at bytes)

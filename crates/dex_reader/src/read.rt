@@ -1,6 +1,6 @@
 ghost use Rattle.std.specs.Prelude.{◌≡◌, IfOk, IfErr, OnErr};
 ghost use Rattle.dex_reader.specs.declared.dex.Dex.{Dex as DexValue};
-ghost use Rattle.dex_reader.specs.Whole.{IsDexByTests};
+ghost use Rattle.dex_reader.specs.Dex.{IsDex};
 ghost use Rattle.dex_reader.specs.Told.{IsToldOf};
 
 use crate::dex::Dex;
@@ -19,11 +19,11 @@ use vet_base::Stop;
 /// An error is the fault of the first test that fails, in the order of the file: header, tables with their names and
 /// type lists, then class data with the code items.
 pub fn read_dex(alloc: Global, bytes: &[u8]) -> Result<Dex, DexFault>
-    ensures found { IfOk result (λ d. IsDexByTests bytes.now d) }
+    ensures found { IfOk result (λ d. IsDex bytes.now d) }
     ensures fault { IfErr result (λ e. IsToldOf bytes.now e) }
 
     // A file in which this stands is read, unless memory runs out.
-    ensures only { (d : DexValue) → IsDexByTests bytes.now d → OnErr result (result ≡ Err DexFault.Memory) }
+    ensures only { (d : DexValue) → IsDex bytes.now d → OnErr result (result ≡ Err DexFault.Memory) }
 {
     match dex_of(alloc, bytes) {
         Ok(dex) => Ok(dex),

@@ -119,7 +119,7 @@ module _ (app : App) (lists : Lists) (s : Parts app lists) where
   no_callback q callback at = none-some callback (ap (λ cs. slice_get cs q) (sym s.callbacks) ∙ at.there)
 
   pub event : {w new : World} {body place : Option ℕ} {sources : List (ℕ × ℕ)} → WorldFits app lists s w → Comes app lists w body place sources new → Event place sources new
-  event {w} world (lives {c} {e} {component} {life} is_component is_life in_state alive) = record {
+  event {w} world (lives {c} {e} {class} {life} at in_state alive) = record {
     plain = refl;
     world = record {
       heap = world.heap;
@@ -129,10 +129,10 @@ module _ (app : App) (lists : Lists) (s : Parts app lists) where
     };
     receiver = world.components c;
   }
-  event {w} world (is_born {c} {e} {component} {life} is_component is_life in_state absent may) =
-      let later = grown_later app lists w.heap (new_object component.class) world.heap (record { flat = λ k w inside. absurd {0} inside; no_bundle = λ k w inside below. inside }) in
-      let bare = new_bare w.heap (new_object component.class) refl in
-      let receiver : (p : ℕ) → Some (length w.heap) ≡ Some p → IsBare (w.heap ++ new_object component.class ∷ []) p = (λ p e. subst (λ q. IsBare (w.heap ++ new_object component.class ∷ []) q) (same-some (length w.heap) p e) bare) in
+  event {w} world (is_born {c} {e} {class} {life} at in_state absent may) =
+      let later = grown_later app lists w.heap (new_object class) world.heap (record { flat = λ k w inside. absurd {0} inside; no_bundle = λ k w inside below. inside }) in
+      let bare = new_bare w.heap (new_object class) refl in
+      let receiver : (p : ℕ) → Some (length w.heap) ≡ Some p → IsBare (w.heap ++ new_object class ∷ []) p = (λ p e. subst (λ q. IsBare (w.heap ++ new_object class ∷ []) q) (same-some (length w.heap) p e) bare) in
       record {
         plain = refl;
         world = record {
@@ -143,6 +143,6 @@ module _ (app : App) (lists : Lists) (s : Parts app lists) where
         };
         receiver = receiver;
       }
-  event world (calls_back {q = q} {callback = callback} is_component is_callback alive below body) = absurd (no_callback q callback is_callback)
-  event world (is_clicked {c} is_component is_click kind alive body) = record { plain = refl; world = world; receiver = world.components c }
-  event world (is_handed {q = q} {callback = callback} inside of_class is_callback below body) = absurd (no_callback q callback is_callback)
+  event world (calls_back {q = q} at alive) = absurd (no_callback q at.callback at.is_row)
+  event world (is_clicked {c} at alive) = record { plain = refl; world = world; receiver = world.components c }
+  event world (is_handed {q = q} inside of_class at) = absurd (no_callback q at.callback at.is_row)

@@ -14,7 +14,11 @@ use app_model::{
 use vet_base::Name;
 
 /// Whether the app has one class, one method and one component, the lists have no callback, and
-/// the method is the `onCreate` of that activity, its code one straight line. It takes no memory.
+/// the method is the `onCreate` of that activity, its code one straight line without handlers. Each
+/// instruction but the last does nothing, writes a blank, moves a value, takes a result, or calls a
+/// static method of the library that gives no `Bundle` and whose row or default, where there is
+/// one, gives a blank or the label of its source alone; the last returns nothing. Its registers are
+/// within the method's, and its addresses ascend from 0. It takes no memory.
 #[tactic(auto, unfolding(crate::specs::Straight::is_straight))]
 pub fn is_straight(app: &App, lists: &Lists) -> bool
     requires { NumberedLists lists.now }

@@ -1,2 +1,4 @@
+pub mod Printing
+pub mod Safety
 pub mod Singles
 pub mod Texts

@@ -5,7 +5,8 @@ use Rattle.vet_base.specs.Script.{run}
 use Rattle.dex_reader.specs.declared.dex.Dex.{Dex}
 use Rattle.dex_reader.specs.declared.fault.Fault.{Fault}
 use Rattle.dex_reader.specs.Told.{shown}
-use Rattle.dex_reader.specs.Whole.{IsDexByTests, FirstDexFault}
+use Rattle.dex_reader.specs.Dex.{IsDex}
+use Rattle.dex_reader.specs.Whole.{FirstDexFault}
 use Rattle.app_model.specs.declared.app.App.{App}
 use Rattle.app_model.specs.declared.call.MethodRef.{MethodRef}
 use Rattle.app_model.specs.declared.lists.Lists.{Lists}
@@ -26,41 +27,34 @@ use Rattle.vetting_desk.specs.OneClass.{app_at}
 use Rattle.vetting_desk.specs.Sample.{sample_lists}
 use Rattle.vetting_desk.specs.Printed.{escaped, finding_line, cause_line, counted_line, dex_reason}
 
--- The file makes no app of one straight line: it has more than the desk can take yet, or its method goes another way.
-abbrev pub IsUnbuilt : Dex → Type 0
-IsUnbuilt dex = (run (app_at dex) ≡ Err app_fault.Unbuilt) ⊎ ((app : App) × (run (app_at dex) ≡ Ok app) × (is_straight app sample_lists ≡ false))
-
--- The file makes this app, and the flow along its line finds this.
-pub record IsJudged (dex : Dex) (app : App) (lists : Lists) (flow : Flow) : Type 0 where
-  pub app_is : run (app_at dex) ≡ Ok app
+-- The flow along the app's line finds this.
+pub record IsJudged (app : App) (lists : Lists) (flow : Flow) : Type 0 where
   pub lists_are : lists ≡ sample_lists
   pub straight : is_straight app lists ≡ true
   pub findings_are : arrivals_of flow.findings ≡ findings app lists
   pub unknown_are : flow.unknown ≡ unknown app lists
 
--- what the bytes of `classes.dex` come to
-abbrev pub Judges : List ℕ → Verdict → Type 0
-Judges bytes Usage = ⊥
-Judges bytes Absent = ⊥
-Judges bytes TooLong = ⊥
-Judges bytes (Unread fault) = (f : Fault) × (fault ≡ shown f) × FirstDexFault bytes f
-Judges bytes Unbuilt = (dex : Dex) × IsDexByTests bytes dex × IsUnbuilt dex
-Judges bytes (Judged app lists flow) = (dex : Dex) × IsDexByTests bytes dex × IsJudged dex app lists flow
+-- what an app comes to
+abbrev pub JudgesApp : App → Verdict → Type 0
+JudgesApp app Usage = ⊥
+JudgesApp app Absent = ⊥
+JudgesApp app TooLong = ⊥
+JudgesApp app (Unread fault) = ⊥
+JudgesApp app Unbuilt = is_straight app sample_lists ≡ false
+JudgesApp app (Judged same lists flow) = (same ≡ app) × IsJudged app lists flow
 
--- a file has at most 16,777,216 bytes
+-- The file makes no app that the desk can take, or this one.
+abbrev pub JudgesDex : Dex → Verdict → Type 0
+JudgesDex dex verdict = ((run (app_at dex) ≡ Err app_fault.Unbuilt) × (verdict ≡ Unbuilt)) ⊎ ((app : App) × (run (app_at dex) ≡ Ok app) × JudgesApp app verdict)
+
+-- what the bytes of `classes.dex` come to: the first fault of the file, or what the file makes
+abbrev pub Judges : List ℕ → Verdict → Type 0
+Judges bytes verdict = ((f : Fault) × (verdict ≡ Unread (shown f)) × FirstDexFault bytes f) ⊎ ((dex : Dex) × IsDex bytes dex × JudgesDex dex verdict)
+
+-- What a file, where it is there, comes to. It has at most 16,777,216 bytes.
 abbrev pub AnswersFile : Option (List ℕ) → Verdict → Type 0
-AnswersFile None Absent = Unit {0}
-AnswersFile None Usage = ⊥
-AnswersFile None TooLong = ⊥
-AnswersFile None (Unread fault) = ⊥
-AnswersFile None Unbuilt = ⊥
-AnswersFile None (Judged app lists flow) = ⊥
-AnswersFile (Some bytes) TooLong = 16777216 < length bytes
-AnswersFile (Some bytes) Usage = ⊥
-AnswersFile (Some bytes) Absent = ⊥
-AnswersFile (Some bytes) (Unread fault) = (length bytes ≤ 16777216) × Judges bytes (Unread fault)
-AnswersFile (Some bytes) Unbuilt = (length bytes ≤ 16777216) × Judges bytes Unbuilt
-AnswersFile (Some bytes) (Judged app lists flow) = (length bytes ≤ 16777216) × Judges bytes (Judged app lists flow)
+AnswersFile None verdict = verdict ≡ Absent
+AnswersFile (Some bytes) verdict = ((16777216 < length bytes) × (verdict ≡ TooLong)) ⊎ ((length bytes ≤ 16777216) × Judges bytes verdict)
 
 unfoldable pub dex_name : List ℕ → List ℕ
 dex_name dir = dir ++ codes "/classes.dex"
@@ -92,8 +86,14 @@ finding_text lists at f = finding_line (category lists f.label) (category lists 
 unfoldable pub finding_lines : Lists → MethodRef → List Finding → List ℕ
 finding_lines lists at found = flat_map (finding_text lists at) found
 
+unfoldable pub no_summary_word : List ℕ
+no_summary_word = codes "no summary: "
+
+abbrev pub no_summary_text : MethodRef → ℕ → List ℕ
+no_summary_text at pc = cause_line no_summary_word at pc
+
 unfoldable pub no_summary_lines : MethodRef → List ℕ → List ℕ
-no_summary_lines at pcs = flat_map (cause_line (codes "no summary: ") at) pcs
+no_summary_lines at pcs = flat_map (no_summary_text at) pcs
 
 unfoldable pub undecided_text : Lists → MethodRef → Flow → List ℕ
 undecided_text lists at flow = counted_line (codes "undecided ") (length flow.unknown) ++ no_summary_lines at flow.unknown ++ finding_lines lists at flow.findings
@@ -107,8 +107,11 @@ clear_text = codes "clear\n"
 abbrev pub flow_text : Lists → MethodRef → Flow → List ℕ
 flow_text lists at flow = if not (length flow.unknown == 0) then undecided_text lists at flow else (if not (length flow.findings == 0) then flagged_text lists at flow else clear_text)
 
+unfoldable pub refused_dex : List ℕ
+refused_dex = codes "refused classes.dex: "
+
 unfoldable pub unread_text : List ℕ → List ℕ
-unread_text reason = codes "refused classes.dex: " ++ reason ++ codes "\n"
+unread_text reason = refused_dex ++ reason ++ codes "\n"
 
 unfoldable pub absent_text : List ℕ
 absent_text = codes "refused classes.dex: absent\n"
@@ -131,17 +134,22 @@ text_of Unbuilt = unbuilt_text
 text_of (Judged app lists flow) = elim (slice_get app.methods 0) [ Some m ↦ flow_text lists m.at flow | None ↦ [] ]
 
 unfoldable pub read_fault_text : List ℕ → List ℕ
-read_fault_text name = codes "read fault " ++ name ++ codes "\n"
+read_fault_text name = codes "read fault " ++ escaped name ++ codes "\n"
 
 -- The soundness of `clear`. No pair of categories is declared.
 abbrev pub nothing_declared : Declaration
 nothing_declared = record { pairs = [] }
 
+-- Where nothing is found and nothing unknown is called, the app is safe.
+abbrev pub IsSafeIfClear : Verdict → Type 0
+IsSafeIfClear (Judged app lists flow) = flow.findings ≡ [] → flow.unknown ≡ [] → Safe app lists nothing_declared
+IsSafeIfClear _ = Unit {0}
+
 -- The bytes are a DEX file that makes one app, and that app is safe: no run of the machine brings a labelled value to a sink
 -- or comes to what is not modelled.
 pub record IsSafeFile (bytes : List ℕ) : Type 0 where
   pub dex : Dex
-  pub stands : IsDexByTests bytes dex
+  pub stands : IsDex bytes dex
   pub app : App
   pub app_is : run (app_at dex) ≡ Ok app
   pub safe : Safe app sample_lists nothing_declared

@@ -61,7 +61,7 @@ pub fn put_name(text: &mut Text, name: &[u8]) -> Result<(), Memory>
 }
 
 /// Adds a number in decimal digits.
-pub fn put_number(alloc: Global, text: &mut Text, n: u32) -> Result<(), Memory>
+pub fn put_number(alloc: Global, text: &mut Text, n: usize) -> Result<(), Memory>
     ensures { OnOk result (text.new.items ≡ text.old.items ++ decimal n) }
 {
     let digits = format!(in alloc; "{n}")?;
@@ -98,7 +98,7 @@ pub fn put_place(alloc: Global, text: &mut Text, at: &MethodRef, pc: u32) -> Res
     put_name(text, at.name.as_bytes())?;
     put_descriptor(text, &at.proto)?;
     put(text, b" @".as_slice())?;
-    put_number(alloc, text, pc)
+    put_number(alloc, text, pc as usize)
 }
 
 /// Adds the line of a finding.
@@ -139,7 +139,7 @@ pub fn put_cause(
 
 /// Adds a word of the report with a number.
 #[tactic(auto, unfolding(crate::specs::Printed::counted_line))]
-pub fn put_counted(alloc: Global, text: &mut Text, word: &[u8], n: u32) -> Result<(), Memory>
+pub fn put_counted(alloc: Global, text: &mut Text, word: &[u8], n: usize) -> Result<(), Memory>
     ensures { OnOk result (text.new.items ≡ text.old.items ++ counted_line word.now n) }
 {
     put(text, word)?;
@@ -160,21 +160,21 @@ pub fn put_dex_reason(alloc: Global, text: &mut Text, fault: &DexFault) -> Resul
         }
         DexFault::Outside(at) => {
             put(text, b"outside at ".as_slice())?;
-            put_number(alloc, text, *at)
+            put_number(alloc, text, *at as usize)
         }
         DexFault::Index(table, row) => {
             put(text, b"index in ".as_slice())?;
             put_name(text, table.as_bytes())?;
             put(text, b" row ".as_slice())?;
-            put_number(alloc, text, *row)
+            put_number(alloc, text, *row as usize)
         }
         DexFault::Text(at) => {
             put(text, b"text at ".as_slice())?;
-            put_number(alloc, text, *at)
+            put_number(alloc, text, *at as usize)
         }
         DexFault::Leb(at) => {
             put(text, b"leb at ".as_slice())?;
-            put_number(alloc, text, *at)
+            put_number(alloc, text, *at as usize)
         }
         DexFault::TooMany(table) => {
             put(text, b"too many ".as_slice())?;

@@ -1,7 +1,8 @@
 //! The lists that the desk goes by until it reads them from a file, as tables: the definition of them too takes the
 //! rows from here.
 
-ghost use Rattle.std.specs.Prelude.{◌≡◌, map, take, IfOk};
+ghost use Rattle.std.specs.Prelude.{◌≡◌, ◌<◌, map, length, IfOk};
+ghost use Rattle.app_model.specs.LibraryWalk.{NumberedLists};
 ghost use Rattle.vetting_desk.specs.Sample.{names_of, gives_of, sink_of, class_of, shared_of, method_of, listed_categories, listed_classes, listed_shared, listed_methods, sample_lists};
 
 use app_model::{FallbackWord, Gives, LibClass, Lists, Proto, Summary};
@@ -452,7 +453,8 @@ fn categories(alloc: Global) -> Result<Seq<Name>, Memory>
 
 #[tactic(auto, unfolding(crate::specs::Sample::listed_classes))]
 fn classes(alloc: Global) -> Result<Seq<LibClass>, Memory>
-    ensures { IfOk result (λ rows. rows ≡ listed_classes) }
+    ensures listed { IfOk result (λ rows. rows ≡ listed_classes) }
+    ensures short { IfOk result (λ rows. length rows < 4294967296) }
 {
     classes_in(alloc, &CLASSES)
 }
@@ -466,7 +468,8 @@ fn shared(alloc: Global) -> Result<Seq<(Name, Name)>, Memory>
 
 #[tactic(auto, unfolding(crate::specs::Sample::listed_methods))]
 fn methods(alloc: Global) -> Result<Seq<Summary>, Memory>
-    ensures { IfOk result (λ rows. rows ≡ listed_methods) }
+    ensures listed { IfOk result (λ rows. rows ≡ listed_methods) }
+    ensures short { IfOk result (λ rows. length rows < 4294967296) }
 {
     methods_in(alloc, &METHODS)
 }
@@ -474,7 +477,8 @@ fn methods(alloc: Global) -> Result<Seq<Summary>, Memory>
 /// The sample lists.
 #[tactic(auto, unfolding(crate::specs::Sample::sample_lists))]
 pub fn sample(alloc: Global) -> Result<Lists, Memory>
-    ensures { IfOk result (λ lists. lists ≡ sample_lists) }
+    ensures sample { IfOk result (λ lists. lists ≡ sample_lists) }
+    ensures numbered { IfOk result NumberedLists }
 {
     Ok(Lists {
         rows: 200_000,

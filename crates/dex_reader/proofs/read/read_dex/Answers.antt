@@ -1,13 +1,12 @@
 use Rattle.std.proofs.Common.{◌≡◌, Err, inl, inr}
 use Rattle.vet_base.specs.Script.{run}
 use Rattle.dex_reader.specs.Whole.{dex_at}
-use Rattle.vet_base.proofs.Scripts.{all_hold, is_first, exclusive}
+use Rattle.vet_base.proofs.Scripts.{is_first}
+use Rattle.dex_reader.proofs.FileReadings.{dex_is, dex_again}
 use Rattle.dex_reader.proofs.read.read_dex.Goals as goal
 
 pub returns-in-Ok-clause-found : goal.returns-in-Ok-clause-found
-returns-in-Ok-clause-found c =
-    let h = all_hold (dex_at c.args.bytes.now) c.in-Ok.dex c.in-Ok.ensures in
-    record { tests_hold = h.0; stands = h.1 }
+returns-in-Ok-clause-found c = dex_is c.args.bytes.now c.in-Ok.dex c.in-Ok.ensures
 
 pub returns-in-Err-Fault-clause-fault : goal.returns-in-Err-Fault-clause-fault
 returns-in-Err-Fault-clause-fault c =
@@ -20,4 +19,5 @@ returns-in-Err-Fault-clause-fault c =
 pub returns-in-Err-Fault-clause-only : goal.returns-in-Err-Fault-clause-only
 returns-in-Err-Fault-clause-only c d is =
     let failed : run (dex_at c.args.bytes.now) ≡ Err c.in-Err-Fault.fault = (rw c.in-Err-Fault.field-0-is at c.in-Err-Fault.ensures) in
-    absurd (exclusive _ c.in-Err-Fault.fault is.tests_hold (is_first (dex_at c.args.bytes.now) c.in-Err-Fault.fault failed))
+    let read = dex_again c.args.bytes.now d is in
+    absurd cc

@@ -1,0 +1,20 @@
+//! Access paths: which lists of keys lead from a value to a labelled one. This crate alone knows
+//! how many keys a path has.
+//!
+//! Arzt et al., FlowDroid, PLDI 2014, section 4.2: access paths of bounded length.
+#![tactic(auto)]
+
+mod path;
+
+ghost use Rattle.access_path.specs.Laws.{PathLaws};
+
+pub use path::{Keys, Path};
+
+/// The laws by which everybody else knows paths.
+///
+/// What a path covers, the path with a key in front covers behind that key; what it covers behind a
+/// key, the path without its first key covers; the empty path covers no keys; and a path that
+/// covers no keys has none.
+pub fn paths_keep_their_laws()
+    ensures { PathLaws }
+{}

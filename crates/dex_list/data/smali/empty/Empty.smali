@@ -1,0 +1,2 @@
+.class public final Le/Empty;
+.super Ljava/lang/Object;

@@ -1,0 +1,13 @@
+pub mod HeapLaws
+pub mod Fitting
+pub mod Growing
+pub mod Knowing
+pub mod Lasting
+pub mod Sounding
+pub mod Stepping
+pub mod Framing
+pub mod Librarian
+pub mod Eventing
+pub mod Beginning
+pub mod Standing
+pub mod Covering

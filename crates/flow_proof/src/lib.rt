@@ -1,0 +1,15 @@
+//! The soundness of the rules: every closed set of rows covers every run of the machine.
+#![tactic(auto)]
+
+ghost use Rattle.flow_proof.specs.Covering.{EveryGoodTableCoversEveryRun};
+
+/// The soundness theorem.
+///
+/// For each sound app, any lists and each table that names only what they have, holds the start
+/// rows and is closed under the rules: every arrival of every run has its `Arrive` row in some
+/// context, and every place where a run's last state stands has its `Unknown` row with that cause,
+/// in some context. Hence, where the declaration names the pair of each `Arrive` row and no
+/// `Unknown` row is there, app, lists and declaration are safe.
+pub fn every_good_table_covers_every_run()
+    ensures { EveryGoodTableCoversEveryRun }
+{}

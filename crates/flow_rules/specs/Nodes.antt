@@ -1,0 +1,85 @@
+-- Nodes and registers, as the rules name them.
+use Rattle.std.specs.Prelude.{◌≡◌, ◌==◌, ◌<◌, ◌+◌, ◌-◌, ℕ, Bool, true, false, List, Option, Some, slice_get}
+use Rattle.app_model.specs.declared.call.MethodRef.{MethodRef}
+use Rattle.app_model.specs.declared.call.CallKind.{CallKind}
+use Rattle.app_model.specs.declared.method.Act.{Act}
+use Rattle.app_model.specs.declared.method.Act.TheVariants.{Skip, Join, Move, Blank, New, Fill, Get, Put, GetStatic, PutStatic, Call, Return, Throw, TakeResult, TakeException, Go}
+use Rattle.app_model.specs.declared.method.Method.{Method}
+use Rattle.app_model.specs.declared.app.App.{App}
+use Rattle.app_model.specs.Members.{IsAt}
+use Rattle.app_model.specs.Lookups.{ActAt, Goes, Catches, HasCode, Initialises}
+use Rattle.app_model.specs.State.{result_register, holds}
+use Rattle.app_model.specs.Events.{layout}
+use Rattle.fact_rows.specs.declared.context.Ctx.{Ctx}
+use Rattle.fact_rows.specs.declared.context.Ctx.TheVariants as ctx
+use Rattle.fact_rows.specs.declared.context.Activation.{Activation}
+use Rattle.fact_rows.specs.declared.context.Node.{Node}
+
+-- The context of a method that is called: the call instruction. How many callers count is told here alone.
+unfoldable pub pushed : Ctx → ℕ → ℕ → Ctx
+pushed c method pc = ctx.Call method pc
+
+-- another node of the same activation
+abbrev pub at_pc : Node → ℕ → Node
+at_pc n pc = record { by = n.by; pc = pc }
+
+abbrev pub activation_in : Ctx → ℕ → Activation
+activation_in c body = record { ctx = c; method = body }
+
+-- the first node of an activation
+abbrev pub entry : Activation → Node
+entry a = record { by = a; pc = 0 }
+
+-- the activation of a body that the node enters
+abbrev pub callee : Node → ℕ → Activation
+callee n body = activation_in (pushed n.by.ctx n.by.method n.pc) body
+
+abbrev pub Act_of : App → Node → Act → Type 0
+Act_of app n act = ActAt app n.by.method n.pc act
+
+abbrev pub Next_of : App → Node → ℕ → Type 0
+Next_of app n pc = Goes app n.by.method n.pc pc
+
+abbrev pub Catch_of : App → Node → ℕ → Type 0
+Catch_of app n pc = Catches app n.by.method n.pc pc
+
+-- whether the act writes the register: a destination, or RES for a call and a filled array
+abbrev pub writes : Act → ℕ → Bool
+writes (Join ds xs) r = holds ds r
+writes (Move ds x) r = holds ds r
+writes (Blank ds) r = holds ds r
+writes (New d class) r = r == d
+writes (Fill xs class) r = r == result_register
+writes (Get ds o k) r = holds ds r
+writes (GetStatic ds g) r = holds ds r
+writes (Call kind at args) r = r == result_register
+writes (TakeResult ds) r = holds ds r
+writes (TakeException d) r = r == d
+writes Skip r = false
+writes (Put o k x) r = false
+writes (PutStatic g x) r = false
+writes (Return x) r = false
+writes (Throw x) r = false
+writes Go r = false
+
+-- the register that takes argument register i of a call: the i-th of the last `ins`
+pub record ArgumentRegister (app : App) (body i register : ℕ) : Type 0 where
+  pub method : Method
+  pub has : HasCode app body method
+  pub below : i < method.ins
+  pub is : register ≡ (method.registers - method.ins) + i
+
+-- a register that takes position i of an event, the receiver being 0
+pub record EventRegister (app : App) (body i register : ℕ) : Type 0 where
+  pub method : Method
+  pub has : HasCode app body method
+  pub index : ℕ
+  pub is_at : IsAt (layout method.at.proto.params) index i
+  pub below : index < method.ins
+  pub is : register ≡ (method.registers - method.ins) + index
+
+-- the activation is of an initialiser that may run before the node's step
+pub record InitialisedBy (app : App) (n : Node) (b : Activation) : Type 0 where
+  pub body : ℕ
+  pub is_one : Initialises app n.by.method n.pc body
+  pub same : b ≡ callee n body

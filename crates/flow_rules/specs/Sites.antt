@@ -1,0 +1,47 @@
+-- The class of the objects that are made at a site.
+use Rattle.std.specs.Prelude.{◌≡◌, ℕ, Bool, if◌then◌else◌, Option, Some, None, option_map, slice_get}
+use Rattle.app_model.specs.declared.method.Act.{Act}
+use Rattle.app_model.specs.declared.method.Act.TheVariants.{Skip, Join, Move, Blank, New, Fill, Get, Put, GetStatic, PutStatic, Call, Return, Throw, TakeResult, TakeException, Go}
+use Rattle.app_model.specs.declared.component.Component.{Component as ComponentOf}
+use Rattle.app_model.specs.declared.lists.Lists.{Lists}
+use Rattle.app_model.specs.declared.app.App.{App}
+use Rattle.app_model.specs.Names.{Name, is_reference}
+use Rattle.app_model.specs.Lookups.{step_at}
+use Rattle.app_model.specs.Library.{shared_class}
+use Rattle.fact_rows.specs.declared.site.Site.{Site}
+use Rattle.fact_rows.specs.declared.site.Site.TheVariants.{At, Param, Component, Shared}
+use Rattle.fact_rows.specs.Contexts.{event_types, parameter_type}
+
+-- the class of what the act makes: that which it names, or for a call the type of its result
+abbrev pub class_made : Act → Option Name
+class_made (New d class) = Some class
+class_made (Fill xs class) = Some class
+class_made (Call kind at args) = if is_reference at.proto.ret then Some at.proto.ret else None
+class_made Skip = None
+class_made (Join ds xs) = None
+class_made (Move ds x) = None
+class_made (Blank ds) = None
+class_made (Get ds o k) = None
+class_made (Put o k x) = None
+class_made (GetStatic ds g) = None
+class_made (PutStatic g x) = None
+class_made (Return x) = None
+class_made (Throw x) = None
+class_made (TakeResult ds) = None
+class_made (TakeException d) = None
+class_made Go = None
+
+-- the type, where it is a reference type
+abbrev pub reference_type : Option Name → Option Name
+reference_type None = None
+reference_type (Some type) = if is_reference type then Some type else None
+
+-- the class of a site, where it names something in the app and the lists
+unfoldable pub site_class : App → Lists → Site → Option Name
+site_class app lists (At n) = elim (step_at app n.by.method n.pc) [ None ↦ None | Some step ↦ class_made step.act ]
+site_class app lists (Param ctx i) = reference_type (parameter_type (event_types app lists ctx) i)
+site_class app lists (Component c) = option_map (λ (component : ComponentOf). component.class) (slice_get app.components c)
+site_class app lists (Shared i) = shared_class lists i
+
+pub record SiteClass (app : App) (lists : Lists) (s : Site) (class : Name) : Type 0 where
+  pub is_class : site_class app lists s ≡ Some class

@@ -1,0 +1,4 @@
+pub mod Clear
+pub mod General
+pub mod Leaking
+pub mod Looking

@@ -1,0 +1,78 @@
+//! Small facts that show that the machine's definitions mean what they should. Each is a theorem
+//! over the definitions alone, so that a slip in a definition shows.
+#![tactic(auto)]
+
+ghost use Rattle.machine_witness.specs.Witnesses.{
+  StrongUpdateForgets,
+  ElementsStay,
+  RaisesGoToHandlers,
+  RaisesGoToCallers,
+  RaisesGoNowhereElse,
+  AbsentComponentsAreOnlyBorn,
+  OthersWaitForTheApplication,
+  HandedObjectsAreCalledBack,
+};
+ghost use Rattle.machine_witness.specs.Apps.{StandsAtNative, Leaks, ClearSiblingNeverArrives, CallsGoUpward};
+
+/// After a put under a field's key no other value stands under it.
+pub fn a_strong_update_forgets()
+    ensures { StrongUpdateForgets }
+{}
+
+/// A put of an element leaves the elements that were there.
+pub fn an_element_put_forgets_nothing()
+    ensures { ElementsStay }
+{}
+
+/// A raised value goes to a handler that covers the instruction, in EXC.
+pub fn a_raise_goes_to_the_handler()
+    ensures { RaisesGoToHandlers }
+{}
+
+/// It also goes out of the method, to a handler of the caller.
+pub fn a_raise_goes_to_the_caller()
+    ensures { RaisesGoToCallers }
+{}
+
+/// Where no handler covers the instruction, it goes to the caller.
+pub fn a_raise_without_handler_leaves()
+    ensures { RaisesGoNowhereElse }
+{}
+
+/// Where every component is absent and nothing was handed, only a birth can come: callbacks and
+/// clicks come only while their component lives.
+pub fn callbacks_come_only_to_the_living()
+    ensures { AbsentComponentsAreOnlyBorn }
+{}
+
+/// Until the application was created, every other component stays absent, and its class is not
+/// initialised.
+pub fn others_wait_for_the_application()
+    ensures { OthersWaitForTheApplication }
+{}
+
+/// An object that was handed may be called back, as the receiver.
+pub fn a_handed_object_is_called_back()
+    ensures { HandedObjectsAreCalledBack }
+{}
+
+/// A super call goes by the caller's class, a virtual call by the receiver's, and both find an
+/// inherited body.
+pub fn calls_go_upward()
+    ensures { CallsGoUpward }
+{}
+
+/// A state stands at a call of a native method.
+pub fn a_state_stands_at_a_native_body()
+    ensures { StandsAtNative }
+{}
+
+/// Some run of the one-activity app brings the source's label to the sink.
+pub fn the_small_app_leaks()
+    ensures { Leaks }
+{}
+
+/// Its sibling overwrites the value first, and no run of it brings any label to any sink.
+pub fn no_run_of_its_clear_sibling_arrives()
+    ensures { ClearSiblingNeverArrives }
+{}

@@ -1,0 +1,27 @@
+//! `vet`: the command line of the vetting desk.
+#![tactic(auto)]
+
+use std::alloc::Global;
+use std::env::Env;
+use std::process::ExitCode;
+use std::{env, io};
+use vetting_desk::{HostFiles, StandardSink, Status, vet};
+
+/// The words behind the program's name.
+fn words_of(rt: &(impl Env + AllocGlobal), alloc: Global) -> io::Result<Vec<String>> {
+    let mut words = Vec::new(alloc);
+    for word in env::args(rt)?.skip(1) {
+        words.push(word)?;
+    }
+    Ok(words)
+}
+
+fn main(rt: HostRuntime) -> ExitCode {
+    let alloc = rt.alloc();
+    // Words that cannot be read are no command.
+    let words = words_of(&rt, alloc).unwrap_or(Vec::new(alloc));
+    let mut files = HostFiles::new(rt);
+    let mut out = StandardSink::new(rt);
+    let Status(status) = vet(alloc, &words, &mut files, &mut out);
+    ExitCode::from(status)
+}
