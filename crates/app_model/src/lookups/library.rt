@@ -212,7 +212,8 @@ fn listed<'a>(lists: &'a Lists, name: &[u8]) -> Option<&'a LibClass>
     None
 }
 
-/// The class of the app with this name.
+/// The class of the app with this name. A scan, since a library call is looked up in apps whose
+/// order is not known.
 #[tactic(auto, unfolding(crate::specs::Lookups::class_named), using(crate::proofs::First::none_before, crate::proofs::First::none_up_to, crate::proofs::First::first_at, crate::proofs::First::none_at_all))]
 fn class_of<'a>(app: &'a App, name: &[u8]) -> Option<&'a Class>
     ensures { option_copied result ≡ class_named app.now name.now }
