@@ -1,1 +1,14 @@
+pub mod Above
+pub mod BelowRelation
+pub mod Classes
+pub mod Descriptors
+pub mod Fields
+pub mod Elements
 pub mod First
+pub mod Halving
+pub mod Marked
+pub mod Searches
+pub mod Methods
+pub mod NameOrder
+pub mod Reach
+pub mod Upward

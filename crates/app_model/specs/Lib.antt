@@ -1,4 +1,7 @@
+pub mod Above
 pub mod Calls
+pub mod DescriptorText
+pub mod EventTable
 pub mod Events
 pub mod Heap
 pub mod Library
@@ -6,10 +9,15 @@ pub mod LibraryWalk
 pub mod LifeEvents
 pub mod Local
 pub mod Lookups
+pub mod Marks
 pub mod Members
+pub mod Met
 pub mod Names
 pub mod Run
 pub mod Safe
+pub mod Search
 pub mod Sound
 pub mod State
 pub mod Summaries
+pub mod Targets
+pub mod Upward

@@ -17,7 +17,10 @@ pub use app::{App, Class, Key};
 pub use call::{CallKind, MethodRef, Proto, Target};
 pub use component::{Component, EventRow, Kind};
 pub use lists::{Callback, FallbackWord, LibClass, Lists, SummaryId};
-pub use lookups::{SummaryView, library_key, summary_of};
+pub use lookups::{
+    SummaryView, below, body_named, event_rows, find_body, instance_key, library_key, summary_of,
+    target,
+};
 pub use method::{Act, Method, Step};
 pub use papers::{Declaration, Layouts, Manifest, Word};
 pub use summary::{Gives, Summary};

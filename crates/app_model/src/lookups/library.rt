@@ -6,6 +6,7 @@ ghost use Rattle.app_model.specs.Members.{first_given};
 ghost use Rattle.app_model.specs.Names.{is_array, object_class};
 ghost use Rattle.app_model.specs.Lookups.{class_named};
 ghost use Rattle.app_model.specs.Summaries.{row_of, default_of, listed_class, listed_above, row_walk, library_key, summary};
+ghost use Rattle.app_model.specs.Above.{is_among, is_listed_below};
 ghost use Rattle.app_model.specs.LibraryWalk.{NumberedLists, found, found_above, is_row, shown_summary};
 
 use crate::lookups::equality::is_same_proto;
@@ -176,6 +177,28 @@ fn default_at(lists: &Lists, class: &Name) -> Option<u32>
     None
 }
 
+/// Whether the two names are the same, or the lists have the second one above the first.
+#[tactic(auto, unfolding(crate::specs::Above::is_listed_below, crate::specs::Above::is_among, crate::specs::Summaries::listed_above))]
+pub(super) fn is_listed_below(lists: &Lists, class: &[u8], kind: &[u8]) -> bool
+    ensures { result ≡ is_listed_below lists.now class.now kind.now }
+{
+    if class == kind {
+        return true;
+    }
+    match listed(lists, class) {
+        Some(class) => is_among(class.above.as_slice(), kind),
+        None => false,
+    }
+}
+
+/// Whether the name is one of these.
+#[tactic(auto, unfolding(crate::specs::Above::is_among))]
+fn is_among(names: &[Name], name: &[u8]) -> bool
+    ensures { result ≡ is_among names.now name.now }
+{
+    names.iter().any(|other| other.as_bytes() == name)
+}
+
 /// The listed class of this name.
 #[tactic(auto, unfolding(crate::specs::Summaries::listed_class), using(crate::proofs::First::none_before, crate::proofs::First::none_up_to, crate::proofs::First::first_at, crate::proofs::First::none_at_all))]
 fn listed<'a>(lists: &'a Lists, name: &[u8]) -> Option<&'a LibClass>
@@ -189,7 +212,8 @@ fn listed<'a>(lists: &'a Lists, name: &[u8]) -> Option<&'a LibClass>
     None
 }
 
-/// The class of the app with this name.
+/// The class of the app with this name. A scan, since a library call is looked up in apps whose
+/// order is not known.
 #[tactic(auto, unfolding(crate::specs::Lookups::class_named), using(crate::proofs::First::none_before, crate::proofs::First::none_up_to, crate::proofs::First::first_at, crate::proofs::First::none_at_all))]
 fn class_of<'a>(app: &'a App, name: &[u8]) -> Option<&'a Class>
     ensures { option_copied result ≡ class_named app.now name.now }
@@ -214,7 +238,7 @@ fn starts_array(name: &[u8]) -> bool
 }
 
 #[tactic(auto, unfolding(crate::specs::Names::object_class))]
-fn object_name() -> &'static [u8]
+pub(super) fn object_name() -> &'static [u8]
     ensures { result.now ≡ object_class }
 {
     b"Ljava/lang/Object;"

@@ -1,0 +1,36 @@
+-- What is asked of the app classes and interfaces above a class.
+use Rattle.std.specs.Prelude.{Bool, ◌&&◌, ◌||◌, List}
+use Rattle.std.specs.List.{list_any}
+use Rattle.app_model.specs.declared.call.Proto.{Proto}
+use Rattle.app_model.specs.declared.app.App.{App}
+use Rattle.app_model.specs.declared.app.Class.{Class}
+use Rattle.app_model.specs.declared.lists.Lists.{Lists}
+use Rattle.app_model.specs.declared.lookups.above.Quality.{Quality}
+use Rattle.app_model.specs.declared.lookups.above.Quality.TheVariants as quality
+use Rattle.app_model.specs.Names.{Name, same_name, same_proto, object_class}
+use Rattle.app_model.specs.Lookups.{directly_above, all_above}
+use Rattle.app_model.specs.Summaries.{listed_above}
+
+unfoldable pub is_among : List Name → Name → Bool
+is_among names name = list_any (λ other. same_name other name) names
+
+-- the names are the same, or the lists have the second one above the first
+unfoldable pub is_listed_below : Lists → Name → Name → Bool
+is_listed_below lists class type = same_name class type || is_among (listed_above lists class) type
+
+unfoldable pub has_bare : Class → Name → Proto → Bool
+has_bare c name proto = list_any (λ (b : Name × Proto). same_name b.0 name && same_proto b.1 proto) c.bare
+
+unfoldable pub any_listed_below : Lists → List Name → Name → Bool
+any_listed_below lists classes type = list_any (λ class. is_listed_below lists class type) classes
+
+unfoldable pub has_below : Class → Lists → Name → Bool
+has_below c lists type = any_listed_below lists (directly_above c) type
+
+-- the answer to whether the class is below the type
+unfoldable pub is_below : App → Lists → Name → Name → Bool
+is_below app lists class type = same_name type object_class || (is_listed_below lists class type || list_any (λ (c : Class). has_below c lists type) (all_above app class))
+
+abbrev pub has : Quality → Class → Bool
+has (quality.Bare name proto) c = has_bare c name.now proto.now
+has (quality.Below lists type) c = has_below c lists.now type.now

@@ -1,0 +1,15 @@
+-- What lists of an app are ordered by.
+use Rattle.std.specs.Prelude.{[]}
+use Rattle.app_model.specs.declared.method.Method.{Method}
+use Rattle.app_model.specs.declared.app.Key.{Key}
+use Rattle.app_model.specs.declared.app.Key.TheVariants.{Elem, Field}
+use Rattle.app_model.specs.Names.{Name, descriptor_of}
+
+-- class, name and descriptor of a method
+abbrev pub method_key : Method → Name × Name × Name
+method_key m = (m.at.class, m.at.name, descriptor_of m.at.proto)
+
+-- class, name and type of a field
+abbrev pub field_key : Key → Name × Name × Name
+field_key Elem = ([], [], [])
+field_key (Field class name kind) = (class, name, kind)
