@@ -37,3 +37,68 @@ fn rows_of_the_documentation(rt: HostRuntime) {
         assert!(rt; format_of(opcode) == format);
     }
 }
+
+/// Wide operands by the documentation: results, then sources; the distance of a shift is single.
+#[test]
+fn pairs_of_the_documentation(rt: HostRuntime) {
+    let rows = [
+        (0x01, Pairs::NoPair),
+        (0x06, Pairs::FirstTwo),
+        (0x0B, Pairs::First),
+        (0x10, Pairs::First),
+        (0x18, Pairs::First),
+        (0x2E, Pairs::NoPair),
+        (0x2F, Pairs::LastTwo),
+        (0x31, Pairs::LastTwo),
+        (0x45, Pairs::First),
+        (0x7C, Pairs::NoPair),
+        (0x7D, Pairs::FirstTwo),
+        (0x81, Pairs::First),
+        (0x84, Pairs::Second),
+        (0x8C, Pairs::Second),
+        (0x9A, Pairs::NoPair),
+        (0x9B, Pairs::All),
+        (0xA2, Pairs::All),
+        (0xA3, Pairs::FirstTwo),
+        (0xA5, Pairs::FirstTwo),
+        (0xA6, Pairs::NoPair),
+        (0xAF, Pairs::All),
+        (0xC2, Pairs::FirstTwo),
+        (0xC5, Pairs::First),
+        (0xCB, Pairs::FirstTwo),
+        (0xD0, Pairs::NoPair),
+    ];
+    for (opcode, pairs) in rows {
+        assert!(rt; pairs_of(opcode) == pairs);
+    }
+}
+
+#[test]
+fn kinds_of_the_documentation(rt: HostRuntime) {
+    let rows = [
+        (0x00, Kind::Nop, true),
+        (0x09, Kind::Move, true),
+        (0x0E, Kind::ReturnVoid, false),
+        (0x11, Kind::Return, false),
+        (0x1C, Kind::Const, true),
+        (0x26, Kind::FillArrayData, true),
+        (0x27, Kind::Throw, false),
+        (0x2A, Kind::Goto, false),
+        (0x2C, Kind::SparseSwitch, true),
+        (0x32, Kind::If, true),
+        (0x3D, Kind::If, true),
+        (0x3E, Kind::NoInstruction, true),
+        (0x51, Kind::ArrayPut, true),
+        (0x59, Kind::InstancePut, true),
+        (0x72, Kind::InvokeInterface, true),
+        (0x74, Kind::InvokeVirtual, true),
+        (0x8F, Kind::Unary, true),
+        (0x90, Kind::Binary, true),
+        (0xB0, Kind::BinaryInPlace, true),
+        (0xE2, Kind::BinaryLiteral, true),
+    ];
+    for (opcode, kind, falls_through) in rows {
+        assert!(rt; kind_of(opcode) == kind);
+        assert!(rt; kind.falls_through() == falls_through);
+    }
+}
