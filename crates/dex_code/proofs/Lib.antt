@@ -1,0 +1,6 @@
+pub mod Flows
+pub mod Halving
+pub mod Payloads
+pub mod Runs
+pub mod Standing
+pub mod Whole

@@ -1,0 +1,23 @@
+//! Decodes the code of a method: its 16-bit units to instructions, or to the first fault of them (Android documentation,
+//! "Dalvik bytecode" and "Dalvik executable instruction formats", DEX version 035).
+#![tactic(auto)]
+
+mod decoder;
+mod fault;
+mod find;
+mod flow;
+mod insn;
+mod insn_at;
+mod lines;
+mod payload_at;
+mod registers;
+mod shape;
+mod tries;
+mod units;
+
+pub use decoder::{Counts, Decoded, decode};
+pub use fault::CodeFault;
+pub use insn::Insn;
+
+#[cfg(test)]
+mod tests;
