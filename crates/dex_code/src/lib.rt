@@ -6,9 +6,12 @@ mod decoder;
 mod fault;
 mod find;
 mod flow;
+mod handlers;
 mod insn;
 mod insn_at;
 mod lines;
+mod next;
+mod order;
 mod payload_at;
 mod registers;
 mod shape;
@@ -17,7 +20,9 @@ mod units;
 
 pub use decoder::{Counts, Decoded, decode};
 pub use fault::CodeFault;
+pub use handlers::{Catches, catches_at};
 pub use insn::Insn;
+pub use next::next_of_line;
 
 #[cfg(test)]
 mod tests;

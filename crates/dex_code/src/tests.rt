@@ -13,7 +13,7 @@ const NONE: Counts = Counts {
     methods: 0,
 };
 
-/// The code of these units with two registers and no arguments.
+/// The code of these units with two registers, no arguments and no tries.
 fn code_of(alloc: Global, units: &[u16]) -> Result<RawCode, AllocError>
     ensures { IfOk result (λ c. (c.units ≡ units.now) × (c.tries ≡ [])) }
 {
@@ -26,6 +26,7 @@ fn code_of(alloc: Global, units: &[u16]) -> Result<RawCode, AllocError>
     })
 }
 
+/// The first fault of these units, for a file without ids.
 fn fault_of(alloc: Global, units: &[u16]) -> Result<Option<CodeFault>, AllocError>
     requires { length units.now < 100 }
 {
@@ -44,11 +45,105 @@ fn goto_32_to_itself_is_one_line(rt: HostRuntime) -> Result<(), Fail> {
 }
 
 #[test]
+fn a_nop_before_a_payload_is_padding(rt: HostRuntime) -> Result<(), Fail> {
+    let units = [0x000E, 0x0000, 0x0300, 0x0001, 0x0000, 0x0000];
+    let code = code_of(rt.alloc(), &units)?;
+    let decoded = decode(rt.alloc(), &code, &NONE)?;
+    let lines = decoded.lines.as_slice();
+    assert!(rt; lines.len() == 3);
+    assert!(rt;
+        matches!(
+            lines,
+            [
+                (0, Insn::F10x(0x0E)),
+                (1, Insn::F10x(0)),
+                (2, Insn::Filled(1, 0))
+            ]
+        )
+    );
+    Ok(())
+}
+
+#[test]
 fn first_faults(rt: HostRuntime) -> Result<(), Fail> {
     let alloc = rt.alloc();
     assert!(rt; fault_of(alloc, &[0x003E])? == Some(CodeFault::Opcode(0)));
     assert!(rt; fault_of(alloc, &[0x0013])? == Some(CodeFault::Cut(0)));
     assert!(rt; fault_of(alloc, &[0x0000])? == Some(CodeFault::FallsOff(0)));
     assert!(rt; fault_of(alloc, &[])? == Some(CodeFault::FallsOff(0)));
+    let filled = [0x0300, 0x0001, 0x0000, 0x0000];
+    assert!(rt; fault_of(alloc, &filled)? == Some(CodeFault::FallsOff(0)));
+    Ok(())
+}
+
+/// `move-wide v0, v1` with two registers; `const/4 v0` and `goto` into its own payload; a `fill-array-data` of a table.
+#[test]
+fn faults_behind_the_first_line(rt: HostRuntime) -> Result<(), Fail> {
+    let alloc = rt.alloc();
+    let pair = [0x0012, 0x1004, 0x000E];
+    assert!(rt; fault_of(alloc, &pair)? == Some(CodeFault::Register(1)));
+    let into_payload = [0x0012, 0x0228, 0x0000, 0x0100, 0x0000, 0x0000, 0x0000];
+    assert!(rt; fault_of(alloc, &into_payload)? == Some(CodeFault::Target(1)));
+    let other_kind = [
+        0x0026, 0x0004, 0x0000, 0x000E, 0x0100, 0x0000, 0x0000, 0x0000,
+    ];
+    assert!(rt; fault_of(alloc, &other_kind)? == Some(CodeFault::Payload(0)));
+    let string = [0x001A, 0x0000, 0x000E];
+    assert!(rt; fault_of(alloc, &string)? == Some(CodeFault::Index(0)));
+    Ok(())
+}
+
+/// Two `packed-switch` share a table whose one distance is right for the first alone.
+#[test]
+fn each_switch_counts_from_itself(rt: HostRuntime) -> Result<(), Fail> {
+    let units = [
+        0x002B, 0x0008, 0x0000, 0x002B, 0x0005, 0x0000, 0x000E, 0x0000, 0x0100, 0x0001, 0x0000,
+        0x0000, 0x0003, 0x0000,
+    ];
+    let code = code_of(rt.alloc(), &units)?;
+    let decoded = decode(rt.alloc(), &code, &NONE)?;
+    assert!(rt; decoded.lines.len() == 5);
+    let mut wrong = units;
+    wrong[12] = 0x0004;
+    assert!(rt; fault_of(rt.alloc(), &wrong)? == Some(CodeFault::Target(0)));
+    wrong[12] = 0x0007;
+    assert!(rt; fault_of(rt.alloc(), &wrong)? == Some(CodeFault::Target(3)));
+    Ok(())
+}
+
+#[test]
+fn a_handler_starts_an_instruction(rt: HostRuntime) -> Result<(), Fail> {
+    let alloc = rt.alloc();
+    let code = RawCode {
+        registers: 2,
+        ins: 0,
+        outs: 0,
+        units: Seq::from_vec(vec![in alloc; 0x0013, 0x0001, 0x000E]?),
+        tries: Seq::from_vec(vec![in alloc;
+            RawTry {
+                start: 0,
+                count: 3,
+                handlers: Seq::from_vec(vec![in alloc; (0, 2)]?),
+                catch_all: Some(1),
+            },
+        ]?),
+    };
+    assert!(rt; decode(alloc, &code, &NONE).err() == Some(CodeFault::Tries(0)));
+    Ok(())
+}
+
+/// 60,000 units of `goto`, each to the next and the last one back.
+#[test]
+fn many_branches_are_quick(rt: HostRuntime) -> Result<(), Fail> {
+    let alloc = rt.alloc();
+    let mut units = Vec::new(alloc);
+    for _ in 0..59_999 {
+        units.push(0x0128)?;
+    }
+    units.push(0xFF28)?;
+    let code = code_of(alloc, &units)?;
+    assert!(rt; code.units.len() == 60_000);
+    let decoded = decode(alloc, &code, &NONE)?;
+    assert!(rt; decoded.lines.len() == 60_000);
     Ok(())
 }
