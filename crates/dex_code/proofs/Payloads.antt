@@ -3,6 +3,7 @@ use Rattle.std.proofs.Common.{◌≡◌, ℕ, ℤ, zero, suc, ◌+◌, ◌-◌, 
 use Rattle.std.proofs.lemmas.List.{append-nil}
 use Rattle.dex_code.specs.Units.{int_at}
 use Rattle.dex_code.specs.Insns.{ints_at, int_pairs_at}
+use Rattle.dex_code.specs.Acts.{range_of}
 
 -- These were read, and with what is still read from here they make the whole.
 pub record Reads (units : List ℕ) (at i count : ℕ) (front whole : List ℤ) : Type 0 where
@@ -47,4 +48,26 @@ unfolding int_pairs_at
 pairs_done units keys values i count front whole le so_far =
     let n : count - i ≡ 0 = omega arith in
     let step : front ++ int_pairs_at units (keys + 2 * i) (values + 2 * i) (count - i) ≡ front = rw n (append-nil front) in
+    sym step ∙ so_far.is
+
+-- the same of neighbouring registers
+pub record Ranges (first i count : ℕ) (front whole : List ℕ) : Type 0 where
+  pub is : front ++ range_of (first + i) (count - i) ≡ whole
+
+pub range_begins : (first count : ℕ) (front : List ℕ) → front ≡ [] → Ranges first 0 count front (range_of first count)
+range_begins first count front none = let a : first + 0 ≡ first = omega arith in let n : count - 0 ≡ count = omega arith in record { is = rw (none, a, n) refl }
+
+pub range_goes_on : (first i count : ℕ) (front whole : List ℕ) → i < count → Ranges first i count front whole → Ranges first (i + 1) count (front ++ (first + i) ∷ []) whole
+unfolding range_of
+range_goes_on first i count front whole lt so_far =
+    let n : count - i ≡ suc (count - (i + 1)) = omega arith in
+    let a : first + (i + 1) ≡ first + i + 1 = omega arith in
+    let step : front ++ range_of (first + i) (count - i) ≡ (front ++ (first + i) ∷ []) ++ range_of (first + (i + 1)) (count - (i + 1)) = rw (n, a) (simp append_assoc) in
+    record { is = sym step ∙ so_far.is }
+
+pub range_done : (first i count : ℕ) (front whole : List ℕ) → count ≤ i → Ranges first i count front whole → front ≡ whole
+unfolding range_of
+range_done first i count front whole le so_far =
+    let n : count - i ≡ 0 = omega arith in
+    let step : front ++ range_of (first + i) (count - i) ≡ front = rw n (append-nil front) in
     sym step ∙ so_far.is

@@ -1,6 +1,6 @@
 -- What begins at a unit of code, how many units it takes, and what it says ("Dalvik executable instruction formats", and
 -- "Dalvik bytecode", the formats of the three payloads).
-use Rattle.std.specs.Prelude.{ℕ, ℤ, pos, ◌+◌, ◌*◌, ◌/◌, ◌%◌, ◌==◌, Bool, true, false, List, [], ◌∷◌, slice_index, take, if◌then◌else◌, zero, suc}
+use Rattle.std.specs.Prelude.{ℕ, ℤ, pos, ◌+◌, ◌*◌, ◌/◌, ◌%◌, ◌==◌, Bool, true, false, List, [], ◌∷◌, slice_index, take, if◌then◌else◌, zero, suc, Option, Some, None}
 use Rattle.dalvik_formats.specs.declared.format.Format.{Format}
 use Rattle.dalvik_formats.specs.declared.format.Format.TheVariants as formats
 use Rattle.dalvik_formats.specs.declared.kind.Kind.{Kind}
@@ -94,32 +94,40 @@ is_payload (Sparse pairs) = true
 is_payload (Filled width count) = true
 is_payload insn = false
 
+-- the opcode; a payload has none
+abbrev pub opcode_of : Insn → Option ℕ
+opcode_of (F10x op) = Some op
+opcode_of (F12x op a b) = Some op
+opcode_of (F11n op a n) = Some op
+opcode_of (F11x op a) = Some op
+opcode_of (F10t op t) = Some op
+opcode_of (F20t op t) = Some op
+opcode_of (F22x op a b) = Some op
+opcode_of (F21t op a t) = Some op
+opcode_of (F21s op a n) = Some op
+opcode_of (F21h op a n) = Some op
+opcode_of (F21c op a i) = Some op
+opcode_of (F23x op a b c) = Some op
+opcode_of (F22b op a b n) = Some op
+opcode_of (F22t op a b t) = Some op
+opcode_of (F22s op a b n) = Some op
+opcode_of (F22c op a b i) = Some op
+opcode_of (F32x op a b) = Some op
+opcode_of (F30t op t) = Some op
+opcode_of (F31t op a t) = Some op
+opcode_of (F31i op a n) = Some op
+opcode_of (F31c op a i) = Some op
+opcode_of (F35c op i registers) = Some op
+opcode_of (F3rc op i first count) = Some op
+opcode_of (F51l op a n) = Some op
+opcode_of (Packed first distances) = None
+opcode_of (Sparse pairs) = None
+opcode_of (Filled width count) = None
+
 -- what an instruction does; a payload does nothing
+abbrev pub kind_with : Option ℕ → Kind
+kind_with None = NoInstruction
+kind_with (Some op) = group_of op
+
 abbrev pub kind_of : Insn → Kind
-kind_of (F10x op) = group_of op
-kind_of (F12x op a b) = group_of op
-kind_of (F11n op a n) = group_of op
-kind_of (F11x op a) = group_of op
-kind_of (F10t op t) = group_of op
-kind_of (F20t op t) = group_of op
-kind_of (F22x op a b) = group_of op
-kind_of (F21t op a t) = group_of op
-kind_of (F21s op a n) = group_of op
-kind_of (F21h op a n) = group_of op
-kind_of (F21c op a i) = group_of op
-kind_of (F23x op a b c) = group_of op
-kind_of (F22b op a b n) = group_of op
-kind_of (F22t op a b t) = group_of op
-kind_of (F22s op a b n) = group_of op
-kind_of (F22c op a b i) = group_of op
-kind_of (F32x op a b) = group_of op
-kind_of (F30t op t) = group_of op
-kind_of (F31t op a t) = group_of op
-kind_of (F31i op a n) = group_of op
-kind_of (F31c op a i) = group_of op
-kind_of (F35c op i registers) = group_of op
-kind_of (F3rc op i first count) = group_of op
-kind_of (F51l op a n) = group_of op
-kind_of (Packed first distances) = NoInstruction
-kind_of (Sparse pairs) = NoInstruction
-kind_of (Filled width count) = NoInstruction
+kind_of insn = kind_with (opcode_of insn)

@@ -1,3 +1,4 @@
+pub mod Acts
 pub mod Code
 pub mod Find
 pub mod Flow

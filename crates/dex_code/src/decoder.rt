@@ -2,6 +2,7 @@ ghost use Rattle.std.specs.Prelude.{◌≡◌, ◌<◌, ◌^◌, ◌⊎◌, IfOk
 ghost use Rattle.vet_base.specs.Script.{Gives};
 ghost use Rattle.dex_code.specs.declared.fault.CodeFault.TheVariants as faults;
 ghost use Rattle.dex_code.specs.Code.{decoding, FirstFault, IsCode};
+ghost use Rattle.dex_code.specs.Find.{Ascend};
 
 use crate::fault::{CodeFault, Halt};
 use crate::flow::check_flows;
@@ -59,6 +60,7 @@ pub fn decode(alloc: Global, code: &RawCode, counts: &Counts) -> Result<Decoded,
     requires units { length code.now.units < 2 ^ 32 }
     requires tries { length code.now.tries < 2 ^ 32 }
     ensures ok { IfOk result (λ d. IsCode code.now counts.now d) }
+    ensures order { IfOk result (λ d. Ascend d.lines) }
     ensures fault { IfErr result (λ e. (e ≡ faults.Memory) ⊎ FirstFault code.now counts.now e) }
     ensures code { (d : Decoded) → IsCode code.now counts.now d → (result ≡ Ok d) ⊎ (result ≡ Err faults.Memory) }
     ensures first { (e : CodeFault) → FirstFault code.now counts.now e → (result ≡ Err e) ⊎ (result ≡ Err faults.Memory) }

@@ -1,5 +1,5 @@
 ghost use Rattle.std.specs.Prelude.{◌≡◌};
-ghost use Rattle.dex_code.specs.Insns.{is_payload, kind_of};
+ghost use Rattle.dex_code.specs.Insns.{is_payload, kind_of, opcode_of};
 
 use dalvik_formats::Kind;
 use vet_base::Seq;
@@ -44,9 +44,9 @@ pub enum Insn {
 }
 
 impl Insn {
-    /// What the instruction does; `NoInstruction` for a payload.
-    pub fn kind(&self) -> Kind
-        ensures { result ≡ kind_of self.now }
+    /// The opcode; none for a payload.
+    pub fn opcode(&self) -> Option<u8>
+        ensures { result ≡ opcode_of self.now }
     {
         match self {
             Insn::F10x(op)
@@ -72,8 +72,18 @@ impl Insn {
             | Insn::F31c(op, ..)
             | Insn::F35c(op, ..)
             | Insn::F3rc(op, ..)
-            | Insn::F51l(op, ..) => dalvik_formats::kind_of(*op),
-            Insn::Packed(..) | Insn::Sparse(..) | Insn::Filled(..) => Kind::NoInstruction,
+            | Insn::F51l(op, ..) => Some(*op),
+            Insn::Packed(..) | Insn::Sparse(..) | Insn::Filled(..) => None,
+        }
+    }
+
+    /// What the instruction does; `NoInstruction` for a payload.
+    pub fn kind(&self) -> Kind
+        ensures { result ≡ kind_of self.now }
+    {
+        match self.opcode() {
+            Some(op) => dalvik_formats::kind_of(op),
+            None => Kind::NoInstruction,
         }
     }
 

@@ -2,6 +2,7 @@
 //! "Dalvik bytecode" and "Dalvik executable instruction formats", DEX version 035).
 #![tactic(auto)]
 
+mod acts;
 mod decoder;
 mod fault;
 mod find;
@@ -10,6 +11,7 @@ mod handlers;
 mod insn;
 mod insn_at;
 mod lines;
+mod names;
 mod next;
 mod order;
 mod payload_at;
@@ -18,10 +20,12 @@ mod shape;
 mod tries;
 mod units;
 
+pub use acts::act_for;
 pub use decoder::{Counts, Decoded, decode};
 pub use fault::CodeFault;
 pub use handlers::{Catches, catches_at};
 pub use insn::Insn;
+pub use names::{Named, Naming};
 pub use next::next_of_line;
 
 #[cfg(test)]

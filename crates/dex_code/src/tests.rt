@@ -1,6 +1,7 @@
 ghost use Rattle.std.specs.Prelude.{◌≡◌, ◌<◌, [], length, IfOk};
 
 use super::*;
+use app_model::Act;
 use dex_reader::{RawCode, RawTry};
 use std::alloc::{AllocError, Global};
 use std::test::*;
@@ -36,11 +37,14 @@ fn fault_of(alloc: Global, units: &[u16]) -> Result<Option<CodeFault>, AllocErro
 
 #[test]
 fn goto_32_to_itself_is_one_line(rt: HostRuntime) -> Result<(), Fail> {
-    let code = code_of(rt.alloc(), &[0x002A, 0x0000, 0x0000])?;
-    let decoded = decode(rt.alloc(), &code, &NONE)?;
+    let alloc = rt.alloc();
+    let code = code_of(alloc, &[0x002A, 0x0000, 0x0000])?;
+    let decoded = decode(alloc, &code, &NONE)?;
     let lines = decoded.lines.as_slice();
     assert!(rt; lines.len() == 1);
-    assert!(rt; matches!(lines, [(0, Insn::F30t(0x2A, 0))]));
+    assert!(rt; lines[0].1.opcode() == Some(0x2A));
+    let next = next_of_line(alloc, lines, &lines[0], &lines[1..])?;
+    assert!(rt; next.as_slice() == [0].as_slice());
     Ok(())
 }
 
@@ -51,16 +55,9 @@ fn a_nop_before_a_payload_is_padding(rt: HostRuntime) -> Result<(), Fail> {
     let decoded = decode(rt.alloc(), &code, &NONE)?;
     let lines = decoded.lines.as_slice();
     assert!(rt; lines.len() == 3);
-    assert!(rt;
-        matches!(
-            lines,
-            [
-                (0, Insn::F10x(0x0E)),
-                (1, Insn::F10x(0)),
-                (2, Insn::Filled(1, 0))
-            ]
-        )
-    );
+    assert!(rt; lines[0].1.opcode() == Some(0x0E));
+    assert!(rt; lines[1].1.opcode() == Some(0x00));
+    assert!(rt; lines[2].1.is_payload());
     Ok(())
 }
 
@@ -145,5 +142,87 @@ fn many_branches_are_quick(rt: HostRuntime) -> Result<(), Fail> {
     assert!(rt; code.units.len() == 60_000);
     let decoded = decode(alloc, &code, &NONE)?;
     assert!(rt; decoded.lines.len() == 60_000);
+    Ok(())
+}
+
+/// Two `packed-switch` that share a table, a `return-void`, padding and the table.
+#[test]
+fn next_lines_of_switches(rt: HostRuntime) -> Result<(), Fail> {
+    let alloc = rt.alloc();
+    let units = [
+        0x002B, 0x0008, 0x0000, 0x002B, 0x0005, 0x0000, 0x000E, 0x0000, 0x0100, 0x0002, 0x0000,
+        0x0000, 0x0003, 0x0000, 0x0003, 0x0000,
+    ];
+    let code = code_of(alloc, &units)?;
+    let decoded = decode(alloc, &code, &NONE)?;
+    let lines = decoded.lines.as_slice();
+    assert!(rt; lines.len() == 5);
+    let first = next_of_line(alloc, lines, &lines[0], &lines[1..])?;
+    assert!(rt; first.as_slice() == [3].as_slice());
+    let second = next_of_line(alloc, lines, &lines[1], &lines[2..])?;
+    assert!(rt; second.as_slice() == [6].as_slice());
+    let returned = next_of_line(alloc, lines, &lines[2], &lines[3..])?;
+    assert!(rt; returned.is_empty());
+    let padding = next_of_line(alloc, lines, &lines[3], &lines[4..])?;
+    assert!(rt; padding.is_empty());
+    Ok(())
+}
+
+#[test]
+fn handlers_of_two_tries(rt: HostRuntime) -> Result<(), Fail> {
+    let alloc = rt.alloc();
+    let first = RawTry {
+        start: 0,
+        count: 4,
+        handlers: Seq::from_vec(vec![in alloc; (0, 9), (1, 7)]?),
+        catch_all: Some(8),
+    };
+    let second = RawTry {
+        start: 2,
+        count: 3,
+        handlers: Seq::from_vec(vec![in alloc; (0, 7)]?),
+        catch_all: None,
+    };
+    let tries = [first, second];
+    let before = catches_at(alloc, &tries, Catches::new(alloc), 1)?;
+    assert!(rt; before.pcs.as_slice() == [7, 8, 9].as_slice());
+    let both = catches_at(alloc, &tries, before, 3)?;
+    assert!(rt; both.pcs.as_slice() == [7, 8, 9].as_slice());
+    let one = catches_at(alloc, &tries, both, 4)?;
+    assert!(rt; one.pcs.as_slice() == [7].as_slice());
+    let none = catches_at(alloc, &tries, one, 5)?;
+    assert!(rt; none.pcs.is_empty());
+    Ok(())
+}
+
+fn is_join(act: &Act, written: &[u32], read: &[u32]) -> bool {
+    match act {
+        Act::Join(destinations, sources) => {
+            destinations.as_slice() == written && sources.as_slice() == read
+        }
+        _ => false,
+    }
+}
+
+fn is_element_put(act: &Act, array: u32, source: u32) -> bool {
+    match act {
+        Act::Put(object, key, from) => *object == array && key.0 == 0 && *from == source,
+        _ => false,
+    }
+}
+
+/// `add-long/2addr v0, v2` reads both, and writes a pair; `aput v1, v2, v3` puts v1 into v2.
+#[test]
+fn acts_without_names(rt: HostRuntime) -> Result<(), Fail> {
+    let alloc = rt.alloc();
+    let add = Insn::F12x(0xBB, 0, 2);
+    assert!(rt; add.naming() == Naming::Nothing);
+    let sum = act_for(alloc, &add, Named::Nothing)?;
+    assert!(rt; is_join(&sum, &[0, 1], &[0, 2]));
+    let put = Insn::F23x(0x4B, 1, 2, 3);
+    assert!(rt; put.naming() == Naming::Nothing);
+    let stored = act_for(alloc, &put, Named::Nothing)?;
+    assert!(rt; is_element_put(&stored, 2, 1));
+    assert!(rt; Insn::F35c(0x6E, 7, Seq::new(alloc)).naming() == Naming::Method(7));
     Ok(())
 }

@@ -1,9 +1,13 @@
 use Rattle.std.proofs.Common.{inl, inr, refl}
 use Rattle.dex_code.proofs.Whole.{is_code, code_answered, fault_answered, first_fault}
+use Rattle.dex_code.proofs.Standing.{ascend}
 use Rattle.dex_code.proofs.decoder.decode.Goals as goal
 
 pub returns-in-Ok-clause-ok : goal.returns-in-Ok-clause-ok
 returns-in-Ok-clause-ok c = is_code _ _ _ c.in-Ok.ensures
+
+pub returns-in-Ok-clause-order : goal.returns-in-Ok-clause-order
+returns-in-Ok-clause-order c = ascend _ _ 0 _ (is_code _ _ _ c.in-Ok.ensures).lines
 
 pub returns-in-Ok-clause-code : goal.returns-in-Ok-clause-code
 returns-in-Ok-clause-code c = code_answered _ _ _ c.in-Ok.ensures
