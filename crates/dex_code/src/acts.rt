@@ -15,22 +15,23 @@ fn operands(insn: &Insn) -> (u32, u32, u32)
     ensures small { result.0 < 65536 }
 {
     match insn {
-        Insn::F11n(_, a, _)
+        Insn::F11x(_, a)
+        | Insn::F11n(_, a, _)
         | Insn::F21s(_, a, _)
         | Insn::F21h(_, a, _)
         | Insn::F31i(_, a, _)
-        | Insn::F51l(_, a, _) => (u32::from(*a), 0, 0),
-        Insn::F11x(_, a) => (u32::from(*a), 0, 0),
-        Insn::F21t(_, a, _) | Insn::F21c(_, a, _) | Insn::F31t(_, a, _) | Insn::F31c(_, a, _) => (
-            u32::from(*a),
-            0,
-            0,
-        ),
-        Insn::F12x(_, a, b) | Insn::F22x(_, a, b) | Insn::F32x(_, a, b) => {
-            (u32::from(*a), u32::from(*b), 0)
-        }
-        Insn::F22b(_, a, b, _) | Insn::F22s(_, a, b, _) => (u32::from(*a), u32::from(*b), 0),
-        Insn::F22t(_, a, b, _) | Insn::F22c(_, a, b, _) => (u32::from(*a), u32::from(*b), 0),
+        | Insn::F51l(_, a, _)
+        | Insn::F21t(_, a, _)
+        | Insn::F21c(_, a, _)
+        | Insn::F31t(_, a, _)
+        | Insn::F31c(_, a, _) => (u32::from(*a), 0, 0),
+        Insn::F12x(_, a, b)
+        | Insn::F22x(_, a, b)
+        | Insn::F32x(_, a, b)
+        | Insn::F22b(_, a, b, _)
+        | Insn::F22s(_, a, b, _)
+        | Insn::F22t(_, a, b, _)
+        | Insn::F22c(_, a, b, _) => (u32::from(*a), u32::from(*b), 0),
         Insn::F23x(_, a, b, c) => (u32::from(*a), u32::from(*b), u32::from(*c)),
         _ => (0, 0, 0),
     }

@@ -84,19 +84,23 @@ pub fn have_registers(limit: u16, insn: &Insn) -> bool
         | Insn::Packed(..)
         | Insn::Sparse(..)
         | Insn::Filled(..) => true,
-        Insn::F11n(op, a, _)
+        Insn::F11x(op, a)
+        | Insn::F11n(op, a, _)
         | Insn::F21s(op, a, _)
         | Insn::F21h(op, a, _)
         | Insn::F31i(op, a, _)
-        | Insn::F51l(op, a, _) => has_one(limit, *op, *a),
-        Insn::F11x(op, a) => has_one(limit, *op, *a),
-        Insn::F21t(op, a, _) | Insn::F21c(op, a, _) | Insn::F31t(op, a, _) | Insn::F31c(op, a, _) =>
-            has_one(limit, *op, *a),
-        Insn::F12x(op, a, b) | Insn::F22x(op, a, b) | Insn::F32x(op, a, b) => {
-            has_two(limit, *op, *a, *b)
-        }
-        Insn::F22b(op, a, b, _) | Insn::F22s(op, a, b, _) => has_two(limit, *op, *a, *b),
-        Insn::F22t(op, a, b, _) | Insn::F22c(op, a, b, _) => has_two(limit, *op, *a, *b),
+        | Insn::F51l(op, a, _)
+        | Insn::F21t(op, a, _)
+        | Insn::F21c(op, a, _)
+        | Insn::F31t(op, a, _)
+        | Insn::F31c(op, a, _) => has_one(limit, *op, *a),
+        Insn::F12x(op, a, b)
+        | Insn::F22x(op, a, b)
+        | Insn::F32x(op, a, b)
+        | Insn::F22b(op, a, b, _)
+        | Insn::F22s(op, a, b, _)
+        | Insn::F22t(op, a, b, _)
+        | Insn::F22c(op, a, b, _) => has_two(limit, *op, *a, *b),
         Insn::F23x(op, a, b, c) => has_three(limit, *op, *a, *b, *c),
         Insn::F35c(_, _, registers) => are_below(limit, registers.as_slice()),
         Insn::F3rc(_, _, first, count) => {
