@@ -1,0 +1,30 @@
+#!/bin/sh
+# Decodes DEX files, the given ones and ten with every opcode, and compares the instructions with what `dexdump -d` prints of
+# them. It proves nothing and is no part of the gate. It needs rt, smali, dexdump and Python; read_dex must stand.
+#
+# usage: bench/instructions/run.sh FILE..
+set -eu
+top=$(cd "$(dirname "$0")/../.." && pwd)
+work=$(mktemp -d)
+trap 'rm -rf "$work"' EXIT
+mkdir -p "$work/crates/insn_list/src" "$work/crates/insn_list/data"
+for crate in vet_base app_model dalvik_formats dex_reader dex_code; do
+    mkdir "$work/crates/$crate"
+    for part in src specs proofs; do
+        if [ -d "$top/crates/$crate/$part" ]; then cp -r "$top/crates/$crate/$part" "$work/crates/$crate/$part"; fi
+    done
+done
+cp "$top/bench/instructions/list.rt.txt" "$work/crates/insn_list/src/main.rt"
+grep -E '^(vet_base|app_model|dalvik_formats|dex_reader|dex_code):' "$top/crates.txt" > "$work/crates.txt"
+echo 'insn_list: dex_code dex_reader vet_base' >> "$work/crates.txt"
+number=0
+for file in "$@"; do
+    number=$((number + 1))
+    cp "$file" "$work/crates/insn_list/data/given$number.dex"
+done
+for seed in 1 2 3 4 5 6 7 8 9 10; do
+    python3 "$top/bench/instructions/every_opcode.py" "$top/crates/dalvik_formats/src/opcodes.rt" $seed "$work/crates/insn_list/data"
+done
+cd "$work/crates/insn_list"
+rt try -- data/*.dex > "$work/ours.txt"
+python3 "$top/bench/instructions/compare.py" "$work/ours.txt" "$top/crates/dalvik_formats/src/opcodes.rt" data/*.dex

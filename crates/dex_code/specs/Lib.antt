@@ -1,0 +1,11 @@
+pub mod Acts
+pub mod Code
+pub mod Find
+pub mod Flow
+pub mod Handlers
+pub mod Insns
+pub mod Lines
+pub mod Next
+pub mod Registers
+pub mod Tries
+pub mod Units

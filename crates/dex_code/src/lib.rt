@@ -1,0 +1,32 @@
+//! Decodes the code of a method: its 16-bit units to instructions, or to the first fault of them (Android documentation,
+//! "Dalvik bytecode" and "Dalvik executable instruction formats", DEX version 035).
+#![tactic(auto)]
+
+mod acts;
+mod decoder;
+mod fault;
+mod find;
+mod flow;
+mod handlers;
+mod insn;
+mod insn_at;
+mod lines;
+mod names;
+mod next;
+mod order;
+mod payload_at;
+mod registers;
+mod shape;
+mod tries;
+mod units;
+
+pub use acts::act_for;
+pub use decoder::{Counts, Decoded, decode};
+pub use fault::CodeFault;
+pub use handlers::{Catches, catches_at};
+pub use insn::Insn;
+pub use names::{Named, Naming};
+pub use next::next_of_line;
+
+#[cfg(test)]
+mod tests;

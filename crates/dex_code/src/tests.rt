@@ -1,0 +1,228 @@
+ghost use Rattle.std.specs.Prelude.{◌≡◌, ◌<◌, [], length, IfOk};
+
+use super::*;
+use app_model::Act;
+use dex_reader::{RawCode, RawTry};
+use std::alloc::{AllocError, Global};
+use std::test::*;
+use vet_base::Seq;
+
+const NONE: Counts = Counts {
+    strings: 0,
+    types: 0,
+    fields: 0,
+    methods: 0,
+};
+
+/// The code of these units with two registers, no arguments and no tries.
+fn code_of(alloc: Global, units: &[u16]) -> Result<RawCode, AllocError>
+    ensures { IfOk result (λ c. (c.units ≡ units.now) × (c.tries ≡ [])) }
+{
+    Ok(RawCode {
+        registers: 2,
+        ins: 0,
+        outs: 0,
+        units: Seq::from_vec(units.to_vec(alloc)?),
+        tries: Seq::new(alloc),
+    })
+}
+
+/// The first fault of these units, for a file without ids.
+fn fault_of(alloc: Global, units: &[u16]) -> Result<Option<CodeFault>, AllocError>
+    requires { length units.now < 100 }
+{
+    let code = code_of(alloc, units)?;
+    Ok(decode(alloc, &code, &NONE).err())
+}
+
+#[test]
+fn goto_32_to_itself_is_one_line(rt: HostRuntime) -> Result<(), Fail> {
+    let alloc = rt.alloc();
+    let code = code_of(alloc, &[0x002A, 0x0000, 0x0000])?;
+    let decoded = decode(alloc, &code, &NONE)?;
+    let lines = decoded.lines.as_slice();
+    assert!(rt; lines.len() == 1);
+    assert!(rt; lines[0].1.opcode() == Some(0x2A));
+    let next = next_of_line(alloc, lines, &lines[0], &lines[1..])?;
+    assert!(rt; next.as_slice() == [0].as_slice());
+    Ok(())
+}
+
+#[test]
+fn a_nop_before_a_payload_is_padding(rt: HostRuntime) -> Result<(), Fail> {
+    let units = [0x000E, 0x0000, 0x0300, 0x0001, 0x0000, 0x0000];
+    let code = code_of(rt.alloc(), &units)?;
+    let decoded = decode(rt.alloc(), &code, &NONE)?;
+    let lines = decoded.lines.as_slice();
+    assert!(rt; lines.len() == 3);
+    assert!(rt; lines[0].1.opcode() == Some(0x0E));
+    assert!(rt; lines[1].1.opcode() == Some(0x00));
+    assert!(rt; lines[2].1.is_payload());
+    Ok(())
+}
+
+#[test]
+fn first_faults(rt: HostRuntime) -> Result<(), Fail> {
+    let alloc = rt.alloc();
+    assert!(rt; fault_of(alloc, &[0x003E])? == Some(CodeFault::Opcode(0)));
+    assert!(rt; fault_of(alloc, &[0x0013])? == Some(CodeFault::Cut(0)));
+    assert!(rt; fault_of(alloc, &[0x0000])? == Some(CodeFault::FallsOff(0)));
+    assert!(rt; fault_of(alloc, &[])? == Some(CodeFault::FallsOff(0)));
+    let filled = [0x0300, 0x0001, 0x0000, 0x0000];
+    assert!(rt; fault_of(alloc, &filled)? == Some(CodeFault::FallsOff(0)));
+    Ok(())
+}
+
+/// `move-wide v0, v1` with two registers; `const/4 v0` and `goto` into its own payload; a `fill-array-data` of a table.
+#[test]
+fn faults_behind_the_first_line(rt: HostRuntime) -> Result<(), Fail> {
+    let alloc = rt.alloc();
+    let pair = [0x0012, 0x1004, 0x000E];
+    assert!(rt; fault_of(alloc, &pair)? == Some(CodeFault::Register(1)));
+    let into_payload = [0x0012, 0x0228, 0x0000, 0x0100, 0x0000, 0x0000, 0x0000];
+    assert!(rt; fault_of(alloc, &into_payload)? == Some(CodeFault::Target(1)));
+    let other_kind = [
+        0x0026, 0x0004, 0x0000, 0x000E, 0x0100, 0x0000, 0x0000, 0x0000,
+    ];
+    assert!(rt; fault_of(alloc, &other_kind)? == Some(CodeFault::Payload(0)));
+    let string = [0x001A, 0x0000, 0x000E];
+    assert!(rt; fault_of(alloc, &string)? == Some(CodeFault::Index(0)));
+    Ok(())
+}
+
+/// Two `packed-switch` share a table whose one distance is right for the first alone.
+#[test]
+fn each_switch_counts_from_itself(rt: HostRuntime) -> Result<(), Fail> {
+    let units = [
+        0x002B, 0x0008, 0x0000, 0x002B, 0x0005, 0x0000, 0x000E, 0x0000, 0x0100, 0x0001, 0x0000,
+        0x0000, 0x0003, 0x0000,
+    ];
+    let code = code_of(rt.alloc(), &units)?;
+    let decoded = decode(rt.alloc(), &code, &NONE)?;
+    assert!(rt; decoded.lines.len() == 5);
+    let mut wrong = units;
+    wrong[12] = 0x0004;
+    assert!(rt; fault_of(rt.alloc(), &wrong)? == Some(CodeFault::Target(0)));
+    wrong[12] = 0x0007;
+    assert!(rt; fault_of(rt.alloc(), &wrong)? == Some(CodeFault::Target(3)));
+    Ok(())
+}
+
+#[test]
+fn a_handler_starts_an_instruction(rt: HostRuntime) -> Result<(), Fail> {
+    let alloc = rt.alloc();
+    let code = RawCode {
+        registers: 2,
+        ins: 0,
+        outs: 0,
+        units: Seq::from_vec(vec![in alloc; 0x0013, 0x0001, 0x000E]?),
+        tries: Seq::from_vec(vec![in alloc;
+            RawTry {
+                start: 0,
+                count: 3,
+                handlers: Seq::from_vec(vec![in alloc; (0, 2)]?),
+                catch_all: Some(1),
+            },
+        ]?),
+    };
+    assert!(rt; decode(alloc, &code, &NONE).err() == Some(CodeFault::Tries(0)));
+    Ok(())
+}
+
+/// 60,000 units of `goto`, each to the next and the last one back.
+#[test]
+fn many_branches_are_quick(rt: HostRuntime) -> Result<(), Fail> {
+    let alloc = rt.alloc();
+    let mut units = Vec::new(alloc);
+    for _ in 0..59_999 {
+        units.push(0x0128)?;
+    }
+    units.push(0xFF28)?;
+    let code = code_of(alloc, &units)?;
+    assert!(rt; code.units.len() == 60_000);
+    let decoded = decode(alloc, &code, &NONE)?;
+    assert!(rt; decoded.lines.len() == 60_000);
+    Ok(())
+}
+
+/// Two `packed-switch` that share a table, a `return-void`, padding and the table.
+#[test]
+fn next_lines_of_switches(rt: HostRuntime) -> Result<(), Fail> {
+    let alloc = rt.alloc();
+    let units = [
+        0x002B, 0x0008, 0x0000, 0x002B, 0x0005, 0x0000, 0x000E, 0x0000, 0x0100, 0x0002, 0x0000,
+        0x0000, 0x0003, 0x0000, 0x0003, 0x0000,
+    ];
+    let code = code_of(alloc, &units)?;
+    let decoded = decode(alloc, &code, &NONE)?;
+    let lines = decoded.lines.as_slice();
+    assert!(rt; lines.len() == 5);
+    let first = next_of_line(alloc, lines, &lines[0], &lines[1..])?;
+    assert!(rt; first.as_slice() == [3].as_slice());
+    let second = next_of_line(alloc, lines, &lines[1], &lines[2..])?;
+    assert!(rt; second.as_slice() == [6].as_slice());
+    let returned = next_of_line(alloc, lines, &lines[2], &lines[3..])?;
+    assert!(rt; returned.is_empty());
+    let padding = next_of_line(alloc, lines, &lines[3], &lines[4..])?;
+    assert!(rt; padding.is_empty());
+    Ok(())
+}
+
+#[test]
+fn handlers_of_two_tries(rt: HostRuntime) -> Result<(), Fail> {
+    let alloc = rt.alloc();
+    let first = RawTry {
+        start: 0,
+        count: 4,
+        handlers: Seq::from_vec(vec![in alloc; (0, 9), (1, 7)]?),
+        catch_all: Some(8),
+    };
+    let second = RawTry {
+        start: 2,
+        count: 3,
+        handlers: Seq::from_vec(vec![in alloc; (0, 7)]?),
+        catch_all: None,
+    };
+    let tries = [first, second];
+    let before = catches_at(alloc, &tries, Catches::new(alloc), 1)?;
+    assert!(rt; before.pcs.as_slice() == [7, 8, 9].as_slice());
+    let both = catches_at(alloc, &tries, before, 3)?;
+    assert!(rt; both.pcs.as_slice() == [7, 8, 9].as_slice());
+    let one = catches_at(alloc, &tries, both, 4)?;
+    assert!(rt; one.pcs.as_slice() == [7].as_slice());
+    let none = catches_at(alloc, &tries, one, 5)?;
+    assert!(rt; none.pcs.is_empty());
+    Ok(())
+}
+
+fn is_join(act: &Act, written: &[u32], read: &[u32]) -> bool {
+    match act {
+        Act::Join(destinations, sources) => {
+            destinations.as_slice() == written && sources.as_slice() == read
+        }
+        _ => false,
+    }
+}
+
+fn is_element_put(act: &Act, array: u32, source: u32) -> bool {
+    match act {
+        Act::Put(object, key, from) => *object == array && key.0 == 0 && *from == source,
+        _ => false,
+    }
+}
+
+/// `add-long/2addr v0, v2` reads both, and writes a pair; `aput v1, v2, v3` puts v1 into v2.
+#[test]
+fn acts_without_names(rt: HostRuntime) -> Result<(), Fail> {
+    let alloc = rt.alloc();
+    let add = Insn::F12x(0xBB, 0, 2);
+    assert!(rt; add.naming() == Naming::Nothing);
+    let sum = act_for(alloc, &add, Named::Nothing)?;
+    assert!(rt; is_join(&sum, &[0, 1], &[0, 2]));
+    let put = Insn::F23x(0x4B, 1, 2, 3);
+    assert!(rt; put.naming() == Naming::Nothing);
+    let stored = act_for(alloc, &put, Named::Nothing)?;
+    assert!(rt; is_element_put(&stored, 2, 1));
+    assert!(rt; Insn::F35c(0x6E, 7, Seq::new(alloc)).naming() == Naming::Method(7));
+    Ok(())
+}
