@@ -1,0 +1,5 @@
+pub mod Keys
+pub mod Listed
+pub mod Walking
+pub mod Forms
+pub mod Tables

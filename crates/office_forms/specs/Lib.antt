@@ -1,0 +1,5 @@
+pub mod Words
+pub mod Tree
+pub mod Fields
+pub mod Form
+pub mod Declaration

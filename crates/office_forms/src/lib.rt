@@ -1,0 +1,17 @@
+//! Reads the forms that a developer and the store hand in as TOML: the declaration, each to its
+//! value or to the first test that it fails.
+#![tactic(auto)]
+
+mod declaration;
+
+mod fault;
+mod fields;
+mod told;
+mod tree;
+mod words;
+
+
+pub use declaration::read_declaration;
+pub use fault::Fault;
+pub use told::FormFault;
+pub use words::{Key, Section};
