@@ -7,6 +7,7 @@ use Rattle.app_model.specs.declared.papers.Declaration.{Declaration}
 use Rattle.office_forms.specs.declared.fault.Fault.{Fault}
 use Rattle.office_forms.specs.declared.words.Section.TheVariants as section
 use Rattle.office_forms.specs.declared.words.Key.TheVariants as key
+use Rattle.office_forms.specs.declared.spelling.Spelling.TheVariants.{Text}
 use Rattle.office_forms.specs.Fields.{known, text_at, tables_at, table_in}
 
 -- a flow: the category of its source and that of its sink
@@ -14,8 +15,8 @@ unfoldable pub use_row : Data → Unit {0} → Script Fault ((Name × Name) × U
 use_row d _ = do
   t ← table_in section.Declaration key.Use d
   _ ← known section.Use t
-  source ← text_at section.Use key.Source t
-  sink ← text_at section.Use key.Sink t
+  source ← text_at section.Use key.Source Text t
+  sink ← text_at section.Use key.Sink Text t
   Value ((source, sink), tt)
 
 unfoldable pub uses_of : List Data → Script Fault (List (Name × Name) × Unit {0})

@@ -1,5 +1,9 @@
 pub mod Words
 pub mod Tree
+pub mod Spelling
 pub mod Fields
 pub mod Form
+pub mod Places
+pub mod Each
+pub mod Layouts
 pub mod Declaration

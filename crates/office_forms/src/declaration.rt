@@ -6,6 +6,7 @@ ghost use Rattle.toml.specs.View.{table_view, view};
 ghost use Rattle.vet_base.specs.Script.{Gives};
 
 use crate::fields::{table_in, tables_at, text_at};
+use crate::spelling::Spelling;
 use crate::told::told_of;
 use crate::tree::{known, read_tree};
 use crate::{Fault, FormFault, Key, Section};
@@ -60,7 +61,7 @@ fn use_of(alloc: Global, value: &Value) -> Result<(Name, Name), Stop<Fault>>
 {
     let table = table_in(value, Section::Declaration, Key::Use)?;
     known(alloc, table, Section::Use)?;
-    let source = text_at(alloc, table, Section::Use, Key::Source)?;
-    let sink = text_at(alloc, table, Section::Use, Key::Sink)?;
+    let source = text_at(alloc, table, Section::Use, Key::Source, Spelling::Text)?;
+    let sink = text_at(alloc, table, Section::Use, Key::Sink, Spelling::Text)?;
     Ok((source, sink))
 }

@@ -6,6 +6,10 @@ mod declaration;
 
 mod fault;
 mod fields;
+mod index;
+mod layouts;
+mod once;
+mod spelling;
 mod told;
 mod tree;
 mod words;
@@ -13,5 +17,6 @@ mod words;
 
 pub use declaration::read_declaration;
 pub use fault::Fault;
+pub use layouts::read_layouts;
 pub use told::FormFault;
 pub use words::{Key, Section};
