@@ -60,6 +60,15 @@ text_free s k spelling (Some d) = do
 unfoldable pub maybe_text_at : Section → Key → Spelling → Members → Script Fault (Option Name)
 maybe_text_at s k spelling t = text_free s k spelling (at_key k t)
 
+-- a text that has to be one of some words, as it stands
+abbrev pub word_in : Section → Key → Option Data → Script Fault (Option Name)
+word_in s k None = Value None
+word_in s k (Some (string text)) = Value (Some text)
+word_in s k (Some _) = Test false (Wrong s k) (Value None)
+
+unfoldable pub word_at : Section → Key → Members → Script Fault (Option Name)
+word_at s k t = word_in s k (at_key k t)
+
 -- a number from `low` to `high`
 abbrev pub number_due : Section → Key → ℕ → ℕ → Option Data → Script Fault ℕ
 number_due s k low high None = Test false (Missing s k) (Value 0)

@@ -6,4 +6,5 @@ pub mod Form
 pub mod Places
 pub mod Each
 pub mod Layouts
+pub mod Manifest
 pub mod Declaration

@@ -1,6 +1,7 @@
 //! What stands at a key: one reader for each kind of value.
 ghost use Rattle.std.specs.Prelude.{◌≡◌, map};
-ghost use Rattle.office_forms.specs.Fields.{text_at, maybe_text_at, text_of_value, number_at, texts_at, texts_in, text_items, text_item, all_fit, tables_at, is_table, all_tables, table_in};
+ghost use Rattle.std.specs.Option.{option_copied};
+ghost use Rattle.office_forms.specs.Fields.{text_at, maybe_text_at, word_at, text_of_value, number_at, texts_at, texts_in, text_items, text_item, all_fit, tables_at, is_table, all_tables, table_in};
 ghost use Rattle.toml.specs.View.{table_view, view};
 ghost use Rattle.vet_base.specs.Script.{Gives};
 
@@ -63,6 +64,24 @@ fn text_in(
         return Err(Stop::Fault(Fault::Range(section, key)));
     }
     Ok(Name::from_bytes(alloc, text.as_bytes())?)
+}
+
+/// The text of a key that has words of its own, where it is there.
+#[tactic(auto, unfolding(crate::specs::Fields::word_at))]
+pub fn word_at<'a>(
+    table: &'a Table,
+    section: Section,
+    key: Key,
+) -> Result<Option<&'a str>, Stop<Fault>>
+    ensures { Gives (λ w. option_copied w) result (word_at section key (table_view table.now)) }
+{
+    let Some(value) = value_at(table, key) else {
+        return Ok(None);
+    };
+    match value.as_str() {
+        Some(text) => Ok(Some(text)),
+        None => Err(Stop::Fault(Fault::Wrong(section, key))),
+    }
 }
 
 /// A number from `low` to `high`.
