@@ -6,3 +6,4 @@ pub mod Tables
 pub mod Placing
 pub mod Eaching
 pub mod Merging
+pub mod Above

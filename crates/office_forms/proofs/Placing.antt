@@ -1,5 +1,5 @@
 -- An index with one key more has the places of the longer list.
-use Rattle.std.proofs.Common.{◌≡◌, ℕ, suc, ◌+◌, Bool, true, false, cond, List, [], ◌∷◌, ◌++◌, length, Option, Some, None, option_map, refl, ap, sym, ◌∙◌, ⊎_elim, inl, inr, ◌⊎◌, Bor, option_copied, is_some, subst}
+use Rattle.std.proofs.Common.{◌≡◌, ℕ, suc, ◌+◌, Bool, true, false, cond, List, [], ◌∷◌, ◌++◌, length, Option, Some, None, option_map, refl, ap, sym, ◌∙◌, ⊎_elim, inl, inr, ◌⊎◌, Bor, option_copied, is_some, subst, IfSome, ◌<◌, arith}
 use Rattle.std.specs.Option.{option_or}
 use Rattle.std.specs.declared.cmp.Ordering.{Ordering}
 use Rattle.std.specs.Ordering.{is_eq}
@@ -37,6 +37,22 @@ module _ {K : Type 0} (same : K → K → Bool) where
       (λ e. place_step x j (keys ++ k ∷ []) false e ∙ ap (option_map suc) (place_last x keys k) ∙ step_or (place_of same x keys) (same x k) (length keys)
           ∙ sym (ap (λ o. option_or o after) (place_step x j keys false e)))
       (either (same x j))
+
+  -- a place is below the length
+  below_suc : (o : Option ℕ) (n : ℕ) → IfSome o (λ i. i < n) → IfSome (option_map suc o) (λ i. i < suc n)
+  below_suc None n h = tt
+  below_suc (Some i) n h = omega (arith, h)
+
+  pub place_is_within : (x : K) (keys : List K) → IfSome (place_of same x keys) (λ i. i < length keys)
+  unfolding place_of
+  place_is_within x [] = tt
+  place_is_within x (k ∷ keys) =
+      elim (same x k) as (λ b. IfSome (cond b (Some 0) (option_map suc (place_of same x keys))) (λ i. i < suc (length keys))) [
+          true ↦ omega arith
+        | false ↦ below_suc (place_of same x keys) (length keys) (place_is_within x keys) ]
+
+  pub is_within : (o : Option ℕ) (x : K) (keys : List K) → o ≡ place_of same x keys → IfSome o (λ i. i < length keys)
+  is_within o x keys e = rw e (place_is_within x keys)
 
   -- two keys that are the same stand at the same place
   place_same : IsEquivalence same → (q k : K) (keys : List K) → same q k ≡ true → place_of same q keys ≡ place_of same k keys

@@ -7,4 +7,5 @@ pub mod Places
 pub mod Each
 pub mod Layouts
 pub mod Manifest
+pub mod Classes
 pub mod Declaration

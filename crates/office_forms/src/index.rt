@@ -1,5 +1,5 @@
 //! Keys in their order, each found by an ordered map.
-ghost use Rattle.std.specs.Prelude.{◌≡◌, ◌++◌, [], ◌∷◌, IfOk, is_some};
+ghost use Rattle.std.specs.Prelude.{◌≡◌, ◌<◌, ◌++◌, [], ◌∷◌, length, IfOk, IfSome};
 ghost use Rattle.office_forms.specs.Places.{place_of};
 
 use std::alloc::Global;
@@ -37,9 +37,18 @@ impl<K: Ord> Index<K> {
         }
     }
 
+    /// How many keys there are.
+    pub fn len(&self) -> usize
+        ensures { result ≡ length self.now }
+    {
+        self.keys.len()
+    }
+
     /// Where the key stands first.
+    #[tactic(auto, using(crate::proofs::Placing::is_within))]
     pub fn place_of(&self, key: &K) -> Option<usize>
-        ensures { result ≡ place_of K.eq key.now self.now }
+        ensures place { result ≡ place_of K.eq key.now self.now }
+        ensures within { IfSome result (λ i. i < length self.now) }
     {
         self.places.get(key).copied()
     }

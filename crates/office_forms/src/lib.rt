@@ -2,6 +2,7 @@
 //! value or to the first test that it fails.
 #![tactic(auto)]
 
+mod classes;
 mod declaration;
 
 mod fault;
