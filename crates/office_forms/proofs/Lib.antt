@@ -2,7 +2,7 @@ pub mod Keys
 pub mod Listed
 pub mod Walking
 pub mod Forms
-pub mod Tables
+pub mod Shapes
 pub mod Placing
 pub mod Eaching
 pub mod Merging

@@ -11,6 +11,8 @@ use Rattle.office_forms.specs.declared.words.Section.{Section}
 use Rattle.office_forms.specs.declared.words.Key.{Key}
 use Rattle.office_forms.specs.declared.spelling.Spelling.{Spelling}
 use Rattle.office_forms.specs.Spelling.{fits}
+use Rattle.office_forms.specs.declared.shape.Shape.TheVariants as shape
+use Rattle.office_forms.specs.Shape.{all_have}
 use Rattle.office_forms.specs.Words.{text_of, keys_of}
 use Rattle.office_forms.specs.Tree.{items_in}
 
@@ -111,19 +113,11 @@ texts_due s k spelling most (Some d) = do
 unfoldable pub texts_at : Section → Key → Spelling → ℕ → Members → Script Fault (List Name)
 texts_at s k spelling most t = texts_due s k spelling most (at_key k t)
 
--- the value is a table
-unfoldable pub is_table : Data → Bool
-is_table (table ms) = true
-is_table _ = false
-
-unfoldable pub all_tables : List Data → Bool
-all_tables ds = list_all is_table ds
-
 -- an array of tables, at most so many, which may be missing
 abbrev pub tables_among : Section → Key → ℕ → Option (List Data) → Script Fault (List Data)
 tables_among s k most None = Test false (Wrong s k) (Value [])
 tables_among s k most (Some items) = do
-  _ ← test (all_tables items) (Wrong s k)
+  _ ← test (all_have shape.Table items) (Wrong s k)
   _ ← test (nat_le (length items) most) (Range s k)
   Value items
 

@@ -1,6 +1,7 @@
 pub mod Words
 pub mod Tree
 pub mod Spelling
+pub mod Shape
 pub mod Fields
 pub mod Form
 pub mod Places

@@ -1,10 +1,11 @@
 //! What stands at a key: one reader for each kind of value.
 ghost use Rattle.std.specs.Prelude.{◌≡◌, map};
 ghost use Rattle.std.specs.Option.{option_copied};
-ghost use Rattle.office_forms.specs.Fields.{text_at, maybe_text_at, word_at, text_of_value, number_at, texts_at, texts_in, text_items, text_item, all_fit, tables_at, is_table, all_tables, table_in};
+ghost use Rattle.office_forms.specs.Fields.{text_at, maybe_text_at, word_at, text_of_value, number_at, texts_at, texts_in, text_items, text_item, all_fit, tables_at, table_in};
 ghost use Rattle.toml.specs.View.{table_view, view};
 ghost use Rattle.vet_base.specs.Script.{Gives};
 
+use crate::shape::{Shape, all_have};
 use crate::spelling::Spelling;
 use crate::tree::{items_in, value_at};
 use crate::{Fault, Key, Section};
@@ -204,31 +205,13 @@ pub fn tables_at<'a>(
     let Some(values) = items_in(value) else {
         return Err(Stop::Fault(Fault::Wrong(section, key)));
     };
-    if !are_tables(values) {
+    if !all_have(Shape::Table, values) {
         return Err(Stop::Fault(Fault::Wrong(section, key)));
     }
     if values.len() > most {
         return Err(Stop::Fault(Fault::Range(section, key)));
     }
     Ok(values)
-}
-
-fn are_tables(values: &[Value]) -> bool
-    ensures { result ≡ all_tables (map view values.now) }
-{
-    for value in values {
-        if !is_table(value) {
-            return false;
-        }
-    }
-    true
-}
-
-#[tactic(auto, unfolding(crate::specs::Fields::is_table))]
-fn is_table(value: &Value) -> bool
-    ensures { result ≡ is_table (view value.now) }
-{
-    value.as_table().is_some()
 }
 
 /// One of the tables of an array.
