@@ -9,4 +9,5 @@ pub mod Each
 pub mod Layouts
 pub mod Manifest
 pub mod Classes
+pub mod Positions
 pub mod Declaration

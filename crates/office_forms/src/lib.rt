@@ -11,6 +11,7 @@ mod index;
 mod layouts;
 mod manifest;
 mod once;
+mod positions;
 mod shape;
 mod spelling;
 mod told;
