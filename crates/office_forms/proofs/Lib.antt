@@ -7,3 +7,4 @@ pub mod Placing
 pub mod Eaching
 pub mod Merging
 pub mod Above
+pub mod Params

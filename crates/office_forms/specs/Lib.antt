@@ -10,4 +10,5 @@ pub mod Layouts
 pub mod Manifest
 pub mod Classes
 pub mod Positions
+pub mod Descriptor
 pub mod Declaration

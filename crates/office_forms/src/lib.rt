@@ -4,6 +4,7 @@
 
 mod classes;
 mod declaration;
+mod descriptor;
 
 mod fault;
 mod fields;
