@@ -11,4 +11,5 @@ pub mod Manifest
 pub mod Classes
 pub mod Positions
 pub mod Descriptor
+pub mod Methods
 pub mod Declaration

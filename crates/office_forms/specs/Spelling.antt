@@ -1,5 +1,5 @@
 -- How the texts of the forms are spelled.
-use Rattle.std.specs.Prelude.{ℕ, ◌-◌, ◌==◌, ◌&&◌, ◌||◌, nat_le, Bool, length, slice_index}
+use Rattle.std.specs.Prelude.{ℕ, ◌-◌, ◌==◌, ◌&&◌, ◌||◌, nat_le, Bool, true, length, slice_index}
 use Rattle.std.specs.List.{list_all}
 use Rattle.app_model.specs.Names.{Name}
 use Rattle.office_forms.specs.declared.spelling.Spelling.{Spelling}
@@ -25,6 +25,7 @@ unfoldable pub is_category : Name → Bool
 is_category s = is_short s && are_category_bytes s
 
 unfoldable pub fits : Spelling → Name → Bool
+fits spelling.Any s = true
 fits spelling.Text s = is_short s
 fits spelling.Class s = is_class s
 fits spelling.Category s = is_category s

@@ -8,12 +8,15 @@ mod descriptor;
 
 mod fault;
 mod fields;
+mod gives;
 mod index;
 mod layouts;
 mod manifest;
+mod methods;
 mod once;
 mod positions;
 mod shape;
+mod signature;
 mod spelling;
 mod told;
 mod tree;

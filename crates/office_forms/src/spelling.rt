@@ -5,6 +5,8 @@ ghost use Rattle.office_forms.specs.Spelling.{fits, is_short, is_class, is_categ
 /// The spellings of a text.
 #[derive(Clone, Copy, Debug, PartialEq, Eq)]
 pub enum Spelling {
+    /// Anything.
+    Any,
     /// 1 to 255 bytes.
     Text,
     /// The descriptor of a class, `L..;`, of 3 to 255 bytes.
@@ -20,6 +22,7 @@ impl Spelling {
         ensures { result ≡ fits self text.now }
     {
         match self {
+            Spelling::Any => true,
             Spelling::Text => is_short(text),
             Spelling::Class => is_class(text),
             Spelling::Category => is_category(text),
