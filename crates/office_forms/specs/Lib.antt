@@ -11,5 +11,6 @@ pub mod Manifest
 pub mod Classes
 pub mod Positions
 pub mod Descriptor
+pub mod SameKey
 pub mod Methods
 pub mod Declaration

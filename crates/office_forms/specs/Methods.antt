@@ -1,7 +1,6 @@
 -- What the lists say of methods of the library.
 use Rattle.std.specs.Prelude.{◌≡◌, ℕ, ◌+◌, ◌==◌, ◌&&◌, not, Bool, true, false, codes, List, [], ◌∷◌, ◌++◌, length, slice_index, Option, Some, None, is_some, is_none, unwrap_or, if◌then◌else◌}
 use Rattle.std.specs.Str.{bytes_eq}
-use Rattle.std.specs.Bool.{beq}
 use Rattle.toml.specs.Data.{Data, Members}
 use Rattle.vet_base.specs.Script.{Script, Value, Test, ◌>>=◌, test}
 use Rattle.app_model.specs.Names.{Name, same_name}
@@ -21,6 +20,7 @@ use Rattle.office_forms.specs.declared.gives.GivesWord.{GivesWord}
 use Rattle.office_forms.specs.declared.gives.GivesWord.TheVariants.{Blank, Same, Taken, Joined, Shared}
 use Rattle.office_forms.specs.declared.methods.Listed.{Listed}
 use Rattle.office_forms.specs.declared.methods.MethodRows.{MethodRows}
+use Rattle.office_forms.specs.SameKey.{same_row}
 use Rattle.office_forms.specs.Places.{place_of}
 use Rattle.office_forms.specs.Each.{each}
 use Rattle.office_forms.specs.Fields.{known, text_at, word_at, table_in}
@@ -28,8 +28,8 @@ use Rattle.office_forms.specs.Positions.{has_key, flag_at, positions_at, pairs_a
 use Rattle.office_forms.specs.Descriptor.{proto_of}
 
 -- what tells one method row from another
-unfoldable pub same_key : MethodKey → MethodKey → Bool
-same_key a b = same_name a.class b.class && same_name a.name b.name && same_name a.descriptor b.descriptor && beq a.is_static b.is_static
+abbrev pub same_key : MethodKey → MethodKey → Bool
+same_key a b = same_row a.class b.class a.name b.name a.descriptor b.descriptor a.is_static b.is_static
 
 unfoldable pub key_once : MethodKey → List MethodKey → Script Fault (List MethodKey)
 key_once row seen = do

@@ -1,5 +1,7 @@
 //! What tells one method of the lists from another.
 ghost use Rattle.std.specs.Prelude.{◌≡◌, ◌+◌, length, IfOk};
+ghost use Rattle.std.proofs.Common.{rules};
+ghost use Rattle.std.specs.Cmp.Rules.{comparing};
 ghost use Rattle.office_forms.specs.Methods.{same_key, key_once, keys_once, proto_at, count_of, key_of};
 ghost use Rattle.toml.specs.View.{table_view};
 ghost use Rattle.vet_base.specs.Script.{Gives};
@@ -15,12 +17,27 @@ use toml::Table;
 use vet_base::{Memory, Name, Stop};
 
 /// The class, the name, the descriptor and the static word of a method row.
-#[derive(Debug, PartialEq, Eq, PartialOrd, Ord, Drop)]
+#[derive(Debug, Eq, PartialOrd, Ord, Drop)]
 pub struct MethodKey {
     pub class: Name,
     pub name: Name,
     pub descriptor: Name,
     pub is_static: bool,
+}
+
+impl PartialEq for MethodKey {
+    ghost use Rattle.office_forms.specs.SameKey.{same_row};
+
+    ghost eq = { λ a b. same_row a.class b.class a.name b.name a.descriptor b.descriptor a.is_static b.is_static };
+
+    ghost laws = { Prim.search (comparing, rules) };
+
+    fn eq(&self, other: &MethodKey) -> bool {
+        self.class == other.class
+            && self.name == other.name
+            && self.descriptor == other.descriptor
+            && self.is_static == other.is_static
+    }
 }
 
 impl MethodKey {
@@ -81,11 +98,8 @@ pub fn proto_at(
 pub fn count_of(proto: &Proto, is_static: bool) -> usize
     ensures { result ≡ count_of proto.now is_static }
 {
-    if is_static {
-        proto.params.len()
-    } else {
-        proto.params.len() + 1
-    }
+    let params = proto.params.as_slice().len();
+    if is_static { params } else { params + 1 }
 }
 
 /// No row stands twice.
