@@ -13,4 +13,7 @@ pub mod Positions
 pub mod Descriptor
 pub mod SameKey
 pub mod Methods
+pub mod Callbacks
+
 pub mod Declaration
+pub mod Lists

@@ -1,5 +1,5 @@
 //! What stands at a key: one reader for each kind of value.
-ghost use Rattle.std.specs.Prelude.{◌≡◌, map};
+ghost use Rattle.std.specs.Prelude.{◌≡◌, ◌≤◌, map, length, IfOk};
 ghost use Rattle.std.specs.Option.{option_copied};
 ghost use Rattle.office_forms.specs.Fields.{text_at, maybe_text_at, word_at, text_of_value, number_at, texts_at, texts_in, text_items, text_item, all_fit, tables_at, table_in};
 ghost use Rattle.toml.specs.View.{table_view, view};
@@ -118,7 +118,8 @@ pub fn texts_at(
     spelling: Spelling,
     most: usize,
 ) -> Result<Vec<Name>, Stop<Fault>>
-    ensures { Gives (λ v. v.items) result (texts_at section key spelling most (table_view table.now)) }
+    ensures value { Gives (λ v. v.items) result (texts_at section key spelling most (table_view table.now)) }
+    ensures few { IfOk result (λ v. length v.items ≤ most) }
 {
     let Some(value) = value_at(table, key) else {
         return Err(Stop::Fault(Fault::Missing(section, key)));
@@ -197,7 +198,8 @@ pub fn tables_at<'a>(
     key: Key,
     most: usize,
 ) -> Result<&'a [Value], Stop<Fault>>
-    ensures { Gives (λ x. map view x.now) result (tables_at section key most (table_view table.now)) }
+    ensures value { Gives (λ x. map view x.now) result (tables_at section key most (table_view table.now)) }
+    ensures few { IfOk result (λ x. length x.now ≤ most) }
 {
     let Some(value) = value_at(table, key) else {
         return Ok(&[]);

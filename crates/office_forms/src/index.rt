@@ -44,6 +44,13 @@ impl<K: Ord> Index<K> {
         self.keys.len()
     }
 
+    /// The keys in their order.
+    pub fn as_keys(&self) -> &[K]
+        ensures { result.now ≡ self.now }
+    {
+        &self.keys
+    }
+
     /// Where the key stands first.
     #[tactic(auto, using(crate::proofs::Placing::is_within))]
     pub fn place_of(&self, key: &K) -> Option<usize>

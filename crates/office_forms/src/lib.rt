@@ -2,6 +2,7 @@
 //! value or to the first test that it fails.
 #![tactic(auto)]
 
+mod callbacks;
 mod classes;
 mod declaration;
 mod descriptor;
@@ -11,6 +12,7 @@ mod fields;
 mod gives;
 mod index;
 mod layouts;
+mod lists;
 mod manifest;
 mod methods;
 mod once;
@@ -26,6 +28,7 @@ mod words;
 pub use declaration::read_declaration;
 pub use fault::Fault;
 pub use layouts::read_layouts;
+pub use lists::read_lists;
 pub use manifest::read_manifest;
 pub use told::FormFault;
 pub use words::{Key, Section};

@@ -113,7 +113,7 @@ pub fn listed_at(
 
 /// The items of a list, which have a shape; none where the list is missing.
 #[tactic(auto, unfolding(crate::specs::Positions::items_at))]
-fn items_at<'a>(
+pub fn items_at<'a>(
     table: &'a Table,
     section: Section,
     key: Key,
@@ -154,7 +154,7 @@ fn position_of(
 
 /// The position that stands at a place of a list.
 #[tactic(auto, unfolding(crate::specs::Positions::position_at))]
-fn position_at(
+pub fn position_at(
     items: &[Value],
     at: usize,
     section: Section,
@@ -239,7 +239,7 @@ fn pair_row(
 }
 
 #[tactic(auto, unfolding(crate::specs::Positions::are_two))]
-fn are_two(items: &[Value]) -> bool
+pub fn are_two(items: &[Value]) -> bool
     ensures { result ≡ are_two (map view items.now) }
 {
     items.len() == 2
@@ -247,7 +247,7 @@ fn are_two(items: &[Value]) -> bool
 
 /// The name that stands at a place of a list, by its number among some names.
 #[tactic(auto, unfolding(crate::specs::Positions::name_at))]
-fn name_at(
+pub fn name_at(
     alloc: Global,
     items: &[Value],
     at: usize,
