@@ -35,7 +35,7 @@ above_is q (c ∷ cs) d =
     ⊎_elim
     (λ e. above_step q c cs true e ∙ sym (ap (λ o. at_place o (c ∷ cs) d) (place_step q c.name (map class_name cs) true e)))
     (λ e. above_step q c cs false e ∙ above_is q cs d ∙ sym (at_suc (place_of same_name q (map class_name cs)) c cs d)
-        ∙ sym (ap (λ o. at_place o (c ∷ cs) d) (place_step q c.name (map class_name cs) false e)))
+    ∙ sym (ap (λ o. at_place o (c ∷ cs) d) (place_step q c.name (map class_name cs) false e)))
     (either (same_name q c.name))
 
 pub none_above : (q : Name) (cs : List LibClass) (names : List Name) → names ≡ map class_name cs → None ≡ place_of same_name q names → above_in cs q ≡ None

@@ -35,7 +35,7 @@ module _ {K : Type 0} (same : K → K → Bool) where
       ⊎_elim
       (λ e. place_step x j (keys ++ k ∷ []) true e ∙ sym (ap (λ o. option_or o after) (place_step x j keys true e)))
       (λ e. place_step x j (keys ++ k ∷ []) false e ∙ ap (option_map suc) (place_last x keys k) ∙ step_or (place_of same x keys) (same x k) (length keys)
-          ∙ sym (ap (λ o. option_or o after) (place_step x j keys false e)))
+      ∙ sym (ap (λ o. option_or o after) (place_step x j keys false e)))
       (either (same x j))
 
   -- a place is below the length
@@ -48,8 +48,9 @@ module _ {K : Type 0} (same : K → K → Bool) where
   place_is_within x [] = tt
   place_is_within x (k ∷ keys) =
       elim (same x k) as (λ b. IfSome (cond b (Some 0) (option_map suc (place_of same x keys))) (λ i. i < suc (length keys))) [
-          true ↦ omega arith
-        | false ↦ below_suc (place_of same x keys) (length keys) (place_is_within x keys) ]
+        | true ↦ omega arith
+        | false ↦ below_suc (place_of same x keys) (length keys) (place_is_within x keys)
+      ]
 
   pub is_within : (o : Option ℕ) (x : K) (keys : List K) → o ≡ place_of same x keys → IfSome o (λ i. i < length keys)
   is_within o x keys e = rw e (place_is_within x keys)
@@ -69,16 +70,18 @@ module _ {K : Type 0} (same : K → K → Bool) where
       → (m n : BTreeMap K ℕ) (keys : List K) (k : K) → HasPlaces cmp same m keys → get cmp m k ≡ None → Updates cmp m n k (Some (length keys))
       → HasPlaces cmp same n (keys ++ k ∷ [])
   unfolding last_place
-  more_absent cmp laws agree m n keys k has none updates = record { at = λ q.
-      let there = updates.0 q in
-      let tested : is_eq (cmp k q) ≡ same q k = sym (agree k q) ∙ laws.symm k q in
-      ⊎_elim
-      (λ e. let gone : place_of same q keys ≡ None = place_same laws q k keys e ∙ sym (has.at k) ∙ none in
-            there ∙ ap (λ b. cond b (Some (length keys)) (get cmp m q)) (tested ∙ e)
-            ∙ sym (place_last q keys k ∙ ap (λ b. option_or (place_of same q keys) (last_place b (length keys))) e ∙ ap (λ o. option_or o (Some (length keys))) gone))
-      (λ e. there ∙ ap (λ b. cond b (Some (length keys)) (get cmp m q)) (tested ∙ e) ∙ has.at q
-            ∙ sym (place_last q keys k ∙ ap (λ b. option_or (place_of same q keys) (last_place b (length keys))) e ∙ or_None (place_of same q keys)))
-      (either (same q k)) }
+  more_absent cmp laws agree m n keys k has none updates = record {
+    at = λ q.
+        let there = updates.0 q in
+        let tested : is_eq (cmp k q) ≡ same q k = sym (agree k q) ∙ laws.symm k q in
+        ⊎_elim
+        (λ e. let gone : place_of same q keys ≡ None = place_same laws q k keys e ∙ sym (has.at k) ∙ none in
+        there ∙ ap (λ b. cond b (Some (length keys)) (get cmp m q)) (tested ∙ e)
+        ∙ sym (place_last q keys k ∙ ap (λ b. option_or (place_of same q keys) (last_place b (length keys))) e ∙ ap (λ o. option_or o (Some (length keys))) gone))
+        (λ e. there ∙ ap (λ b. cond b (Some (length keys)) (get cmp m q)) (tested ∙ e) ∙ has.at q
+        ∙ sym (place_last q keys k ∙ ap (λ b. option_or (place_of same q keys) (last_place b (length keys))) e ∙ or_None (place_of same q keys)))
+        (either (same q k));
+  }
 
   keeps : (o : Option ℕ) (p : Option ℕ) (n : ℕ) → o ≡ Some n → option_or o p ≡ o
   keeps (Some x) p n e = refl
@@ -89,12 +92,14 @@ module _ {K : Type 0} (same : K → K → Bool) where
       → (m : BTreeMap K ℕ) (keys : List K) (k : K) (place : ℕ) → HasPlaces cmp same m keys → get cmp m k ≡ Some place
       → HasPlaces cmp same m (keys ++ k ∷ [])
   unfolding last_place
-  more_present cmp laws m keys k place has there = record { at = λ q.
-      ⊎_elim
-      (λ e. let found : place_of same q keys ≡ Some place = place_same laws q k keys e ∙ sym (has.at k) ∙ there in
-            has.at q ∙ sym (place_last q keys k ∙ keeps (place_of same q keys) (last_place (same q k) (length keys)) place found))
-      (λ e. has.at q ∙ sym (place_last q keys k ∙ ap (λ b. option_or (place_of same q keys) (last_place b (length keys))) e ∙ or_None (place_of same q keys)))
-      (either (same q k)) }
+  more_present cmp laws m keys k place has there = record {
+    at = λ q.
+        ⊎_elim
+        (λ e. let found : place_of same q keys ≡ Some place = place_same laws q k keys e ∙ sym (has.at k) ∙ there in
+        has.at q ∙ sym (place_last q keys k ∙ keeps (place_of same q keys) (last_place (same q k) (length keys)) place found))
+        (λ e. has.at q ∙ sym (place_last q keys k ∙ ap (λ b. option_or (place_of same q keys) (last_place b (length keys))) e ∙ or_None (place_of same q keys)))
+        (either (same q k));
+  }
 
 pub is_not_there : (r : Option (Bor ℕ)) (o : Option ℕ) → option_copied r ≡ o → is_some r ≡ false → o ≡ None
 is_not_there None o e h = sym e

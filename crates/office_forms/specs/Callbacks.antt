@@ -25,7 +25,8 @@ callback_row categories d rows = do
   sources ← named_at section.Callback key.Sources (count_of proto.0 false) categories t
   Value (record {
     rows = rows.rows ++ record { class = class; name = name; proto = proto.0; sources = sources } ∷ [];
-    keys = rows.keys ++ record { class = class; name = name; descriptor = proto.1; is_static = false } ∷ [] })
+    keys = rows.keys ++ record { class = class; name = name; descriptor = proto.1; is_static = false } ∷ [];
+  })
 
 unfoldable pub callbacks_of : List Name → List Data → Script Fault CallbackRows
 callbacks_of categories tables = each (callback_row categories) tables (record { rows = []; keys = [] })

@@ -14,6 +14,5 @@ pub mod Descriptor
 pub mod SameKey
 pub mod Methods
 pub mod Callbacks
-
 pub mod Declaration
 pub mod Lists

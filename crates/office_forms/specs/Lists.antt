@@ -1,5 +1,5 @@
 -- The lists of the office: the limit of rows, the categories, and what is said of the library.
-use Rattle.std.specs.Prelude.{◌≡◌, ℕ, ◌==◌, nat_le, Bool, List, [], ◌∷◌, ◌++◌, length, map}
+use Rattle.std.specs.Prelude.{◌≡◌, ℕ, ◌==◌, ◌&&◌, nat_le, Bool, List, [], ◌∷◌, ◌++◌, length, map}
 use Rattle.toml.specs.Data.{Data, Members}
 use Rattle.vet_base.specs.Script.{Script, Value, Test, ◌>>=◌, test}
 use Rattle.app_model.specs.Names.{Name}
@@ -17,12 +17,15 @@ use Rattle.office_forms.specs.Classes.{classes_of, class_name}
 use Rattle.office_forms.specs.Methods.{keys_once, methods_of}
 use Rattle.office_forms.specs.Callbacks.{callbacks_of}
 
+-- one category at least, and none of them twice
+unfoldable pub are_categories : List Name → List Name → Bool
+are_categories names distinct = nat_le 1 (length names) && (length distinct == length names)
+
 -- 1 to 200 categories, no two the same
 unfoldable pub categories_at : Members → Script Fault (List Name)
 categories_at t = do
   names ← texts_at section.Lists key.Categories spelling.Category 200 t
-  _ ← test (nat_le 1 (length names)) (Range section.Lists key.Categories)
-  _ ← test (length (with_new [] names) == length names) (Range section.Lists key.Categories)
+  _ ← test (are_categories names (with_new [] names)) (Range section.Lists key.Categories)
   Value (with_new [] names)
 
 -- a shared object more: its name and its class
@@ -46,7 +49,11 @@ rows_of categories class_tables shared_tables method_tables callback_tables = do
   callbacks ← callbacks_of categories callback_tables
   Value (record {
     listed = record { categories = categories; classes = map class_name classes; shared = shared.names };
-    classes = classes; shared = shared.rows; methods = methods; callbacks = callbacks })
+    classes = classes;
+    shared = shared.rows;
+    methods = methods;
+    callbacks = callbacks;
+  })
 
 -- no class, shared name, method row or callback row stands twice
 unfoldable pub rows_once : Rows → Script Fault (Unit {0})

@@ -184,8 +184,19 @@ summary_of listed at t = do
   source ← listed_at section.Method key.Source listed.categories t
   sink ← sink_at listed.categories (count_of at.proto at.is_static) t
   reflective ← flag_at section.Method key.Reflective t
-  Value (record { class = at.class; name = at.name; proto = at.proto; is_static = at.is_static; gives = result; puts = puts; stores = stores; copies = copies;
-    source = source; sink = sink; reflective = reflective })
+  Value (record {
+    class = at.class;
+    name = at.name;
+    proto = at.proto;
+    is_static = at.is_static;
+    gives = result;
+    puts = puts;
+    stores = stores;
+    copies = copies;
+    source = source;
+    sink = sink;
+    reflective = reflective;
+  })
 
 unfoldable pub key_of : Signature → MethodKey
 key_of at = record { class = at.class; name = at.name; descriptor = at.descriptor; is_static = at.is_static }

@@ -153,10 +153,7 @@ fn first_semicolon(text: &[u8]) -> Option<usize>
 fn is_primitive(byte: u8) -> bool
     ensures { result ≡ is_primitive byte }
 {
-    matches!(
-        byte,
-        b'Z' | b'B' | b'S' | b'C' | b'I' | b'J' | b'F' | b'D'
-    )
+    matches!(byte, b'Z' | b'B' | b'S' | b'C' | b'I' | b'J' | b'F' | b'D')
 }
 
 /// Whether `)` stands there, and behind it `V` or a type.

@@ -169,12 +169,7 @@ fn text_items(
 }
 
 #[tactic(auto, unfolding(crate::specs::Fields::text_item))]
-fn text_item(
-    alloc: Global,
-    value: &Value,
-    section: Section,
-    key: Key,
-) -> Result<Name, Stop<Fault>>
+fn text_item(alloc: Global, value: &Value, section: Section, key: Key) -> Result<Name, Stop<Fault>>
     ensures { Gives (λ n. (n, tt)) result (text_item section key (view value.now) tt) }
 {
     let Some(text) = value.as_str() else {
@@ -218,11 +213,7 @@ pub fn tables_at<'a>(
 
 /// One of the tables of an array.
 #[tactic(auto, unfolding(crate::specs::Fields::table_in))]
-pub fn table_in<'a>(
-    value: &'a Value,
-    section: Section,
-    key: Key,
-) -> Result<&'a Table, Stop<Fault>>
+pub fn table_in<'a>(value: &'a Value, section: Section, key: Key) -> Result<&'a Table, Stop<Fault>>
     ensures { Gives (λ t. table_view t.now) result (table_in section key (view value.now)) }
 {
     match value.as_table() {

@@ -80,8 +80,22 @@ fn layout_of(alloc: Global, value: &Value, found: Found) -> Result<(Name, Found)
     let table = table_in(value, Section::Layouts, Key::Layout)?;
     known(alloc, table, Section::Layout)?;
     let name = text_at(alloc, table, Section::Layout, Key::Name, Spelling::Text)?;
-    let clicks = texts_at(alloc, table, Section::Layout, Key::Clicks, Spelling::Text, 4096)?;
-    let mut classes = texts_at(alloc, table, Section::Layout, Key::Classes, Spelling::Class, 4096)?;
+    let clicks = texts_at(
+        alloc,
+        table,
+        Section::Layout,
+        Key::Clicks,
+        Spelling::Text,
+        4096,
+    )?;
+    let mut classes = texts_at(
+        alloc,
+        table,
+        Section::Layout,
+        Key::Classes,
+        Spelling::Class,
+        4096,
+    )?;
     let mut all_classes = found.classes;
     all_classes.append(&mut classes)?;
     let found = Found {

@@ -6,7 +6,6 @@ mod callbacks;
 mod classes;
 mod declaration;
 mod descriptor;
-
 mod fault;
 mod fields;
 mod gives;
@@ -24,7 +23,6 @@ mod told;
 mod tree;
 mod words;
 
-
 pub use declaration::read_declaration;
 pub use fault::Fault;
 pub use layouts::read_layouts;
@@ -32,3 +30,6 @@ pub use lists::read_lists;
 pub use manifest::read_manifest;
 pub use told::FormFault;
 pub use words::{Key, Section};
+
+#[cfg(test)]
+mod tests;

@@ -1,7 +1,7 @@
 //! The lists of the office.
-ghost use Rattle.std.specs.Prelude.{◌≡◌, ◌≢◌, ◌≤◌, ◌+◌, ◌==◌, IfOk, IfErr, length, map};
+ghost use Rattle.std.specs.Prelude.{◌≡◌, ◌≢◌, ◌≤◌, ◌+◌, IsTrue, IfOk, IfErr, length, map};
 ghost use Rattle.office_forms.specs.Form.{IsForm, FirstFormFault};
-ghost use Rattle.office_forms.specs.Lists.{categories_at, shared_row, shared_of, rows_of, rows_once, lists_form};
+ghost use Rattle.office_forms.specs.Lists.{are_categories, categories_at, shared_row, shared_of, rows_of, rows_once, lists_form};
 ghost use Rattle.toml.specs.View.{table_view, view};
 ghost use Rattle.vet_base.specs.Script.{Gives};
 
@@ -83,21 +83,28 @@ fn categories_at(alloc: Global, tree: &Table) -> Result<Index<Name>, Stop<Fault>
     ensures value { Gives (λ x. x) result (categories_at (table_view tree.now)) }
     ensures few { IfOk result (λ x. length x ≤ 200) }
 {
-    let names = texts_at(alloc, tree, Section::Lists, Key::Categories, Spelling::Category, 200)?;
-    if names.is_empty() {
-        return Err(Stop::Fault(Fault::Range(Section::Lists, Key::Categories)));
-    }
+    let names = texts_at(
+        alloc,
+        tree,
+        Section::Lists,
+        Key::Categories,
+        Spelling::Category,
+        200,
+    )?;
     let distinct = with_new(alloc, Index::new(alloc), &names)?;
-    if !is_same(distinct.len(), names.len()) {
+    if !are_categories(&names, &distinct) {
         return Err(Stop::Fault(Fault::Range(Section::Lists, Key::Categories)));
     }
     Ok(distinct)
 }
 
-fn is_same(a: usize, b: usize) -> bool
-    ensures { result ≡ (a == b) }
+/// Whether there is one category at least, and none of them stands twice.
+#[tactic(auto, unfolding(crate::specs::Lists::are_categories))]
+fn are_categories(names: &[Name], distinct: &Index<Name>) -> bool
+    ensures value { result ≡ are_categories names.now distinct.now }
+    ensures same { IsTrue result → length distinct.now ≡ length names.now }
 {
-    a == b
+    1 <= names.len() && distinct.len() == names.len()
 }
 
 /// The shared objects so far: the name and the class of each, and the names.

@@ -42,8 +42,13 @@ fn manifest_in(alloc: Global, tree: &Table) -> Result<Manifest, Stop<Fault>>
     known(alloc, tree, Section::Manifest)?;
     let package = text_at(alloc, tree, Section::Manifest, Key::Package, Spelling::Text)?;
     let dex_files = number_at(tree, Section::Manifest, Key::DexFiles, 1, 16)?;
-    let application =
-        maybe_text_at(alloc, tree, Section::Manifest, Key::Application, Spelling::Class)?;
+    let application = maybe_text_at(
+        alloc,
+        tree,
+        Section::Manifest,
+        Key::Application,
+        Spelling::Class,
+    )?;
     let tables = tables_at(tree, Section::Manifest, Key::Component, 4096)?;
     let components = components_of(alloc, tables)?;
     classes_once(alloc, &application, &components)?;
@@ -74,7 +79,13 @@ fn component_of(alloc: Global, value: &Value) -> Result<(Word, Name), Stop<Fault
     let table = table_in(value, Section::Manifest, Key::Component)?;
     known(alloc, table, Section::Component)?;
     let kind = kind_at(table)?;
-    let class = text_at(alloc, table, Section::Component, Key::Class, Spelling::Class)?;
+    let class = text_at(
+        alloc,
+        table,
+        Section::Component,
+        Key::Class,
+        Spelling::Class,
+    )?;
     Ok((kind, class))
 }
 

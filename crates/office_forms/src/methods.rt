@@ -125,7 +125,14 @@ fn summary_of(
     let count = count_of(&at.proto, at.is_static);
     let gives = gives_at(alloc, table, &listed.shared, count)?;
     let puts = pairs_at(alloc, table, Section::Method, Key::Puts, count)?;
-    let stores = named_at(alloc, table, Section::Method, Key::Stores, count, &listed.shared)?;
+    let stores = named_at(
+        alloc,
+        table,
+        Section::Method,
+        Key::Stores,
+        count,
+        &listed.shared,
+    )?;
     let copies = pairs_at(alloc, table, Section::Method, Key::Copies, count)?;
     let source = category_at(alloc, table, Key::Source, &listed.categories)?;
     let sink = sink_at(alloc, table, &listed.categories, count)?;

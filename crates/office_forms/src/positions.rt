@@ -135,12 +135,7 @@ pub fn items_at<'a>(
 
 /// A number below that of the arguments.
 #[tactic(auto, unfolding(crate::specs::Positions::position_of))]
-fn position_of(
-    value: &Value,
-    section: Section,
-    key: Key,
-    count: usize,
-) -> Result<u32, Stop<Fault>>
+fn position_of(value: &Value, section: Section, key: Key, count: usize) -> Result<u32, Stop<Fault>>
     ensures { Gives (λ n. n) result (position_of section key count (view value.now)) }
 {
     let Some(number) = value.as_integer() else {
@@ -188,12 +183,7 @@ fn position_rows(
 }
 
 #[tactic(auto, unfolding(crate::specs::Positions::position_row), using(vet_base::proofs::Scripts::run_bind))]
-fn position_row(
-    value: &Value,
-    section: Section,
-    key: Key,
-    count: usize,
-) -> Result<u32, Stop<Fault>>
+fn position_row(value: &Value, section: Section, key: Key, count: usize) -> Result<u32, Stop<Fault>>
     ensures { Gives (λ n. (n, tt)) result (position_row section key count (view value.now) tt) }
 {
     let position = position_of(value, section, key, count)?;

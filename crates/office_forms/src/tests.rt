@@ -58,13 +58,34 @@ fn layouts(rt: HostRuntime) -> Result<(), Fail> {
     let alloc = rt.alloc();
     let cases = [
         ("[[layout]]\nname = \"m\"\nclicks = []\nclasses = []", "ok"),
-        ("[[layout]]\nclicks = []\nclasses = []", "missing layout.name"),
-        ("[[layout]]\nname = \"m\"\nclasses = []", "missing layout.clicks"),
-        ("[[layout]]\nname = \"m\"\nclicks = []", "missing layout.classes"),
-        ("[[layout]]\nname = \"m\"\nclicks = [1]\nclasses = []", "wrong layout.clicks"),
-        ("[[layout]]\nname = \"m\"\nclicks = [\"\"]\nclasses = []", "range layout.clicks"),
-        ("[[layout]]\nname = \"m\"\nclicks = [\"\", 1]\nclasses = []", "wrong layout.clicks"),
-        ("[[layout]]\nname = \"m\"\nclicks = []\nclasses = [\"V\"]", "range layout.classes"),
+        (
+            "[[layout]]\nclicks = []\nclasses = []",
+            "missing layout.name",
+        ),
+        (
+            "[[layout]]\nname = \"m\"\nclasses = []",
+            "missing layout.clicks",
+        ),
+        (
+            "[[layout]]\nname = \"m\"\nclicks = []",
+            "missing layout.classes",
+        ),
+        (
+            "[[layout]]\nname = \"m\"\nclicks = [1]\nclasses = []",
+            "wrong layout.clicks",
+        ),
+        (
+            "[[layout]]\nname = \"m\"\nclicks = [\"\"]\nclasses = []",
+            "range layout.clicks",
+        ),
+        (
+            "[[layout]]\nname = \"m\"\nclicks = [\"\", 1]\nclasses = []",
+            "wrong layout.clicks",
+        ),
+        (
+            "[[layout]]\nname = \"m\"\nclicks = []\nclasses = [\"V\"]",
+            "range layout.classes",
+        ),
         (
             "[[layout]]\nname = \"m\"\nclicks = []\nclasses = []\n[[layout]]\nname = \"m\"\nclicks = []\nclasses = []",
             "twice m",
@@ -78,11 +99,15 @@ fn layouts(rt: HostRuntime) -> Result<(), Fail> {
         let found = told(alloc, read_layouts(alloc, text.as_bytes()))?;
         assert_eq!(rt; found.as_str(), want, "at {text}");
     }
-    let text = "[[layout]]\nname = \"m\"\nclicks = [\"b\", \"a\", \"b\"]\nclasses = [\"La;\"]\n[[layout]]\nname = \"n\"\nclicks = [\"c\", \"a\"]\nclasses = [\"La;\"]";
+    let text =
+        "[[layout]]\nname = \"m\"\nclicks = [\"b\", \"a\", \"b\"]\nclasses = [\"La;\"]\n[[layout]]\nname = \"n\"\nclicks = [\"c\", \"a\"]\nclasses = [\"La;\"]";
     match read_layouts(alloc, text.as_bytes()) {
         Ok(found) => {
             assert_eq!(rt; found.clicks.len(), 3);
-            assert_eq!(rt; found.clicks.get(2).map(|n| n.as_bytes()), Some(b"c".as_slice()));
+            assert_eq!(rt;
+                found.clicks.get(2).map(|n| n.as_bytes()),
+                Some(b"c".as_slice())
+            );
             assert_eq!(rt; found.classes.len(), 2);
         }
         Err(_) => assert!(rt; false, "the layouts are read"),
@@ -102,8 +127,14 @@ fn manifests(rt: HostRuntime) -> Result<(), Fail> {
         ("package = \"a\"\ndex_files = \"1\"", "wrong dex_files"),
         ("package = \"a\"", "missing dex_files"),
         ("dex_files = 1", "missing package"),
-        ("package = \"a\"\ndex_files = 1\napplication = \"x\"", "range application"),
-        ("package = \"a\"\ndex_files = 1\ncomponent = 1", "wrong component"),
+        (
+            "package = \"a\"\ndex_files = 1\napplication = \"x\"",
+            "range application",
+        ),
+        (
+            "package = \"a\"\ndex_files = 1\ncomponent = 1",
+            "wrong component",
+        ),
         ("package = \"a\"\nx = 1", "unknown x"),
         (
             "package = \"a\"\ndex_files = 1\n[[component]]\nclass = \"La;\"",
@@ -139,7 +170,9 @@ fn manifests(rt: HostRuntime) -> Result<(), Fail> {
 
 /// Lists of one category, two classes and one shared object, before these rows.
 fn with_rows(alloc: Global, rows: &str) -> Result<String, AllocError> {
-    format!(in alloc; "rows = 5\ncategories = [\"a\"]\n[[class]]\nname = \"Lo;\"\n[[class]]\nname = \"Lp;\"\nparents = [\"Lo;\"]\n[[shared]]\nname = \"s\"\nclass = \"Lz;\"\n{rows}")
+    format!(in alloc;
+        "rows = 5\ncategories = [\"a\"]\n[[class]]\nname = \"Lo;\"\n[[class]]\nname = \"Lp;\"\nparents = [\"Lo;\"]\n[[shared]]\nname = \"s\"\nclass = \"Lz;\"\n{rows}"
+    )
 }
 
 #[test]
@@ -170,15 +203,33 @@ fn rows_of_classes(rt: HostRuntime) -> Result<(), Fail> {
     let alloc = rt.alloc();
     let cases = [
         ("", "ok"),
-        ("[[class]]\nname = \"Lq;\"\nparents = [\"Lp;\", \"Lo;\"]\ndefault = \"mixed\"", "ok"),
+        (
+            "[[class]]\nname = \"Lq;\"\nparents = [\"Lp;\", \"Lo;\"]\ndefault = \"mixed\"",
+            "ok",
+        ),
         ("[[class]]\nparents = []", "missing class.name"),
         ("[[class]]\nname = \"q\"", "range class.name"),
-        ("[[class]]\nname = \"Lq;\"\nparents = [\"Lq;\"]", "range class.parents"),
-        ("[[class]]\nname = \"Lq;\"\nparents = [\"Lr;\"]\n[[class]]\nname = \"Lr;\"", "range class.parents"),
-        ("[[class]]\nname = \"Lq;\"\nparents = [1]", "wrong class.parents"),
-        ("[[class]]\nname = \"Lq;\"\ndefault = \"any\"", "wrong class.default"),
+        (
+            "[[class]]\nname = \"Lq;\"\nparents = [\"Lq;\"]",
+            "range class.parents",
+        ),
+        (
+            "[[class]]\nname = \"Lq;\"\nparents = [\"Lr;\"]\n[[class]]\nname = \"Lr;\"",
+            "range class.parents",
+        ),
+        (
+            "[[class]]\nname = \"Lq;\"\nparents = [1]",
+            "wrong class.parents",
+        ),
+        (
+            "[[class]]\nname = \"Lq;\"\ndefault = \"any\"",
+            "wrong class.default",
+        ),
         ("[[class]]\nname = \"Lo;\"", "twice Lo;"),
-        ("[[class]]\nname = \"Lo;\"\n[[shared]]\nname = 1", "wrong shared.name"),
+        (
+            "[[class]]\nname = \"Lo;\"\n[[shared]]\nname = 1",
+            "wrong shared.name",
+        ),
         ("[[shared]]\nname = \"s\"\nclass = \"Ly;\"", "twice s"),
         ("[[shared]]\nname = \"t\"", "missing shared.class"),
     ];
@@ -199,7 +250,10 @@ fn rows_of_methods(rt: HostRuntime) -> Result<(), Fail> {
         ("result = \"same\"\nfrom = [1]", "ok"),
         ("result = \"same\"\nfrom = [2]", "range method.from"),
         ("static = true\nresult = \"same\"\nfrom = [0]", "ok"),
-        ("static = true\nresult = \"same\"\nfrom = [1]", "range method.from"),
+        (
+            "static = true\nresult = \"same\"\nfrom = [1]",
+            "range method.from",
+        ),
         ("result = \"same\"", "range method.from"),
         ("result = \"same\"\nfrom = [0, 1]", "range method.from"),
         ("result = \"taken\"\nfrom = []", "range method.from"),
@@ -216,14 +270,20 @@ fn rows_of_methods(rt: HostRuntime) -> Result<(), Fail> {
         ("result = \"other\"", "wrong method.result"),
         ("source = \"a\"", "ok"),
         ("source = \"a\"\nresult = \"joined\"", "ok"),
-        ("source = \"a\"\nresult = \"same\"\nfrom = [0]", "range method.result"),
+        (
+            "source = \"a\"\nresult = \"same\"\nfrom = [0]",
+            "range method.result",
+        ),
         ("source = \"b\"", "range method.source"),
         ("source = 1", "wrong method.source"),
         ("sink = \"a\"\npositions = [1]", "ok"),
         ("sink = \"a\"", "range method.positions"),
         ("positions = [1]", "range method.positions"),
         ("sink = \"a\"\npositions = [-1]", "range method.positions"),
-        ("sink = \"a\"\npositions = [\"x\"]", "wrong method.positions"),
+        (
+            "sink = \"a\"\npositions = [\"x\"]",
+            "wrong method.positions",
+        ),
         ("puts = [[1, 0]]", "ok"),
         ("puts = [[1, 2]]", "range method.puts"),
         ("puts = [[1]]", "range method.puts"),
@@ -238,7 +298,9 @@ fn rows_of_methods(rt: HostRuntime) -> Result<(), Fail> {
         ("other = 0", "unknown method.other"),
     ];
     for (keys, want) in cases {
-        let row = format!(in alloc; "[[method]]\nclass = \"Lo;\"\nname = \"m\"\nproto = \"(J)V\"\n{keys}")?;
+        let row = format!(in alloc;
+            "[[method]]\nclass = \"Lo;\"\nname = \"m\"\nproto = \"(J)V\"\n{keys}"
+        )?;
         let text = with_rows(alloc, row.as_str())?;
         let found = told(alloc, read_lists(alloc, text.as_bytes()))?;
         assert_eq!(rt; found.as_str(), want, "at {keys}");
@@ -250,21 +312,60 @@ fn rows_of_methods(rt: HostRuntime) -> Result<(), Fail> {
 fn signatures_of_methods(rt: HostRuntime) -> Result<(), Fail> {
     let alloc = rt.alloc();
     let cases = [
-        ("class = \"Lz;\"\nname = \"m\"\nproto = \"()V\"", "range method.class"),
+        (
+            "class = \"Lz;\"\nname = \"m\"\nproto = \"()V\"",
+            "range method.class",
+        ),
         ("class = \"Lo;\"\nproto = \"()V\"", "missing method.name"),
         ("class = \"Lo;\"\nname = \"m\"", "missing method.proto"),
-        ("class = \"Lo;\"\nname = \"m\"\nproto = \"([[La;IJ[Z)[D\"", "ok"),
-        ("class = \"Lo;\"\nname = \"m\"\nproto = \"\"", "range method.proto"),
-        ("class = \"Lo;\"\nname = \"m\"\nproto = \"V\"", "range method.proto"),
-        ("class = \"Lo;\"\nname = \"m\"\nproto = \"(V)V\"", "range method.proto"),
-        ("class = \"Lo;\"\nname = \"m\"\nproto = \"(La)V\"", "range method.proto"),
-        ("class = \"Lo;\"\nname = \"m\"\nproto = \"(L;)V\"", "range method.proto"),
-        ("class = \"Lo;\"\nname = \"m\"\nproto = \"([)V\"", "range method.proto"),
-        ("class = \"Lo;\"\nname = \"m\"\nproto = \"()\"", "range method.proto"),
-        ("class = \"Lo;\"\nname = \"m\"\nproto = \"()II\"", "range method.proto"),
-        ("class = \"Lo;\"\nname = \"m\"\nproto = \"()V\"\n[[method]]\nclass = \"Lo;\"\nname = \"m\"\nproto = \"()V\"", "twice m"),
-        ("class = \"Lo;\"\nname = \"m\"\nproto = \"()V\"\n[[method]]\nclass = \"Lo;\"\nname = \"m\"\nproto = \"()V\"\nstatic = true", "ok"),
-        ("class = \"Lo;\"\nname = \"m\"\nproto = \"()V\"\n[[method]]\nclass = \"Lp;\"\nname = \"m\"\nproto = \"()V\"", "ok"),
+        (
+            "class = \"Lo;\"\nname = \"m\"\nproto = \"([[La;IJ[Z)[D\"",
+            "ok",
+        ),
+        (
+            "class = \"Lo;\"\nname = \"m\"\nproto = \"\"",
+            "range method.proto",
+        ),
+        (
+            "class = \"Lo;\"\nname = \"m\"\nproto = \"V\"",
+            "range method.proto",
+        ),
+        (
+            "class = \"Lo;\"\nname = \"m\"\nproto = \"(V)V\"",
+            "range method.proto",
+        ),
+        (
+            "class = \"Lo;\"\nname = \"m\"\nproto = \"(La)V\"",
+            "range method.proto",
+        ),
+        (
+            "class = \"Lo;\"\nname = \"m\"\nproto = \"(L;)V\"",
+            "range method.proto",
+        ),
+        (
+            "class = \"Lo;\"\nname = \"m\"\nproto = \"([)V\"",
+            "range method.proto",
+        ),
+        (
+            "class = \"Lo;\"\nname = \"m\"\nproto = \"()\"",
+            "range method.proto",
+        ),
+        (
+            "class = \"Lo;\"\nname = \"m\"\nproto = \"()II\"",
+            "range method.proto",
+        ),
+        (
+            "class = \"Lo;\"\nname = \"m\"\nproto = \"()V\"\n[[method]]\nclass = \"Lo;\"\nname = \"m\"\nproto = \"()V\"",
+            "twice m",
+        ),
+        (
+            "class = \"Lo;\"\nname = \"m\"\nproto = \"()V\"\n[[method]]\nclass = \"Lo;\"\nname = \"m\"\nproto = \"()V\"\nstatic = true",
+            "ok",
+        ),
+        (
+            "class = \"Lo;\"\nname = \"m\"\nproto = \"()V\"\n[[method]]\nclass = \"Lp;\"\nname = \"m\"\nproto = \"()V\"",
+            "ok",
+        ),
     ];
     for (keys, want) in cases {
         let row = format!(in alloc; "[[method]]\n{keys}")?;
@@ -280,12 +381,30 @@ fn rows_of_callbacks(rt: HostRuntime) -> Result<(), Fail> {
     let alloc = rt.alloc();
     let cases = [
         ("class = \"Lz;\"\nname = \"m\"\nproto = \"(J)V\"", "ok"),
-        ("class = \"Lz;\"\nname = \"m\"\nproto = \"(J)V\"\nsources = [[1, \"a\"]]", "ok"),
-        ("class = \"Lz;\"\nname = \"m\"\nproto = \"(J)V\"\nsources = [[2, \"a\"]]", "range callback.sources"),
-        ("class = \"Lz;\"\nname = \"m\"\nproto = \"(J)V\"\nsources = [[1, \"b\"]]", "range callback.sources"),
-        ("class = \"Lz;\"\nname = \"m\"\nproto = \"(J)V\"\nsources = [[\"a\", 1]]", "wrong callback.sources"),
-        ("class = \"Lz;\"\nname = \"m\"\nproto = \"(J)V\"\nstatic = true", "unknown callback.static"),
-        ("class = \"Lz;\"\nname = \"m\"\nproto = \"()V\"\n[[callback]]\nclass = \"Lz;\"\nname = \"m\"\nproto = \"()V\"", "twice m"),
+        (
+            "class = \"Lz;\"\nname = \"m\"\nproto = \"(J)V\"\nsources = [[1, \"a\"]]",
+            "ok",
+        ),
+        (
+            "class = \"Lz;\"\nname = \"m\"\nproto = \"(J)V\"\nsources = [[2, \"a\"]]",
+            "range callback.sources",
+        ),
+        (
+            "class = \"Lz;\"\nname = \"m\"\nproto = \"(J)V\"\nsources = [[1, \"b\"]]",
+            "range callback.sources",
+        ),
+        (
+            "class = \"Lz;\"\nname = \"m\"\nproto = \"(J)V\"\nsources = [[\"a\", 1]]",
+            "wrong callback.sources",
+        ),
+        (
+            "class = \"Lz;\"\nname = \"m\"\nproto = \"(J)V\"\nstatic = true",
+            "unknown callback.static",
+        ),
+        (
+            "class = \"Lz;\"\nname = \"m\"\nproto = \"()V\"\n[[callback]]\nclass = \"Lz;\"\nname = \"m\"\nproto = \"()V\"",
+            "twice m",
+        ),
     ];
     for (keys, want) in cases {
         let row = format!(in alloc; "[[callback]]\n{keys}")?;

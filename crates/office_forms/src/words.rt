@@ -120,16 +120,43 @@ impl Section {
         ensures { result.now ≡ keys_of self }
     {
         match self {
-            Section::Manifest => &[Key::Package, Key::DexFiles, Key::Application, Key::Component],
+            Section::Manifest => &[
+                Key::Package,
+                Key::DexFiles,
+                Key::Application,
+                Key::Component,
+            ],
             Section::Component => &[Key::Kind, Key::Class],
             Section::Layouts => &[Key::Layout],
             Section::Layout => &[Key::Name, Key::Clicks, Key::Classes],
             Section::Declaration => &[Key::Use],
             Section::Use => &[Key::Source, Key::Sink],
-            Section::Lists => &[Key::Rows, Key::Categories, Key::Class, Key::Shared, Key::Method, Key::Callback],
+            Section::Lists => &[
+                Key::Rows,
+                Key::Categories,
+                Key::Class,
+                Key::Shared,
+                Key::Method,
+                Key::Callback,
+            ],
             Section::Class => &[Key::Name, Key::Parents, Key::Default],
             Section::Shared => &[Key::Name, Key::Class],
-            Section::Method => &[Key::Class, Key::Name, Key::Proto, Key::Static, Key::Result, Key::From, Key::Shared, Key::Puts, Key::Stores, Key::Copies, Key::Source, Key::Sink, Key::Positions, Key::Reflective],
+            Section::Method => &[
+                Key::Class,
+                Key::Name,
+                Key::Proto,
+                Key::Static,
+                Key::Result,
+                Key::From,
+                Key::Shared,
+                Key::Puts,
+                Key::Stores,
+                Key::Copies,
+                Key::Source,
+                Key::Sink,
+                Key::Positions,
+                Key::Reflective,
+            ],
             Section::Callback => &[Key::Class, Key::Name, Key::Proto, Key::Sources],
         }
     }

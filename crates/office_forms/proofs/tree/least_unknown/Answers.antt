@@ -7,7 +7,7 @@ pub returns-then-not-is_known : goal.returns-then-not-is_known
 returns-then-not-is_known c =
     let is = c.is_known.ensures ∙ ap (is_known c.args.section) c.as_str.ensures.value in
     ap Some c.as_str-then-not-is_known.ensures.value
-        ∙ (next_unknown c.args.section c.in-Some.key.now c.in-Some.field-0-1.now c.loop-key.key-iterator c.next.new.self c.is_known.result c.in-Some.ensures.steps is c.if-not-is_known.true ∙ c.loop-key.invariant)
+    ∙ (next_unknown c.args.section c.in-Some.key.now c.in-Some.field-0-1.now c.loop-key.key-iterator c.next.new.self c.is_known.result c.in-Some.ensures.steps is c.if-not-is_known.true ∙ c.loop-key.invariant)
 
 pub loop-key-preserved : goal.loop-key-preserved
 loop-key-preserved c =

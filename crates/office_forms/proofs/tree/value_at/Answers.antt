@@ -9,4 +9,4 @@ pub returns : goal.returns
 unfolding at_key
 returns c =
     table_get c.get.result c.text.result.now c.args.table.now.entries c.get.ensures.value
-        ∙ ap (λ k. get_member k (table_view c.args.table.now)) c.text.ensures
+    ∙ ap (λ k. get_member k (table_view c.args.table.now)) c.text.ensures
