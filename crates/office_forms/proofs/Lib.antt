@@ -1,0 +1,10 @@
+pub mod Keys
+pub mod Listed
+pub mod Walking
+pub mod Forms
+pub mod Shapes
+pub mod Placing
+pub mod Eaching
+pub mod Merging
+pub mod Above
+pub mod Params

@@ -1,0 +1,32 @@
+-- The methods of app classes that the system calls.
+use Rattle.std.specs.Prelude.{ℕ, false, List, [], ◌∷◌, ◌++◌}
+use Rattle.toml.specs.Data.{Data, Members}
+use Rattle.vet_base.specs.Script.{Script, Value, Test, ◌>>=◌, walk}
+use Rattle.app_model.specs.Names.{Name}
+use Rattle.app_model.specs.declared.lists.Callback.{Callback}
+use Rattle.office_forms.specs.declared.fault.Fault.{Fault}
+use Rattle.office_forms.specs.declared.words.Section.TheVariants as section
+use Rattle.office_forms.specs.declared.words.Key.TheVariants as key
+use Rattle.office_forms.specs.declared.spelling.Spelling.TheVariants as spelling
+use Rattle.office_forms.specs.declared.callbacks.CallbackRows.{CallbackRows}
+use Rattle.office_forms.specs.Each.{each}
+use Rattle.office_forms.specs.Fields.{known, text_at, table_in}
+use Rattle.office_forms.specs.Positions.{named_at}
+use Rattle.office_forms.specs.Methods.{proto_at, count_of}
+
+-- a row more; a callback is no static method
+unfoldable pub callback_row : List Name → Data → CallbackRows → Script Fault CallbackRows
+callback_row categories d rows = do
+  t ← table_in section.Lists key.Callback d
+  _ ← known section.Callback t
+  class ← text_at section.Callback key.Class spelling.Class t
+  name ← text_at section.Callback key.Name spelling.Text t
+  proto ← proto_at section.Callback t
+  sources ← named_at section.Callback key.Sources (count_of proto.0 false) categories t
+  Value (record {
+    rows = rows.rows ++ record { class = class; name = name; proto = proto.0; sources = sources } ∷ [];
+    keys = rows.keys ++ record { class = class; name = name; descriptor = proto.1; is_static = false } ∷ [];
+  })
+
+unfoldable pub callbacks_of : List Name → List Data → Script Fault CallbackRows
+callbacks_of categories tables = each (callback_row categories) tables (record { rows = []; keys = [] })

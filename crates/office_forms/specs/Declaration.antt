@@ -1,0 +1,30 @@
+-- The declaration: the flows that a developer declares.
+use Rattle.std.specs.Prelude.{◌≡◌, ℕ, List}
+use Rattle.toml.specs.Data.{Data, Members}
+use Rattle.vet_base.specs.Script.{Script, Value, Test, ◌>>=◌, walk}
+use Rattle.app_model.specs.Names.{Name}
+use Rattle.app_model.specs.declared.papers.Declaration.{Declaration}
+use Rattle.office_forms.specs.declared.fault.Fault.{Fault}
+use Rattle.office_forms.specs.declared.words.Section.TheVariants as section
+use Rattle.office_forms.specs.declared.words.Key.TheVariants as key
+use Rattle.office_forms.specs.declared.spelling.Spelling.TheVariants.{Text}
+use Rattle.office_forms.specs.Fields.{known, text_at, tables_at, table_in}
+
+-- a flow: the category of its source and that of its sink
+unfoldable pub use_row : Data → Unit {0} → Script Fault ((Name × Name) × Unit {0})
+use_row d _ = do
+  t ← table_in section.Declaration key.Use d
+  _ ← known section.Use t
+  source ← text_at section.Use key.Source Text t
+  sink ← text_at section.Use key.Sink Text t
+  Value ((source, sink), tt)
+
+unfoldable pub uses_of : List Data → Script Fault (List (Name × Name) × Unit {0})
+uses_of uses = walk use_row uses tt
+
+unfoldable pub declaration_form : Members → Script Fault Declaration
+declaration_form t = do
+  _ ← known section.Declaration t
+  uses ← tables_at section.Declaration key.Use 4096 t
+  pairs ← uses_of uses
+  Value (record { pairs = pairs.0 })

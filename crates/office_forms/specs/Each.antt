@@ -1,0 +1,32 @@
+-- One row after the other, each in the state that the rows before it left.
+use Rattle.std.specs.Prelude.{ℕ, Bool, true, false, List, [], ◌∷◌, ◌++◌, Option, Some, None, is_none, is_some, if◌then◌else◌}
+use Rattle.vet_base.specs.Script.{Script, Value, Test, ◌>>=◌, test}
+use Rattle.app_model.specs.Names.{Name, same_name}
+use Rattle.office_forms.specs.declared.fault.Fault.{Fault}
+use Rattle.office_forms.specs.declared.fault.Fault.TheVariants.{Twice}
+use Rattle.office_forms.specs.Places.{place_of}
+
+unfoldable pub each : {F S X : Type 0} → (X → S → Script F S) → List X → S → Script F S
+each row [] s = Value s
+each row (x ∷ xs) s = do
+  t ← row x s
+  each row xs t
+
+-- the name does not stand among those before it
+unfoldable pub once : Name → List Name → Script Fault (List Name)
+once name seen = do
+  _ ← test (is_none (place_of same_name name seen)) (Twice name)
+  Value (seen ++ name ∷ [])
+
+-- no name stands twice
+unfoldable pub names_once : List Name → Script Fault (List Name)
+names_once names = each once names []
+
+-- the name behind those of the list, where it is not among them
+unfoldable pub with_one : List Name → Name → List Name
+with_one seen name = if is_some (place_of same_name name seen) then seen else seen ++ name ∷ []
+
+-- the names of both lists, each once, in their order
+unfoldable pub with_new : List Name → List Name → List Name
+with_new seen [] = seen
+with_new seen (name ∷ names) = with_new (with_one seen name) names

@@ -1,0 +1,31 @@
+-- How the texts of the forms are spelled.
+use Rattle.std.specs.Prelude.{ℕ, ◌-◌, ◌==◌, ◌&&◌, ◌||◌, nat_le, Bool, true, length, slice_index}
+use Rattle.std.specs.List.{list_all}
+use Rattle.app_model.specs.Names.{Name}
+use Rattle.office_forms.specs.declared.spelling.Spelling.{Spelling}
+use Rattle.office_forms.specs.declared.spelling.Spelling.TheVariants as spelling
+
+-- 1 to 255 bytes
+unfoldable pub is_short : Name → Bool
+is_short s = nat_le 1 (length s) && nat_le (length s) 255
+
+-- the descriptor of a class, `L..;`, of 3 to 255 bytes
+-- Android documentation, Dalvik Executable format: "TypeDescriptor semantics"
+unfoldable pub is_class : Name → Bool
+is_class s = nat_le 3 (length s) && nat_le (length s) 255 && (slice_index s 0 == 76) && (slice_index s (length s - 1) == 59)
+
+-- `a` to `z`, `0` to `9` and `_`
+unfoldable pub is_category_byte : ℕ → Bool
+is_category_byte b = (nat_le 97 b && nat_le b 122) || (nat_le 48 b && nat_le b 57) || (b == 95)
+
+unfoldable pub are_category_bytes : Name → Bool
+are_category_bytes s = list_all (λ b. is_category_byte b) s
+
+unfoldable pub is_category : Name → Bool
+is_category s = is_short s && are_category_bytes s
+
+unfoldable pub fits : Spelling → Name → Bool
+fits spelling.Any s = true
+fits spelling.Text s = is_short s
+fits spelling.Class s = is_class s
+fits spelling.Category s = is_category s

@@ -1,0 +1,55 @@
+//! Names that may not stand twice.
+ghost use Rattle.std.specs.Prelude.{◌≡◌, IfOk};
+ghost use Rattle.office_forms.specs.Each.{once, names_once, with_one, with_new};
+ghost use Rattle.vet_base.specs.Script.{Gives};
+
+use crate::Fault;
+use crate::index::Index;
+use std::alloc::Global;
+use vet_base::{Memory, Name, Stop};
+
+/// The names seen so far and this one, which may not be one of them.
+#[tactic(auto, unfolding(crate::specs::Each::once))]
+pub fn once(alloc: Global, seen: Index<Name>, name: &Name) -> Result<Index<Name>, Stop<Fault>>
+    ensures { Gives (λ x. x) result (once name.now seen) }
+{
+    if seen.place_of(name).is_some() {
+        return Err(Stop::Fault(Fault::Twice(name.copy(alloc)?)));
+    }
+    Ok(seen.with(name.copy(alloc)?, name.copy(alloc)?)?)
+}
+
+/// No name stands twice.
+#[tactic(auto, unfolding(crate::specs::Each::names_once), using(crate::proofs::Eaching::goes_begin, crate::proofs::Eaching::goes_on, crate::proofs::Eaching::goes_fail, crate::proofs::Eaching::goes_done))]
+pub fn names_once(alloc: Global, names: &[Name]) -> Result<Index<Name>, Stop<Fault>>
+    ensures { Gives (λ x. x) result (names_once names.now) }
+{
+    let mut seen = Index::new(alloc);
+    for name in names {
+        seen = once(alloc, seen, name)?;
+    }
+    Ok(seen)
+}
+
+/// The names and those of the list that are not among them.
+#[tactic(auto, using(crate::proofs::Merging::merge_begins, crate::proofs::Merging::merge_goes_on, crate::proofs::Merging::merge_done))]
+pub fn with_new(alloc: Global, seen: Index<Name>, names: &[Name]) -> Result<Index<Name>, Memory>
+    ensures { IfOk result (λ x. x ≡ with_new seen names.now) }
+{
+    let mut all = seen;
+    for name in names {
+        all = with_one(alloc, all, name)?;
+    }
+    Ok(all)
+}
+
+/// The names and this one, where it is not among them.
+#[tactic(auto, unfolding(crate::specs::Each::with_one))]
+fn with_one(alloc: Global, seen: Index<Name>, name: &Name) -> Result<Index<Name>, Memory>
+    ensures { IfOk result (λ x. x ≡ with_one seen name.now) }
+{
+    if seen.place_of(name).is_some() {
+        return Ok(seen);
+    }
+    seen.with(name.copy(alloc)?, name.copy(alloc)?)
+}

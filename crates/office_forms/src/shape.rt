@@ -1,0 +1,105 @@
+//! Of which types the items of an array have to be.
+ghost use Rattle.std.specs.Prelude.{◌≡◌, map, option_map, slice_get};
+ghost use Rattle.office_forms.specs.Shape.{is_table, is_number, is_number_pair, is_named_pair, number_or_none, text_or_none, has_shape, all_have};
+ghost use Rattle.toml.specs.View.{view};
+
+use crate::tree::items_in;
+use toml::Value;
+
+/// The shapes of an item.
+#[derive(Clone, Copy, Debug, PartialEq, Eq)]
+pub enum Shape {
+    Table,
+    Number,
+    /// A list that begins with two numbers. Its length is another matter.
+    NumberPair,
+    /// A list that begins with a number and a text.
+    NamedPair,
+}
+
+/// Whether all values have the shape.
+#[tactic(auto, using(crate::proofs::Shapes::sees_none, crate::proofs::Shapes::one_fails, crate::proofs::Shapes::one_more, crate::proofs::Shapes::all_do))]
+pub fn all_have(shape: Shape, values: &[Value]) -> bool
+    ensures { result ≡ all_have shape (map view values.now) }
+{
+    for value in values {
+        if !has_shape(shape, value) {
+            return false;
+        }
+    }
+    true
+}
+
+#[tactic(auto, unfolding(crate::specs::Shape::has_shape))]
+fn has_shape(shape: Shape, value: &Value) -> bool
+    ensures { result ≡ has_shape shape (view value.now) }
+{
+    match shape {
+        Shape::Table => is_table(value),
+        Shape::Number => is_number(value),
+        Shape::NumberPair => is_number_pair(value),
+        Shape::NamedPair => is_named_pair(value),
+    }
+}
+
+#[tactic(auto, unfolding(crate::specs::Shape::is_table))]
+fn is_table(value: &Value) -> bool
+    ensures { result ≡ is_table (view value.now) }
+{
+    value.as_table().is_some()
+}
+
+#[tactic(auto, unfolding(crate::specs::Shape::is_number))]
+fn is_number(value: &Value) -> bool
+    ensures { result ≡ is_number (view value.now) }
+{
+    value.as_integer().is_some()
+}
+
+#[tactic(auto, unfolding(crate::specs::Shape::is_number_pair))]
+fn is_number_pair(value: &Value) -> bool
+    ensures { result ≡ is_number_pair (view value.now) }
+{
+    match items_in(value) {
+        Some(items) => number_or_none(item_at(items, 0)) && number_or_none(item_at(items, 1)),
+        None => false,
+    }
+}
+
+#[tactic(auto, unfolding(crate::specs::Shape::is_named_pair))]
+fn is_named_pair(value: &Value) -> bool
+    ensures { result ≡ is_named_pair (view value.now) }
+{
+    match items_in(value) {
+        Some(items) => number_or_none(item_at(items, 0)) && text_or_none(item_at(items, 1)),
+        None => false,
+    }
+}
+
+#[tactic(auto, unfolding(crate::specs::Shape::number_or_none))]
+fn number_or_none(value: Option<&Value>) -> bool
+    ensures { result ≡ number_or_none (option_map (λ v. view v.now) value.entry) }
+{
+    match value {
+        Some(value) => value.as_integer().is_some(),
+        None => true,
+    }
+}
+
+#[tactic(auto, unfolding(crate::specs::Shape::text_or_none))]
+fn text_or_none(value: Option<&Value>) -> bool
+    ensures { result ≡ text_or_none (option_map (λ v. view v.now) value.entry) }
+{
+    match value {
+        Some(value) => value.as_str().is_some(),
+        None => true,
+    }
+}
+
+/// The item at a place, where there is one.
+#[tactic(auto, using(crate::proofs::Shapes::item_seen))]
+pub fn item_at<'a>(items: &'a [Value], at: usize) -> Option<&'a Value>
+    ensures { option_map (λ v. view v.now) result ≡ slice_get (map view items.now) at }
+{
+    items.get(at)
+}

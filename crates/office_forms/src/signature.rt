@@ -1,0 +1,129 @@
+//! What tells one method of the lists from another.
+ghost use Rattle.std.specs.Prelude.{◌≡◌, ◌+◌, length, IfOk};
+ghost use Rattle.std.proofs.Common.{rules};
+ghost use Rattle.std.specs.Cmp.Rules.{comparing};
+ghost use Rattle.office_forms.specs.Methods.{same_key, key_once, keys_once, proto_at, count_of, key_of};
+ghost use Rattle.toml.specs.View.{table_view};
+ghost use Rattle.vet_base.specs.Script.{Gives};
+
+use crate::descriptor::proto_of;
+use crate::fields::text_at;
+use crate::index::Index;
+use crate::spelling::Spelling;
+use crate::{Fault, Key, Section};
+use app_model::Proto;
+use std::alloc::Global;
+use toml::Table;
+use vet_base::{Memory, Name, Stop};
+
+/// The class, the name, the descriptor and the static word of a method row.
+#[derive(Debug, Eq, PartialOrd, Ord, Drop)]
+pub struct MethodKey {
+    pub class: Name,
+    pub name: Name,
+    pub descriptor: Name,
+    pub is_static: bool,
+}
+
+impl PartialEq for MethodKey {
+    ghost use Rattle.office_forms.specs.SameKey.{same_row};
+
+    ghost eq = { λ a b. same_row a.class b.class a.name b.name a.descriptor b.descriptor a.is_static b.is_static };
+
+    ghost laws = { Prim.search (comparing, rules) };
+
+    fn eq(&self, other: &MethodKey) -> bool {
+        self.class == other.class
+            && self.name == other.name
+            && self.descriptor == other.descriptor
+            && self.is_static == other.is_static
+    }
+}
+
+impl MethodKey {
+    pub fn copy(&self, alloc: Global) -> Result<MethodKey, Memory>
+        ensures { IfOk result (λ k. k ≡ self.now) }
+    {
+        Ok(MethodKey {
+            class: self.class.copy(alloc)?,
+            name: self.name.copy(alloc)?,
+            descriptor: self.descriptor.copy(alloc)?,
+            is_static: self.is_static,
+        })
+    }
+}
+
+/// The first four keys of a method row.
+#[derive(Debug, Drop)]
+pub struct Signature {
+    pub class: Name,
+    pub name: Name,
+    pub proto: Proto,
+    /// The prototype as it stands in the row.
+    pub descriptor: Name,
+    pub is_static: bool,
+}
+
+impl Signature {
+    /// What tells the row from others.
+    #[tactic(auto, unfolding(crate::specs::Methods::key_of))]
+    pub fn key(&self, alloc: Global) -> Result<MethodKey, Memory>
+        ensures { IfOk result (λ k. k ≡ key_of self.now) }
+    {
+        Ok(MethodKey {
+            class: self.class.copy(alloc)?,
+            name: self.name.copy(alloc)?,
+            descriptor: self.descriptor.copy(alloc)?,
+            is_static: self.is_static,
+        })
+    }
+}
+
+/// The prototype of a row, and its descriptor as it stands there.
+#[tactic(auto, unfolding(crate::specs::Methods::proto_at), using(vet_base::proofs::Scripts::run_bind))]
+pub fn proto_at(
+    alloc: Global,
+    table: &Table,
+    section: Section,
+) -> Result<(Proto, Name), Stop<Fault>>
+    ensures { Gives (λ x. x) result (proto_at section (table_view table.now)) }
+{
+    let descriptor = text_at(alloc, table, section, Key::Proto, Spelling::Any)?;
+    let proto = proto_of(alloc, descriptor.as_bytes(), section, Key::Proto)?;
+    Ok((proto, descriptor))
+}
+
+/// How many arguments a method has, the receiver among them.
+#[tactic(auto, unfolding(crate::specs::Methods::count_of))]
+pub fn count_of(proto: &Proto, is_static: bool) -> usize
+    ensures { result ≡ count_of proto.now is_static }
+{
+    let params = proto.params.as_slice().len();
+    if is_static { params } else { params + 1 }
+}
+
+/// No row stands twice.
+#[tactic(auto, unfolding(crate::specs::Methods::keys_once), using(crate::proofs::Eaching::goes_begin, crate::proofs::Eaching::goes_on, crate::proofs::Eaching::goes_fail, crate::proofs::Eaching::goes_done))]
+pub fn keys_once(alloc: Global, keys: &[MethodKey]) -> Result<Index<MethodKey>, Stop<Fault>>
+    ensures { Gives (λ x. x) result (keys_once keys.now) }
+{
+    let mut seen = Index::new(alloc);
+    for key in keys {
+        seen = key_once(alloc, key, seen)?;
+    }
+    Ok(seen)
+}
+
+#[tactic(auto, unfolding(crate::specs::Methods::key_once))]
+fn key_once(
+    alloc: Global,
+    key: &MethodKey,
+    seen: Index<MethodKey>,
+) -> Result<Index<MethodKey>, Stop<Fault>>
+    ensures { Gives (λ x. x) result (key_once key.now seen) }
+{
+    if seen.place_of(key).is_some() {
+        return Err(Stop::Fault(Fault::Twice(key.name.copy(alloc)?)));
+    }
+    Ok(seen.with(key.copy(alloc)?, key.copy(alloc)?)?)
+}
