@@ -1,0 +1,7 @@
+pub mod ByteLemmas
+pub mod ClassLemmas
+pub mod PlacedLemmas
+pub mod Places
+pub mod Shortness
+pub mod Sums
+pub mod LineLemmas
