@@ -1,7 +1,11 @@
 pub mod ByteLemmas
 pub mod ClassLemmas
+pub mod ClassRows
+pub mod IdTables
+pub mod LineLemmas
 pub mod PlacedLemmas
 pub mod Places
 pub mod Shortness
+pub mod Standing
 pub mod Sums
-pub mod LineLemmas
+pub mod Texts
