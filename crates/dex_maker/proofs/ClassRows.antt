@@ -47,7 +47,7 @@ row_parts : (c : ClassDef) (list place : ℕ) → class_row c list place ≡ u4_
 unfolding class_row class_head
 row_parts c list place = refl
 
-placed_length : (at : ℕ) (c : ClassDef) → length (placed_row at c) ≡ 32
+pub placed_length : (at : ℕ) (c : ClassDef) → length (placed_row at c) ≡ 32
 unfolding placed_row class_row class_head
 placed_length at c = refl
 

@@ -1,6 +1,7 @@
 pub mod ByteLemmas
 pub mod ClassLemmas
 pub mod ClassRows
+pub mod FileReads
 pub mod IdTables
 pub mod LineLemmas
 pub mod PlacedLemmas

@@ -6,6 +6,7 @@ pub mod Classes
 pub mod CodeItem
 pub mod Codes
 pub mod File
+pub mod FileLaw
 pub mod Fits
 pub mod Law
 pub mod Lines

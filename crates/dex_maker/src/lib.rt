@@ -22,7 +22,7 @@ mod tables;
 mod widths;
 
 pub use fault::MakeFault;
-pub use law::tables_read_again;
+pub use law::{header_and_tables_read_again, tables_read_again};
 pub use limits::is_makeable;
 pub use listing::{
     ListedClass, ListedCode, ListedField, ListedLine, ListedMethod, ListedTry, Listing, Operand,
