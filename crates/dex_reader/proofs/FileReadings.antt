@@ -693,4 +693,5 @@ exactly_one bytes = record {
   either = some_answer bytes (run (dex_at bytes)) refl;
   one_dex = λ d e a b. result_is (run (dex_at bytes)) d e (dex_again bytes d a) (dex_again bytes e b);
   one_fault = λ f g a b. fault_is (run (dex_at bytes)) f g (fault_runs bytes f a) (fault_runs bytes g b);
-  not_both = λ d f a b. never_both (run (dex_at bytes)) d f (dex_again bytes d a) (fault_runs bytes f b) }
+  not_both = λ d f a b. never_both (run (dex_at bytes)) d f (dex_again bytes d a) (fault_runs bytes f b);
+}

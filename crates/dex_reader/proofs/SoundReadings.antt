@@ -57,12 +57,12 @@ handler_sound : (file : List ℕ) (types from : ℕ) (hs : List Handler) (adds t
 unfolding handler_at
 handler_sound file types from [] adds to at h follow e = absurd cc
 handler_sound file types from (x ∷ hs) adds to at h follow e = elim (eqb_tells x.at at) [
-    | inl same ↦ (let x-is : Some x ≡ Some h = (rw same.0 at e) in
+  | inl same ↦ (let x-is : Some x ≡ Some h = (rw same.0 at e) in
       let one : x ≡ h = cc in
       subst (λ (k : Handler). All (λ (pair : ℕ × ℕ). pair.0 < types) k.pairs) one
-        (follow_all 0 (λ a b. a + b) (IsPair file types) (λ (pair : ℕ × ℕ). pair.0 < types) (λ q p t to is. is.kind_below) follow.3.begin x.pairs follow.3.paired follow.3.end follow.3.pairs))
-    | inr other ↦ handler_sound file types follow.0 hs follow.2 to at h follow.4 (rw other.0 at e)
-  ]
+      (follow_all 0 (λ a b. a + b) (IsPair file types) (λ (pair : ℕ × ℕ). pair.0 < types) (λ q p t to is. is.kind_below) follow.3.begin x.pairs follow.3.paired follow.3.end follow.3.pairs))
+  | inr other ↦ handler_sound file types follow.0 hs follow.2 to at h follow.4 (rw other.0 at e)
+]
 
 tries_sound : (file : List ℕ) (types from : ℕ) (hs : List Handler) (adds to list : ℕ) (items : List TryItem) (xs : List RawTry) → Follow 0 (λ a b. a + b) (IsHandler file types) from hs adds to → AreTries hs list items xs → All (IsSoundTry types) xs
 tries_sound file types from hs adds to list [] [] follow are = none_of (IsSoundTry types)
@@ -148,7 +148,7 @@ code_sums file types zero code adds is =
 code_sums file types (suc at) code adds is =
     let tries = maybe_tries_sound file types _ is.item.tries is.stands.tried is.stands.tries in
     subst (λ (o : Option RawCode). Sums adds 0 (code_units o) (code_tries o)) (sym is.is)
-      (subst (λ (t : Totals). Sums t 0 (length is.item.units) (sum_by tried is.item.tries)) (sym is.stands.adds_is) (record { members_are = refl; units_are = refl; tries_are = tries.1 }))
+    (subst (λ (t : Totals). Sums t 0 (length is.item.units) (sum_by tried is.item.tries)) (sym is.stands.adds_is) (record { members_are = refl; units_are = refl; tries_are = tries.1 }))
 
 members_sums : (file : List ℕ) (fields : ℕ) (q : Spot) (xs : List Member) (adds : Totals) (to : Spot) → Follow no_totals plus (IsMember file fields) q xs adds to → Sums adds (length xs) 0 0
 members_sums file fields q [] adds to follow = subst (λ (t : Totals). Sums t 0 0 0) (sym follow.1) (record { members_are = refl; units_are = refl; tries_are = omega arith })
@@ -198,7 +198,7 @@ data_sums file sizes (suc at) c adds has =
     let dm = d.members_are in let du = d.units_are in let dt = d.tries_are in
     let vm = v.members_are in let vu = v.units_are in let vt = v.tries_are in
     subst (λ (t : Totals). Sums t (class_members c) (class_units c) (class_tries c)) (sym has.sum)
-      (record { members_are = omega (arith, sm, im, dm, vm); units_are = omega (arith, su, iu, du, vu); tries_are = omega (arith, dt, vt) })
+    (record { members_are = omega (arith, sm, im, dm, vm); units_are = omega (arith, su, iu, du, vu); tries_are = omega (arith, dt, vt) })
 
 add_le : (a b c d : ℕ) → a ≤ b → c ≤ d → a + c ≤ b + d
 add_le a b c d ab cd = omega arith
@@ -218,9 +218,11 @@ classes_sums file sizes at (x ∷ xs) adds to follow =
     let m = one.members_are in let u = one.units_are in let t = one.tries_are in
     let m' = rest.members_are in let u' = rest.units_are in let t' = rest.tries_are in
     subst (λ (t : Totals). Sums t (sum_by class_members (x ∷ xs)) (sum_by class_units (x ∷ xs)) (sum_by class_tries (x ∷ xs))) (sym follow.5)
-      (record { members_are = ap (λ (n : ℕ). n + follow.2.members) m ∙ ap (λ (n : ℕ). class_members x + n) m' ∙ sym ms;
-        units_are = ap (λ (n : ℕ). n + follow.2.units) u ∙ ap (λ (n : ℕ). class_units x + n) u' ∙ sym us;
-        tries_are = subst (λ (n : ℕ). n ≤ follow.1.tries + follow.2.tries) (sym ts) (add_le (class_tries x) follow.1.tries (sum_by class_tries xs) follow.2.tries t t') })
+    (record {
+      members_are = ap (λ (n : ℕ). n + follow.2.members) m ∙ ap (λ (n : ℕ). class_members x + n) m' ∙ sym ms;
+      units_are = ap (λ (n : ℕ). n + follow.2.units) u ∙ ap (λ (n : ℕ). class_units x + n) u' ∙ sym us;
+      tries_are = subst (λ (n : ℕ). n ≤ follow.1.tries + follow.2.tries) (sym ts) (add_le (class_tries x) follow.1.tries (sum_by class_tries xs) follow.2.tries t t');
+    })
 
 -- a class
 superclass_sound : (types index : ℕ) (x : Option ℕ) → IsSuperclass types index x → IfSuperclass types x
@@ -238,21 +240,30 @@ record DataSound (sizes : Sizes) (c : ClassDef) : Type 0 where
 
 data_sound : (file : List ℕ) (sizes : Sizes) (at : ℕ) (c : ClassDef) (adds : Totals) → length file < 2 ^ 32 → MaybeClassData file sizes at c adds → DataSound sizes c
 data_sound file sizes zero c adds small has = record {
-    statics = subst (λ (ys : List Member). All (IsSoundMember sizes.fields) ys) (sym has.statics) (none_of (IsSoundMember sizes.fields));
-    instances = subst (λ (ys : List Member). All (IsSoundMember sizes.fields) ys) (sym has.instances) (none_of (IsSoundMember sizes.fields));
-    directs = subst (λ (ys : List Body). All (IsSoundBody sizes) ys) (sym has.directs) (none_of (IsSoundBody sizes));
-    virtuals = subst (λ (ys : List Body). All (IsSoundBody sizes) ys) (sym has.virtuals) (none_of (IsSoundBody sizes)) }
+  statics = subst (λ (ys : List Member). All (IsSoundMember sizes.fields) ys) (sym has.statics) (none_of (IsSoundMember sizes.fields));
+  instances = subst (λ (ys : List Member). All (IsSoundMember sizes.fields) ys) (sym has.instances) (none_of (IsSoundMember sizes.fields));
+  directs = subst (λ (ys : List Body). All (IsSoundBody sizes) ys) (sym has.directs) (none_of (IsSoundBody sizes));
+  virtuals = subst (λ (ys : List Body). All (IsSoundBody sizes) ys) (sym has.virtuals) (none_of (IsSoundBody sizes));
+}
 data_sound file sizes (suc at) c adds small has = record {
-    statics = follow_all no_totals plus (IsMember file sizes.fields) (IsSoundMember sizes.fields) (λ q x t to is. is.index_below) (has.counts.3, 0) c.statics has.parts.0 has.statics_to has.statics;
-    instances = follow_all no_totals plus (IsMember file sizes.fields) (IsSoundMember sizes.fields) (λ q x t to is. is.index_below) (has.statics_to.0, 0) c.instances has.parts.1 has.instances_to has.instances;
-    directs = follow_all no_totals plus (IsBody file sizes) (IsSoundBody sizes) (λ q x t to is. body_sound file sizes q x t to small is) (has.instances_to.0, 0) c.directs has.parts.2 has.directs_to has.directs;
-    virtuals = follow_all no_totals plus (IsBody file sizes) (IsSoundBody sizes) (λ q x t to is. body_sound file sizes q x t to small is) (has.directs_to.0, 0) c.virtuals has.parts.3 has.virtuals_to has.virtuals }
+  statics = follow_all no_totals plus (IsMember file sizes.fields) (IsSoundMember sizes.fields) (λ q x t to is. is.index_below) (has.counts.3, 0) c.statics has.parts.0 has.statics_to has.statics;
+  instances = follow_all no_totals plus (IsMember file sizes.fields) (IsSoundMember sizes.fields) (λ q x t to is. is.index_below) (has.statics_to.0, 0) c.instances has.parts.1 has.instances_to has.instances;
+  directs = follow_all no_totals plus (IsBody file sizes) (IsSoundBody sizes) (λ q x t to is. body_sound file sizes q x t to small is) (has.instances_to.0, 0) c.directs has.parts.2 has.directs_to has.directs;
+  virtuals = follow_all no_totals plus (IsBody file sizes) (IsSoundBody sizes) (λ q x t to is. body_sound file sizes q x t to small is) (has.directs_to.0, 0) c.virtuals has.parts.3 has.virtuals_to has.virtuals;
+}
 
 class_sound : (file : List ℕ) (sizes : Sizes) (at : ℕ) (c : ClassDef) (adds : Totals) → length file < 2 ^ 32 → IsClass file sizes at c adds → IsSoundClass sizes c
 class_sound file sizes at c adds small is =
     let lists = data_sound file sizes is.class_data c adds small is.members in
-    record { kind = is.class_below; superclass = superclass_sound sizes.types is.index c.superclass is.superclass; interfaces = list_sound file sizes.types is.list c.interfaces is.interfaces;
-      statics = lists.statics; instances = lists.instances; directs = lists.directs; virtuals = lists.virtuals }
+    record {
+      kind = is.class_below;
+      superclass = superclass_sound sizes.types is.index c.superclass is.superclass;
+      interfaces = list_sound file sizes.types is.list c.interfaces is.interfaces;
+      statics = lists.statics;
+      instances = lists.instances;
+      directs = lists.directs;
+      virtuals = lists.virtuals;
+    }
 
 -- the whole
 same_sizes : (header : Header) (dex : Dex) → length dex.strings ≡ header.strings.size → length dex.types ≡ header.types.size → length dex.protos ≡ header.protos.size → length dex.fields ≡ header.fields.size → length dex.methods ≡ header.methods.size
@@ -260,10 +271,10 @@ same_sizes : (header : Header) (dex : Dex) → length dex.strings ≡ header.str
 same_sizes header dex s t p f m =
     let S : ℕ → ℕ → ℕ → ℕ → ℕ → Sizes = λ a b c d e. record { strings = a; types = b; protos = c; fields = d; methods = e } in
     ap (λ (n : ℕ). S n header.types.size header.protos.size header.fields.size header.methods.size) (sym s)
-      ∙ ap (λ (n : ℕ). S (length dex.strings) n header.protos.size header.fields.size header.methods.size) (sym t)
-      ∙ ap (λ (n : ℕ). S (length dex.strings) (length dex.types) n header.fields.size header.methods.size) (sym p)
-      ∙ ap (λ (n : ℕ). S (length dex.strings) (length dex.types) (length dex.protos) n header.methods.size) (sym f)
-      ∙ ap (λ (n : ℕ). S (length dex.strings) (length dex.types) (length dex.protos) (length dex.fields) n) (sym m)
+    ∙ ap (λ (n : ℕ). S (length dex.strings) n header.protos.size header.fields.size header.methods.size) (sym t)
+    ∙ ap (λ (n : ℕ). S (length dex.strings) (length dex.types) n header.fields.size header.methods.size) (sym p)
+    ∙ ap (λ (n : ℕ). S (length dex.strings) (length dex.types) (length dex.protos) n header.methods.size) (sym f)
+    ∙ ap (λ (n : ℕ). S (length dex.strings) (length dex.types) (length dex.protos) (length dex.fields) n) (sym m)
 
 pub dex_sound : (bytes : List ℕ) (dex : Dex) → ((i : ℕ) → get_or bytes i 0 < 256) → IsDex bytes dex → SoundDex dex
 dex_sound bytes dex small is =
@@ -284,14 +295,17 @@ dex_sound bytes dex small is =
       methods_size = subst (λ (n : ℕ). n < 2 ^ 32) (sym tables.methods.count) (u4_small bytes 88 header.methods.size small is.header_is.methods.0);
       types = subst (λ (s : Sizes). All (λ name. name < s.strings) dex.types) same (rows_all (IsType file (sizes_of header)) (λ name. name < header.strings.size) 4 (λ at x both. both.1) header.types.at dex.types tables.types.stand);
       protos = subst (λ (s : Sizes). All (IsSoundProto s) dex.protos) same (rows_all (IsProto file (sizes_of header)) (IsSoundProto (sizes_of header)) 12
-        (λ at x p. record { ret = p.ret_below; params = list_sound file header.types.size p.list x.params p.params }) header.protos.at dex.protos tables.protos.stand);
+          (λ at x p. record { ret = p.ret_below; params = list_sound file header.types.size p.list x.params p.params }) header.protos.at dex.protos tables.protos.stand);
       fields = subst (λ (s : Sizes). All (IsSoundField s) dex.fields) same (rows_all (IsField file (sizes_of header)) (IsSoundField (sizes_of header)) 8
-        (λ at x f. record { class = f.class_below; kind = f.kind_below; name = f.name_below }) header.fields.at dex.fields tables.fields.stand);
+          (λ at x f. record { class = f.class_below; kind = f.kind_below; name = f.name_below }) header.fields.at dex.fields tables.fields.stand);
       methods = subst (λ (s : Sizes). All (IsSoundMethod s) dex.methods) same (rows_all (IsMethod file (sizes_of header)) (IsSoundMethod (sizes_of header)) 8
-        (λ at x m. record { class = m.class_below; proto = m.proto_below; name = m.name_below }) header.methods.at dex.methods tables.methods.stand);
+          (λ at x m. record { class = m.class_below; proto = m.proto_below; name = m.name_below }) header.methods.at dex.methods tables.methods.stand);
       classes = subst (λ (s : Sizes). All (IsSoundClass s) dex.classes) same (follow_all no_totals plus (IsClassRow file (sizes_of header)) (IsSoundClass (sizes_of header))
-        (λ at c t to row. class_sound file (sizes_of header) at c t short row.0) header.classes.at dex.classes is.totals tables.end tables.classes);
-      names_limit = limits.names; lists_limit = limits.type_lists; classes_limit = limits.class_defs;
+          (λ at c t to row. class_sound file (sizes_of header) at c t short row.0) header.classes.at dex.classes is.totals tables.end tables.classes);
+      names_limit = limits.names;
+      lists_limit = limits.type_lists;
+      classes_limit = limits.class_defs;
       members_limit = subst (λ (n : ℕ). n ≤ 400000) sums.members_are limits.class_data;
       units_limit = subst (λ (n : ℕ). n ≤ 8388608) sums.units_are limits.units;
-      tries_limit = (let t = sums.tries_are in let l = limits.tries in omega (arith, t, l)) }
+      tries_limit = (let t = sums.tries_are in let l = limits.tries in omega (arith, t, l));
+    }

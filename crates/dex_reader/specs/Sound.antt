@@ -97,13 +97,11 @@ pub record SoundDex (dex : Dex) : Type 0 where
   pub protos_size : length dex.protos < 2 ^ 32
   pub fields_size : length dex.fields < 2 ^ 32
   pub methods_size : length dex.methods < 2 ^ 32
-
   pub types : All (λ name. name < length dex.strings) dex.types
   pub protos : All (IsSoundProto (rows_of dex)) dex.protos
   pub fields : All (IsSoundField (rows_of dex)) dex.fields
   pub methods : All (IsSoundMethod (rows_of dex)) dex.methods
   pub classes : All (IsSoundClass (rows_of dex)) dex.classes
-
   pub names_limit : sum_by length dex.strings ≤ 33554432
   pub lists_limit : sum_by params_of dex.protos + sum_by interfaces_of dex.classes ≤ 4000000
   pub classes_limit : length dex.classes ≤ 65536

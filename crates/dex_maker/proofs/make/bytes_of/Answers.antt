@@ -1,0 +1,11 @@
+use Rattle.std.proofs.Common.{◌≡◌, ◌≤◌, length, rules, arith, List}
+use Rattle.dex_reader.specs.declared.dex.ClassDef.{ClassDef}
+use Rattle.dex_maker.specs.Classes.{class_defs_from}
+use Rattle.dex_maker.proofs.Shortness.{tables_short, classes_length}
+use Rattle.dex_maker.proofs.make.bytes_of.Goals as goal
+
+pub file_of-requires : goal.file_of-requires
+file_of-requires c =
+    let made : c.deref.result.now ≡ class_defs_from c.args.tables.now 0 0 c.args.listing.now.classes = search rules in
+    let few : length c.args.listing.now.classes ≤ 65536 = c.requires.makeable.classes in
+    tables_short c.args.tables.now c.deref.result.now c.requires.short (rw (made, classes_length c.args.tables.now 0 0 c.args.listing.now.classes) few)

@@ -1,0 +1,33 @@
+//! Writes DEX files of version 035 from a listing of their classes.
+#![tactic(auto)]
+
+mod bytes;
+mod class_data;
+mod classes;
+mod code_item;
+mod codes;
+mod fault;
+mod file;
+mod fits;
+mod id_row;
+mod interner;
+mod law;
+mod limits;
+mod listing;
+mod make;
+mod naming;
+mod payloads;
+mod spelling;
+mod tables;
+mod widths;
+
+pub use fault::MakeFault;
+pub use law::{header_and_tables_read_again, tables_read_again};
+pub use limits::is_makeable;
+pub use listing::{
+    ListedClass, ListedCode, ListedField, ListedLine, ListedMethod, ListedTry, Listing, Operand,
+};
+pub use make::make_dex;
+
+#[cfg(test)]
+mod tests;
