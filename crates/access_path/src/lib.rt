@@ -7,8 +7,9 @@
 mod path;
 
 ghost use Rattle.access_path.specs.Laws.{PathLaws};
+ghost use Rattle.access_path.specs.Order.{PathOrder};
 
-pub use path::{Keys, Path};
+pub use path::{Keys, Path, covers, cut, rest};
 
 /// The laws by which everybody else knows paths.
 ///
@@ -17,4 +18,10 @@ pub use path::{Keys, Path};
 /// covers no keys has none.
 pub fn paths_keep_their_laws()
     ensures { PathLaws }
+{}
+
+/// The order of paths tells all paths apart, and it is that of their numbers: how many keys, plus
+/// 128 where the path is open, and then the keys.
+pub fn paths_stand_in_order()
+    ensures { PathOrder }
 {}

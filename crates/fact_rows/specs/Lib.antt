@@ -1,2 +1,5 @@
 pub mod Contexts
+pub mod ExactOrder
+pub mod HeadOrder
 pub mod InApp
+pub mod Order

@@ -4,10 +4,25 @@
 //! which they stand, and then field by field.
 #![tactic(auto)]
 
+ghost use Rattle.fact_rows.specs.Order.{RowOrder};
+
 mod context;
+mod head;
 mod row;
 mod site;
+mod table;
 
 pub use context::{Activation, Ctx, Node};
+pub use head::Head;
 pub use row::Row;
 pub use site::Site;
+pub use table::Table;
+
+/// The order of rows is total and tells all rows apart, and it is that of their numbers: the kind,
+/// and then field by field.
+pub fn rows_stand_in_order()
+    ensures { RowOrder }
+{}
+
+#[cfg(test)]
+mod tests;

@@ -1,0 +1,5 @@
+pub mod Ascending
+pub mod Between
+pub mod Bounds
+pub mod Parts
+pub mod Stretches
