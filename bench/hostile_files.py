@@ -53,11 +53,11 @@ def files():
     yield 'leb_never_ends', put(endless, OFF['string_ids'], 8), 'leb at 8'
     last = len(good) - 2
     yield 'text_never_ends', put(good[:last] + b'\x01A', OFF['string_ids'], last), f'text at {last + 1}'
-    yield 'type_at_the_size', put(good, OFF['type_ids'] + 4, SIZE['string_ids']), 'index type_ids row 1'
-    yield 'shorty_at_the_size', put(good, OFF['proto_ids'], SIZE['string_ids']), 'index proto_ids row 0'
+    yield 'type_at_the_size', put(good, OFF['type_ids'] + 4, SIZE['string_ids']), 'index in type_ids row 1'
+    yield 'shorty_at_the_size', put(good, OFF['proto_ids'], SIZE['string_ids']), 'index in proto_ids row 0'
     yield 'params_cut', put(good, OFF['proto_ids'] + 8, len(good) - 3), f'outside at {len(good) - 3}'
-    yield 'method_of_no_class', put(good, OFF['method_ids'], SIZE['type_ids'], 2), 'index method_ids row 0'
-    yield 'superclass_at_the_size', put(good, OFF['class_defs'] + 8, SIZE['type_ids']), 'index class_defs row 0'
+    yield 'method_of_no_class', put(good, OFF['method_ids'], SIZE['type_ids'], 2), 'index in method_ids row 0'
+    yield 'superclass_at_the_size', put(good, OFF['class_defs'] + 8, SIZE['type_ids']), 'index in class_defs row 0'
     yield 'class_data_far_away', put(good, OFF['class_defs'] + 24, FULL), f'leb at {FULL}'
     # the first code item with try items: found by what dexdump says of it, its handler offset moved by one
     dump = subprocess.run(['dexdump', '-d', sys.argv[1]], capture_output=True, check=True).stdout.decode()
@@ -66,11 +66,11 @@ def files():
     units = u4(good, code + 12)
     tries = code + 16 + 2 * units + (2 if units % 2 else 0)
     first = u2(good, tries + 6)
-    yield 'handler_in_the_middle', put(good, tries + 6, first + 1, 2), f'index tries row {code}'
+    yield 'handler_in_the_middle', put(good, tries + 6, first + 1, 2), f'index in tries row {code}'
     yield 'units_full', put(good, code + 12, FULL), f'outside at {code}'
     yield 'tries_to_the_end', put(good, code + 6, 65535, 2), f'outside at {code}'
     handlers = tries + 8 * u2(good, code + 6)
-    yield 'handler_of_no_type', put(good, handlers + 2, 0x7F, 1), f'index handlers row {code}'
+    yield 'handler_of_no_type', put(good, handlers + 2, 0x7F, 1), f'index in handlers row {code}'
 
 
 for name, data, said in files():

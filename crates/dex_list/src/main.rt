@@ -44,7 +44,7 @@ fn fault_of<W: Write>(out: &mut W, fault: &DexFault) -> io::Result<()> {
         }
         DexFault::Outside(at) => writeln!(out, "outside at {at}"),
         DexFault::Index(table, row) => {
-            write!(out, "index ")?;
+            write!(out, "index in ")?;
             listing::text(out, table.as_bytes())?;
             writeln!(out, " row {row}")
         }

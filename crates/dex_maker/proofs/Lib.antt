@@ -1,12 +1,7 @@
 pub mod ByteLemmas
 pub mod ClassLemmas
-pub mod ClassRows
-pub mod FileReads
-pub mod IdTables
 pub mod LineLemmas
 pub mod PlacedLemmas
 pub mod Places
 pub mod Shortness
-pub mod Standing
 pub mod Sums
-pub mod Texts

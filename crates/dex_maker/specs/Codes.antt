@@ -1,5 +1,5 @@
 -- What the code of a listing is in a file: its units, its tries, and how many arguments its calls pass at most.
-use Rattle.std.specs.Prelude.{ℕ, ℤ, ◌+◌, ◌-◌, List, [], ◌∷◌, ◌++◌, length, map, max, slice_index, Option, Some, None}
+use Rattle.std.specs.Prelude.{ℕ, ◌+◌, ◌-◌, List, [], ◌∷◌, ◌++◌, length, map, max, slice_index, Option, Some, None}
 use Rattle.std.specs.Option.{option_map}
 use Rattle.std.specs.Int.{w64, cast_unsigned}
 use Rattle.dalvik_formats.specs.declared.format.Format.{Format}

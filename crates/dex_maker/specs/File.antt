@@ -3,7 +3,7 @@ use Rattle.std.specs.Prelude.{ℕ, ◌+◌, ◌*◌, List, [], ◌∷◌, ◌++�
 use Rattle.std.specs.List.{flat_map}
 use Rattle.dex_reader.specs.declared.dex.ClassDef.{ClassDef}
 use Rattle.dex_maker.specs.declared.tables.Tables.{Tables}
-use Rattle.dex_maker.specs.Bytes.{u2_bytes, u4_bytes, uleb_bytes, string_item, type_list}
+use Rattle.dex_maker.specs.Bytes.{u2_bytes, u4_bytes, string_item, type_list}
 use Rattle.dex_maker.specs.ClassData.{class_bytes, placed_row}
 use Rattle.dex_maker.specs.Placed.{pieces, rows_of, offset_of}
 

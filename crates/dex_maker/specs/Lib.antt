@@ -1,14 +1,11 @@
 pub mod Budget
 pub mod Bytes
 pub mod ClassData
-pub mod ClassLaw
 pub mod Classes
 pub mod CodeItem
 pub mod Codes
 pub mod File
-pub mod FileLaw
 pub mod Fits
-pub mod Law
 pub mod Lines
 pub mod Made
 pub mod Naming

@@ -1,13 +1,10 @@
 -- How many units a line takes, and where each line begins ("Dalvik bytecode": packed-switch-payload, sparse-switch-payload,
 -- fill-array-data-payload).
-use Rattle.std.specs.Prelude.{ℕ, ◌+◌, ◌*◌, ◌/◌, List, [], ◌∷◌, length, Option, Some, None}
+use Rattle.std.specs.Prelude.{ℕ, ◌+◌, ◌*◌, ◌/◌, List, [], ◌∷◌, length}
 use Rattle.std.specs.List.{sum_by}
 use Rattle.dalvik_formats.specs.Layouts.{layout_of, units_of}
 use Rattle.dex_maker.specs.declared.listing.ListedLine.{ListedLine}
 use Rattle.dex_maker.specs.declared.listing.ListedLine.TheVariants.{Plain, Packed, Sparse, Filled}
-use Rattle.dex_maker.specs.declared.listing.ListedCode.{ListedCode}
-use Rattle.dex_maker.specs.declared.listing.ListedMethod.{ListedMethod}
-use Rattle.dex_maker.specs.declared.listing.ListedClass.{ListedClass}
 
 abbrev pub width_of : ListedLine → ℕ
 width_of (Plain opcode registers literal operand target) = units_of (layout_of opcode)

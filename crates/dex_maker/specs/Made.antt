@@ -1,13 +1,10 @@
 -- What is made of a listing, which listings have a file, and when there is none.
-use Rattle.std.specs.Prelude.{◌≡◌, ℕ, ◌+◌, ◌-◌, ◌*◌, ◌<◌, ◌≤◌, ◌≢◌, codes, List, [], ◌∷◌, ◌++◌, length, map, sum, slice_index, Bool, true, false, IsTrue, Option, Some, None, is_some, Result, Ok, Err, nat_lt, if◌then◌else◌}
-use Rattle.std.specs.List.{sum_by, flat_map, AllByRecursion}
-use Rattle.std.specs.Global.{Vec}
+use Rattle.std.specs.Prelude.{ℕ, ◌≤◌, codes, List, length, Option, Some, None, nat_lt, if◌then◌else◌}
 use Rattle.dex_maker.specs.declared.tables.Tables.{Tables}
 use Rattle.dex_maker.specs.declared.fault.IdTable.{IdTable}
 use Rattle.dex_maker.specs.declared.fault.IdTable.TheVariants as ids
 use Rattle.dex_maker.specs.declared.fault.MakeFault.{MakeFault}
 use Rattle.dex_maker.specs.declared.fault.MakeFault.TheVariants.{TooMany, Range}
-use Rattle.dex_maker.specs.declared.fault.MakeFault.TheVariants as faults
 use Rattle.dex_maker.specs.declared.listing.Listing.{Listing}
 use Rattle.dex_maker.specs.Naming.{tables_of}
 use Rattle.dex_maker.specs.Classes.{class_defs_from, unit_count, member_total}

@@ -11,7 +11,6 @@ mod file;
 mod fits;
 mod id_row;
 mod interner;
-mod law;
 mod limits;
 mod listing;
 mod make;
@@ -22,12 +21,8 @@ mod tables;
 mod widths;
 
 pub use fault::MakeFault;
-pub use law::{header_and_tables_read_again, tables_read_again};
 pub use limits::is_makeable;
 pub use listing::{
     ListedClass, ListedCode, ListedField, ListedLine, ListedMethod, ListedTry, Listing, Operand,
 };
 pub use make::make_dex;
-
-#[cfg(test)]
-mod tests;

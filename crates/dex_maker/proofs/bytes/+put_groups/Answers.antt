@@ -1,4 +1,4 @@
-use Rattle.std.proofs.Common.{◌≡◌, ◌<◌, ◌≤◌, arith, append_assoc, refl, sym, ap, ◌∙◌, ◌++◌, ◌∷◌, [], List, ℕ}
+use Rattle.std.proofs.Common.{◌<◌, ◌≤◌, arith, append_assoc, refl}
 use Rattle.dex_maker.proofs.ByteLemmas.{groups_step}
 use Rattle.dex_maker.proofs.bytes.+put_groups.Goals as goal
 

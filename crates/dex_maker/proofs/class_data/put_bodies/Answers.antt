@@ -1,7 +1,7 @@
-use Rattle.std.proofs.Common.{◌≡◌, ◌+◌, ◌++◌, length, take, refl, rules, arith, length-append, ap}
+use Rattle.std.proofs.Common.{◌≡◌, ◌+◌, ◌++◌, length, take, rules, arith, length-append, ap}
 use Rattle.dex_maker.specs.ClassData.{code_piece, body_code}
 use Rattle.dex_maker.specs.Placed.{pieces}
-use Rattle.dex_maker.proofs.PlacedLemmas.{piece_step, next_place}
+use Rattle.dex_maker.proofs.PlacedLemmas.{piece_step}
 use Rattle.dex_maker.proofs.ClassLemmas.{body_step, bodies_done}
 use Rattle.dex_maker.proofs.class_data.put_bodies.Goals as goal
 

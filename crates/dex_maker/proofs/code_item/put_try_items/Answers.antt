@@ -1,6 +1,6 @@
-use Rattle.std.proofs.Common.{◌≡◌, ◌+◌, length, take, refl, rules}
+use Rattle.std.proofs.Common.{◌≡◌, length, take, refl, rules}
 use Rattle.dex_maker.specs.CodeItem.{handler_piece, try_bytes}
-use Rattle.dex_maker.specs.Placed.{pieces, rows_of}
+use Rattle.dex_maker.specs.Placed.{pieces}
 use Rattle.dex_maker.proofs.PlacedLemmas.{piece_step, row_step, next_place}
 use Rattle.dex_maker.proofs.code_item.put_try_items.Goals as goal
 

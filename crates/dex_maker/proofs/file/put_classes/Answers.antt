@@ -1,4 +1,4 @@
-use Rattle.std.proofs.Common.{◌≡◌, ◌+◌, ◌++◌, length, take, arith, ap, length-append}
+use Rattle.std.proofs.Common.{◌≡◌, ◌+◌, length, take, arith, ap, length-append}
 use Rattle.dex_maker.specs.ClassData.{class_bytes, placed_row}
 use Rattle.dex_maker.specs.Placed.{pieces}
 use Rattle.dex_maker.proofs.PlacedLemmas.{piece_step, row_step}

@@ -1,4 +1,4 @@
-use Rattle.std.proofs.Common.{◌≡◌, ◌≤◌, ◌+◌, drop, take}
+use Rattle.std.proofs.Common.{◌≡◌, ◌≤◌, drop, take}
 use Rattle.std.specs.List.{sum_by}
 use Rattle.dex_maker.specs.Classes.{member_count}
 use Rattle.dex_maker.specs.Fits.{first_misfit}

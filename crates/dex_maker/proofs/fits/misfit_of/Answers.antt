@@ -1,4 +1,4 @@
-use Rattle.std.proofs.Common.{◌≡◌, ◌≤◌, ◌<◌, length, arith}
+use Rattle.std.proofs.Common.{◌≤◌, arith}
 use Rattle.std.specs.List.{sum_by}
 use Rattle.dex_maker.specs.Lines.{width_of, width_sum}
 use Rattle.dex_maker.proofs.LineLemmas.{lines_within}

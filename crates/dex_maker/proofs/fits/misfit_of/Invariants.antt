@@ -1,4 +1,4 @@
-use Rattle.std.proofs.Common.{◌≡◌, ◌+◌, take, drop, length}
+use Rattle.std.proofs.Common.{◌≡◌, take, drop, length}
 use Rattle.std.specs.List.{sum_by}
 use Rattle.dex_maker.specs.Lines.{width_of}
 use Rattle.dex_maker.specs.Fits.{misfit_from}

@@ -1,5 +1,4 @@
-use Rattle.std.proofs.Common.{◌≡◌, ◌≤◌, length, rules, arith, List}
-use Rattle.dex_reader.specs.declared.dex.ClassDef.{ClassDef}
+use Rattle.std.proofs.Common.{◌≡◌, ◌≤◌, length, rules}
 use Rattle.dex_maker.specs.Classes.{class_defs_from}
 use Rattle.dex_maker.proofs.Shortness.{tables_short, classes_length}
 use Rattle.dex_maker.proofs.make.bytes_of.Goals as goal

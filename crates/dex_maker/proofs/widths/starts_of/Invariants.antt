@@ -1,4 +1,4 @@
-use Rattle.std.proofs.Common.{◌≡◌, ◌≤◌, ◌++◌, ◌+◌, take, drop}
+use Rattle.std.proofs.Common.{◌≡◌, ◌++◌, take, drop}
 use Rattle.std.specs.List.{sum_by}
 use Rattle.dex_maker.specs.Lines.{width_of, starts_from}
 use Rattle.dex_maker.proofs.widths.starts_of.Given as goal

@@ -1,7 +1,4 @@
-use Rattle.std.proofs.Common.{◌≡◌, length, arith, ℕ, rules, true, false, sym, ◌∙◌, List, ◌++◌, [], ◌∷◌}
-use Rattle.std.specs.Prelude.{is_some}
-use Rattle.std.specs.BTreeMap.{get, Updates}
-use Rattle.dex_maker.specs.Rows.{IsIndexOf}
+use Rattle.std.proofs.Common.{◌≡◌, length, rules, sym}
 use Rattle.dex_maker.proofs.interner.Interner.push.Goals as goal
 use Rattle.dex_maker.proofs.interner.Interner.push.Goals.{then-not-contains_key+in_ok-at+in_ok-twin+in_ok-insert, else-not-contains_key}
 use Rattle.dex_maker.proofs.Places.{index_pushed, index_kept}

@@ -1,4 +1,4 @@
-use Rattle.std.proofs.Common.{◌≡◌, ◌++◌, ◌∷◌, take, map}
+use Rattle.std.proofs.Common.{◌≡◌, ◌∷◌, take, map}
 use Rattle.dex_maker.specs.Tables.{string_index, type_index, shorty}
 use Rattle.dex_maker.proofs.tables.Tables.proto_row.Given as goal
 

@@ -1,0 +1,4 @@
+pub mod Costs
+pub mod Listings
+pub mod Named
+pub mod Values
