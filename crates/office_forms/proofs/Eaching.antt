@@ -1,11 +1,11 @@
 -- A loop over the items of a list that keeps a state alone: the laws of `each`, over the list itself and over its items seen by
 -- a view.
-use Rattle.std.proofs.Common.{◌≡◌, ℕ, ◌+◌, ◌<◌, ◌≤◌, Result, Ok, Err, List, [], ◌∷◌, length, map, drop, get_or, add-one, refl, ap, sym, ◌∙◌, zero, suc}
+use Rattle.std.proofs.Common.{◌≡◌, ℕ, ◌+◌, ◌<◌, ◌≤◌, Result, Ok, Err, List, [], ◌∷◌, length, map, drop, get_or, add-one, refl, ap, sym, ◌∙◌}
 use Rattle.std.proofs.lemmas.List.{get_or-map, length-map, drop_all}
 use Rattle.std.proofs.Math.Seq.{drop-cons}
 use Rattle.vet_base.specs.declared.stop.Stop.{Stop}
 use Rattle.vet_base.specs.declared.stop.Stop.TheVariants as stops
-use Rattle.vet_base.specs.Script.{Script, run, ◌>>=◌, Fails}
+use Rattle.vet_base.specs.Script.{Script, run, Fails}
 use Rattle.vet_base.proofs.Scripts.{run_bind}
 use Rattle.office_forms.specs.Each.{each}
 

@@ -1,15 +1,14 @@
 -- What a reader of a form answers, from what running the form's script gives.
-use Rattle.std.proofs.Common.{◌≡◌, ◌⊎◌, ◌≢◌, ℕ, List, Ok, Err, Result, refl, ⊎_elim, subst, sym, ap, ◌∙◌}
+use Rattle.std.proofs.Common.{◌≡◌, ◌⊎◌, ◌≢◌, ℕ, List, Ok, ⊎_elim, subst, sym, ap, ◌∙◌}
 use Rattle.toml.specs.Data.{Members}
 use Rattle.vet_base.specs.declared.stop.Stop.{Stop}
 use Rattle.vet_base.specs.declared.stop.Stop.TheVariants as stops
 use Rattle.vet_base.specs.Script.{Script, run, Fails}
 use Rattle.vet_base.proofs.Scripts.{all_hold, is_first}
 use Rattle.office_forms.specs.declared.fault.Fault.{Fault}
-use Rattle.office_forms.specs.declared.fault.Fault.TheVariants.{NotToml}
 use Rattle.office_forms.specs.declared.told.FormFault.{FormFault}
 use Rattle.office_forms.specs.declared.told.FormFault.TheVariants as told
-use Rattle.office_forms.specs.Tree.{Reads, IsNotToml}
+use Rattle.office_forms.specs.Tree.{Reads}
 use Rattle.office_forms.specs.Form.{IsForm, FirstFormFault, unread, fails, shown, IsTold, IsUnread}
 
 pub is_form : {A : Type 0} (form : Members → Script Fault A) (text : List ℕ) (tree : Members) (value : A) → Reads text tree → run (form tree) ≡ Ok value → IsForm form text value

@@ -8,3 +8,9 @@ pub mod Eaching
 pub mod Merging
 pub mod Above
 pub mod Params
+pub mod Yields
+pub mod FieldYields
+pub mod Adding
+pub mod FormsSound
+pub mod PositionsSound
+pub mod ListsSound

@@ -1,6 +1,5 @@
 -- Where the text ends there is no other parameter.
 use Rattle.std.proofs.Common.{◌≡◌, ℕ, ◌≤◌, false, List, length, refl}
-use Rattle.std.specs.Prelude.{nat_lt}
 use Rattle.std.proofs.lemmas.Bool.{le-ltb}
 use Rattle.office_forms.specs.Descriptor.{has_param}
 

@@ -1,10 +1,10 @@
 -- An index with one key more has the places of the longer list.
-use Rattle.std.proofs.Common.{◌≡◌, ℕ, suc, ◌+◌, Bool, true, false, cond, List, [], ◌∷◌, ◌++◌, length, Option, Some, None, option_map, refl, ap, sym, ◌∙◌, ⊎_elim, inl, inr, ◌⊎◌, Bor, option_copied, is_some, subst, IfSome, ◌<◌, arith}
+use Rattle.std.proofs.Common.{◌≡◌, ℕ, suc, Bool, true, false, cond, List, [], ◌∷◌, ◌++◌, length, Option, Some, None, option_map, refl, ap, sym, ◌∙◌, ⊎_elim, inl, inr, ◌⊎◌, Bor, option_copied, is_some, subst, IfSome, ◌<◌, arith}
 use Rattle.std.specs.Option.{option_or}
 use Rattle.std.specs.declared.cmp.Ordering.{Ordering}
 use Rattle.std.specs.Ordering.{is_eq}
 use Rattle.std.specs.Cmp.{IsEquivalence}
-use Rattle.std.specs.BTreeMap.{BTreeMap, get, Updates, is_at}
+use Rattle.std.specs.BTreeMap.{BTreeMap, get, Updates}
 use Rattle.office_forms.specs.Places.{place_of, HasPlaces}
 
 either : (b : Bool) → (b ≡ true) ⊎ (b ≡ false)

@@ -1,9 +1,8 @@
 -- The methods of app classes that the system calls.
-use Rattle.std.specs.Prelude.{ℕ, false, List, [], ◌∷◌, ◌++◌}
-use Rattle.toml.specs.Data.{Data, Members}
-use Rattle.vet_base.specs.Script.{Script, Value, Test, ◌>>=◌, walk}
+use Rattle.std.specs.Prelude.{false, List, [], ◌∷◌, ◌++◌}
+use Rattle.toml.specs.Data.{Data}
+use Rattle.vet_base.specs.Script.{Script, Value, ◌>>=◌}
 use Rattle.app_model.specs.Names.{Name}
-use Rattle.app_model.specs.declared.lists.Callback.{Callback}
 use Rattle.office_forms.specs.declared.fault.Fault.{Fault}
 use Rattle.office_forms.specs.declared.words.Section.TheVariants as section
 use Rattle.office_forms.specs.declared.words.Key.TheVariants as key

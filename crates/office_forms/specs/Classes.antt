@@ -1,5 +1,5 @@
 -- The classes of the library, each with the classes above it.
-use Rattle.std.specs.Prelude.{◌≡◌, ℕ, nat_le, Bool, false, codes, List, [], ◌∷◌, ◌++◌, length, Option, Some, None, is_some, unwrap_or, if◌then◌else◌}
+use Rattle.std.specs.Prelude.{nat_le, false, codes, List, [], ◌∷◌, ◌++◌, length, Option, Some, None, is_some, unwrap_or, if◌then◌else◌}
 use Rattle.std.specs.Str.{bytes_eq}
 use Rattle.toml.specs.Data.{Data, Members}
 use Rattle.vet_base.specs.Script.{Script, Value, Test, ◌>>=◌, test}

@@ -1,7 +1,7 @@
 -- The declaration: the flows that a developer declares.
-use Rattle.std.specs.Prelude.{◌≡◌, ℕ, List}
+use Rattle.std.specs.Prelude.{List}
 use Rattle.toml.specs.Data.{Data, Members}
-use Rattle.vet_base.specs.Script.{Script, Value, Test, ◌>>=◌, walk}
+use Rattle.vet_base.specs.Script.{Script, Value, ◌>>=◌, walk}
 use Rattle.app_model.specs.Names.{Name}
 use Rattle.app_model.specs.declared.papers.Declaration.{Declaration}
 use Rattle.office_forms.specs.declared.fault.Fault.{Fault}

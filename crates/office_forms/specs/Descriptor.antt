@@ -1,6 +1,6 @@
 -- The descriptor of a method: its parameters' types in parentheses, and the type of its result.
 -- Android documentation, Dalvik Executable format: "TypeDescriptor semantics", "proto_id_item".
-use Rattle.std.specs.Prelude.{◌≡◌, ℕ, ◌+◌, ◌==◌, ◌&&◌, ◌||◌, not, nat_le, nat_lt, Bool, true, false, List, [], ◌∷◌, length, take, drop, slice_index, position, Option, Some, None, option_map, if◌then◌else◌}
+use Rattle.std.specs.Prelude.{ℕ, ◌+◌, ◌==◌, ◌&&◌, ◌||◌, not, nat_le, nat_lt, Bool, false, List, [], length, take, drop, slice_index, position, Option, Some, None, if◌then◌else◌}
 use Rattle.vet_base.specs.Script.{Script, Value, Test, ◌>>=◌, test, sweep}
 use Rattle.app_model.specs.Names.{Name}
 use Rattle.app_model.specs.declared.call.Proto.{Proto}

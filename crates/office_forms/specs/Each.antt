@@ -1,6 +1,6 @@
 -- One row after the other, each in the state that the rows before it left.
-use Rattle.std.specs.Prelude.{ℕ, Bool, true, false, List, [], ◌∷◌, ◌++◌, Option, Some, None, is_none, is_some, if◌then◌else◌}
-use Rattle.vet_base.specs.Script.{Script, Value, Test, ◌>>=◌, test}
+use Rattle.std.specs.Prelude.{List, [], ◌∷◌, ◌++◌, is_none, is_some, if◌then◌else◌}
+use Rattle.vet_base.specs.Script.{Script, Value, ◌>>=◌, test}
 use Rattle.app_model.specs.Names.{Name, same_name}
 use Rattle.office_forms.specs.declared.fault.Fault.{Fault}
 use Rattle.office_forms.specs.declared.fault.Fault.TheVariants.{Twice}

@@ -1,12 +1,12 @@
 -- What stands at a key of a table: its tests in their order, and the value behind them.
-use Rattle.std.specs.Prelude.{◌≡◌, ℕ, ℤ, pos, negsuc, ◌++◌, ◌&&◌, nat_le, nat_lt, Bool, true, false, if◌then◌else◌, List, [], ◌∷◌, length, Option, Some, None}
+use Rattle.std.specs.Prelude.{ℕ, pos, negsuc, ◌&&◌, nat_le, Bool, false, if◌then◌else◌, List, [], length, Option, Some, None}
 use Rattle.std.specs.List.{list_any, list_all}
 use Rattle.std.specs.Str.{bytes_eq}
-use Rattle.toml.specs.Data.{Data, string, integer, float, boolean, datetime, array, table, Members, no_members, member, get_member}
+use Rattle.toml.specs.Data.{Data, string, integer, table, Members, no_members, member, get_member}
 use Rattle.vet_base.specs.Script.{Script, Value, Test, ◌>>=◌, test, walk}
 use Rattle.app_model.specs.Names.{Name}
 use Rattle.office_forms.specs.declared.fault.Fault.{Fault}
-use Rattle.office_forms.specs.declared.fault.Fault.TheVariants.{Missing, Wrong, Unknown, Range, Twice}
+use Rattle.office_forms.specs.declared.fault.Fault.TheVariants.{Missing, Wrong, Unknown, Range}
 use Rattle.office_forms.specs.declared.words.Section.{Section}
 use Rattle.office_forms.specs.declared.words.Key.{Key}
 use Rattle.office_forms.specs.declared.spelling.Spelling.{Spelling}

@@ -16,3 +16,4 @@ pub mod Methods
 pub mod Callbacks
 pub mod Declaration
 pub mod Lists
+pub mod Sound

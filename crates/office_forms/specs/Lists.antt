@@ -1,7 +1,7 @@
 -- The lists of the office: the limit of rows, the categories, and what is said of the library.
-use Rattle.std.specs.Prelude.{◌≡◌, ℕ, ◌==◌, ◌&&◌, nat_le, Bool, List, [], ◌∷◌, ◌++◌, length, map}
+use Rattle.std.specs.Prelude.{◌==◌, ◌&&◌, nat_le, Bool, List, [], ◌∷◌, ◌++◌, length, map}
 use Rattle.toml.specs.Data.{Data, Members}
-use Rattle.vet_base.specs.Script.{Script, Value, Test, ◌>>=◌, test}
+use Rattle.vet_base.specs.Script.{Script, Value, ◌>>=◌, test}
 use Rattle.app_model.specs.Names.{Name}
 use Rattle.app_model.specs.declared.lists.Lists.{Lists}
 use Rattle.office_forms.specs.declared.fault.Fault.{Fault}

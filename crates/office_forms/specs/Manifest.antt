@@ -1,6 +1,6 @@
 -- The manifest: the package, how many DEX files there are, and the components of the app.
 -- Android documentation, "App manifest overview": `<manifest>`, `<application>` and the elements of components.
-use Rattle.std.specs.Prelude.{◌≡◌, ℕ, false, codes, List, [], ◌∷◌, Option, Some, None, if◌then◌else◌}
+use Rattle.std.specs.Prelude.{false, codes, List, [], Option, Some, None, if◌then◌else◌}
 use Rattle.std.specs.Str.{bytes_eq}
 use Rattle.toml.specs.Data.{Data, Members}
 use Rattle.vet_base.specs.Script.{Script, Value, Test, ◌>>=◌, walk}

@@ -1,6 +1,6 @@
 -- Lists of positions, of pairs of positions, and of a position with a name. Positions count arguments, a wide one once, the
 -- receiver being 0.
-use Rattle.std.specs.Prelude.{◌≡◌, ℕ, pos, negsuc, ◌&&◌, ◌==◌, nat_lt, Bool, true, false, List, [], ◌∷◌, length, Option, Some, None, is_some, slice_get}
+use Rattle.std.specs.Prelude.{ℕ, pos, ◌&&◌, ◌==◌, nat_lt, Bool, false, List, [], length, Option, Some, None, is_some, slice_get}
 use Rattle.toml.specs.Data.{Data, string, integer, boolean, Members}
 use Rattle.vet_base.specs.Script.{Script, Value, Test, ◌>>=◌, test, walk}
 use Rattle.app_model.specs.Names.{Name, same_name}

@@ -1,7 +1,7 @@
 -- Of which types the items of an array have to be.
-use Rattle.std.specs.Prelude.{ℕ, ◌&&◌, Bool, true, false, List, Option, Some, None, slice_get}
+use Rattle.std.specs.Prelude.{◌&&◌, Bool, true, false, List, Option, Some, None, slice_get}
 use Rattle.std.specs.List.{list_all}
-use Rattle.toml.specs.Data.{Data, string, integer, array, table}
+use Rattle.toml.specs.Data.{Data, string, integer, table}
 use Rattle.office_forms.specs.declared.shape.Shape.{Shape}
 use Rattle.office_forms.specs.declared.shape.Shape.TheVariants as shape
 use Rattle.office_forms.specs.Tree.{items_in}

@@ -2,6 +2,7 @@
 ghost use Rattle.std.specs.Prelude.{◌≡◌, ◌≢◌, IfOk, IfErr, map};
 ghost use Rattle.office_forms.specs.Form.{IsForm, FirstFormFault};
 ghost use Rattle.office_forms.specs.Declaration.{declaration_form, uses_of, use_row};
+ghost use Rattle.office_forms.specs.Sound.{SoundDeclaration};
 ghost use Rattle.toml.specs.View.{table_view, view};
 ghost use Rattle.vet_base.specs.Script.{Gives};
 
@@ -16,9 +17,10 @@ use toml::{Table, Value};
 use vet_base::{Name, Seq, Stop};
 
 /// Reads a declaration: at most 4,096 tables `[[use]]`, each with the texts `source` and `sink`.
-#[tactic(auto, using(crate::proofs::Forms::is_form, crate::proofs::Forms::is_fault, crate::proofs::Forms::is_unread))]
+#[tactic(auto, using(crate::proofs::Forms::is_form, crate::proofs::Forms::is_fault, crate::proofs::Forms::is_unread, crate::proofs::FormsSound::sound_declaration))]
 pub fn read_declaration(alloc: Global, text: &[u8]) -> Result<Declaration, FormFault>
     ensures ok { IfOk result (λ d. IsForm declaration_form text.now d) }
+    ensures sound { IfOk result SoundDeclaration }
     ensures err { IfErr result (λ e. e ≢ FormFault.Memory → FirstFormFault declaration_form text.now e) }
 {
     let tree = match read_tree(alloc, text) {

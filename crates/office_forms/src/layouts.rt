@@ -2,6 +2,7 @@
 ghost use Rattle.std.specs.Prelude.{◌≡◌, ◌≢◌, IfOk, IfErr, map};
 ghost use Rattle.office_forms.specs.Form.{IsForm, FirstFormFault};
 ghost use Rattle.office_forms.specs.Layouts.{layouts_form, layouts_of, layout_row, seen_in};
+ghost use Rattle.office_forms.specs.Sound.{SoundLayouts};
 ghost use Rattle.toml.specs.View.{table_view, view};
 ghost use Rattle.vet_base.specs.Script.{Gives};
 
@@ -19,9 +20,10 @@ use vet_base::{Name, Seq, Stop};
 
 /// Reads layouts: at most 4,096 tables `[[layout]]`, each with a `name` that stands once, the
 /// list `clicks` of method names and the list `classes`, of at most 4,096 texts each.
-#[tactic(auto, using(crate::proofs::Forms::is_form, crate::proofs::Forms::is_fault, crate::proofs::Forms::is_unread))]
+#[tactic(auto, using(crate::proofs::Forms::is_form, crate::proofs::Forms::is_fault, crate::proofs::Forms::is_unread, crate::proofs::FormsSound::sound_layouts))]
 pub fn read_layouts(alloc: Global, text: &[u8]) -> Result<Layouts, FormFault>
     ensures ok { IfOk result (λ d. IsForm layouts_form text.now d) }
+    ensures sound { IfOk result SoundLayouts }
     ensures err { IfErr result (λ e. e ≢ FormFault.Memory → FirstFormFault layouts_form text.now e) }
 {
     let tree = match read_tree(alloc, text) {

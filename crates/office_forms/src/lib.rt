@@ -30,6 +30,3 @@ pub use lists::read_lists;
 pub use manifest::read_manifest;
 pub use told::FormFault;
 pub use words::{Key, Section};
-
-#[cfg(test)]
-mod tests;

@@ -2,6 +2,7 @@
 ghost use Rattle.std.specs.Prelude.{◌≡◌, ◌≢◌, IfOk, IfErr, map};
 ghost use Rattle.office_forms.specs.Form.{IsForm, FirstFormFault};
 ghost use Rattle.office_forms.specs.Manifest.{manifest_form, components_of, component_row, kind_at, kind_of, classes_once, components_once, component_once};
+ghost use Rattle.office_forms.specs.Sound.{SoundManifest};
 ghost use Rattle.toml.specs.View.{table_view, view};
 ghost use Rattle.vet_base.specs.Script.{Gives};
 
@@ -23,6 +24,7 @@ use vet_base::{Name, Seq, Stop};
 #[tactic(auto, using(crate::proofs::Forms::is_form, crate::proofs::Forms::is_fault, crate::proofs::Forms::is_unread))]
 pub fn read_manifest(alloc: Global, text: &[u8]) -> Result<Manifest, FormFault>
     ensures ok { IfOk result (λ d. IsForm manifest_form text.now d) }
+    ensures sound { IfOk result SoundManifest }
     ensures err { IfErr result (λ e. e ≢ FormFault.Memory → FirstFormFault manifest_form text.now e) }
 {
     let tree = match read_tree(alloc, text) {

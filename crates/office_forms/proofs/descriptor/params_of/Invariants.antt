@@ -1,4 +1,4 @@
-use Rattle.std.proofs.Common.{◌≤◌, ◌<◌, ◌+◌, length}
+use Rattle.std.proofs.Common.{◌<◌, length}
 use Rattle.vet_base.specs.Script.{run}
 use Rattle.vet_base.proofs.Scripts.{Sweeps}
 use Rattle.office_forms.specs.Descriptor.{has_param, param_at, params_of}

@@ -1,5 +1,5 @@
-use Rattle.std.proofs.Common.{arith, ◌≡◌, ◌++◌, ◌∷◌, [], Some, None, length, ap, sym, ◌∙◌, rules, option_copied}
-use Rattle.std.specs.BTreeMap.{get, Updates}
+use Rattle.std.proofs.Common.{arith, ◌≡◌, ◌++◌, ◌∷◌, [], None}
+use Rattle.std.specs.BTreeMap.{get}
 use Rattle.office_forms.proofs.Placing.{more_absent_at, more_present, is_there, is_not_there}
 use Rattle.office_forms.proofs.index.Index.with.Goals as goal
 use Rattle.office_forms.proofs.index.Index.with.Goals.{then-is_none+in_ok-insert, else-is_none}

@@ -1,0 +1,89 @@
+//! Reads forms and prints the answers: of files of texts, each behind the answer that is due, how
+//! many are answered so; and of the sample lists, what they say.
+#![tactic(auto)]
+
+mod answer;
+mod sample;
+
+use crate::answer::{Form, answer_of};
+use std::rt::Files;
+use std::{fs, io};
+
+/// Whether the text is answered as it is due; another answer is printed.
+fn is_answered(
+    rt: &(impl Print + AllocGlobal),
+    name: &str,
+    form: Form,
+    head: &str,
+    want: &str,
+    rest: &str,
+) -> io::Result<bool> {
+    let whole = format!(in rt.alloc(); "{head}\n{rest}")?;
+    let found = answer_of(rt.alloc(), form, whole.as_bytes())?;
+    let is_due = found.as_str() == want;
+    if !is_due {
+        println!(rt; "{name}: {found} in place of {want}")?;
+    }
+    Ok(is_due)
+}
+
+/// Reads each text of a file of cases, which stand each behind a line `## ANSWER`. The lines before the
+/// first of them stand before each text.
+fn answers<R: Files + Print + AllocGlobal>(rt: &R, name: &str, form: Form) -> io::Result<()> {
+    let text = fs::read_to_string(rt, name)?;
+    let mut cases = text.as_str().split("\n## ");
+    let head = cases.next().unwrap_or("");
+    let mut due = 0u64;
+    for case in cases {
+        let is_due = match case.split_once("\n") {
+            Some((want, rest)) => is_answered(rt, name, form, head, want, rest)?,
+            None => is_answered(rt, name, form, head, case, "")?,
+        };
+        if is_due {
+            due = due.saturating_add(1);
+        }
+    }
+    println!(rt; "{name}: {due} answers that are due")
+}
+
+/// Reads a form whose array has 4,096 tables, which is the most, and then 4,097.
+fn ends(rt: &(impl Print + AllocGlobal), head: &str, table: &str, form: Form) -> io::Result<()> {
+    for count in [4096, 4097] {
+        let mut text = String::new(rt.alloc());
+        text.push_str(head)?;
+        for _ in 0..count {
+            text.push_str(table)?;
+            text.push_str("\n")?;
+        }
+        let found = answer_of(rt.alloc(), form, text.as_bytes())?;
+        println!(rt; "{count} of {table}: {found}")?;
+    }
+    Ok(())
+}
+
+fn main(rt: HostRuntime) -> io::Result<()> {
+    answers(&rt, "declarations.txt", Form::Declaration)?;
+    answers(&rt, "layouts.txt", Form::Layouts)?;
+    answers(&rt, "manifests.txt", Form::Manifest)?;
+    for name in [
+        "lists.txt",
+        "classes.txt",
+        "methods.txt",
+        "signatures.txt",
+        "callbacks.txt",
+    ] {
+        answers(&rt, name, Form::Lists)?;
+    }
+    let not_text = answer_of(rt.alloc(), Form::Declaration, [0x23, 0xFF].as_slice())?;
+    println!(rt; "bytes that are no text: {not_text}")?;
+    ends(
+        &rt,
+        "package = \"a\"\ndex_files = 1\n",
+        "[[component]]",
+        Form::Manifest,
+    )?;
+    ends(&rt, "", "[[layout]]", Form::Layouts)?;
+    ends(&rt, "", "[[use]]", Form::Declaration)?;
+    sample::print_layouts(&rt, "layouts.toml")?;
+    sample::print_lists(&rt, "lists.toml")
+}
