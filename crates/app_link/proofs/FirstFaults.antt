@@ -1,0 +1,44 @@
+-- Which fault is the first, and that an app has none.
+use Rattle.std.proofs.Common.{◌≡◌, ◌≢◌, ◌⊎◌, inl, inr, ℕ, Ok, Err, List, length, sym, subst}
+use Rattle.vet_base.specs.declared.stop.Stop.{Stop}
+use Rattle.vet_base.specs.declared.stop.Stop.TheVariants as stops
+use Rattle.vet_base.specs.Script.{run, Fails}
+use Rattle.dex_reader.specs.declared.dex.Dex.{Dex}
+use Rattle.app_model.specs.declared.papers.Manifest.{Manifest}
+use Rattle.app_model.specs.declared.papers.Layouts.{Layouts}
+use Rattle.app_link.specs.declared.linking.LinkFault.{LinkFault}
+use Rattle.app_link.specs.declared.linking.LinkFault.TheVariants as told
+use Rattle.app_link.specs.declared.fault.Fault.{Fault}
+use Rattle.app_link.specs.Code.{Coding, all_codes}
+use Rattle.app_link.specs.FirstLinkFault.{FirstFault, of_gathering, of_hierarchy, of_code, of_limits, StopsAtFirst, FirstLinkFault, shown}
+use Rattle.app_link.specs.Gathered.{Gathered, gathering}
+use Rattle.app_link.specs.Hierarchy.{NoCircle}
+use Rattle.app_link.specs.Limits.{within_limits}
+use Rattle.app_link.specs.Settled.{StopsAtCircle}
+
+module _ (dexes : List Dex) (manifest : Manifest) where
+  pub at_gathering : (e : Stop Fault) → Fails e (run (gathering dexes manifest)) → StopsAtFirst dexes manifest e
+  at_gathering stops.Memory fails = tt
+  at_gathering (stops.Fault fault) fails = of_gathering fails
+
+  module _ (gathered : Gathered) (gathers : run (gathering dexes manifest) ≡ Ok gathered) where
+    pub at_hierarchy : (e : Stop Fault) → StopsAtCircle gathered.classes e → StopsAtFirst dexes manifest e
+    at_hierarchy stops.Memory stop = tt
+    at_hierarchy (stops.Fault fault) stop = subst (FirstFault dexes manifest) (sym stop.1) (of_hierarchy gathered gathers stop.2)
+
+    pub at_code : (e : Stop Fault) → NoCircle gathered.classes → Fails e (run (all_codes dexes gathered.methods)) → StopsAtFirst dexes manifest e
+    at_code stops.Memory none fails = tt
+    at_code (stops.Fault fault) none fails = of_code gathered gathers none fails
+
+    pub at_limits : (e : Stop Fault) (coding : Coding) (classes methods fields : ℕ) → NoCircle gathered.classes → run (all_codes dexes gathered.methods) ≡ Ok coding
+        → classes ≡ length gathered.classes → methods ≡ length gathered.methods → fields ≡ length gathered.fields → Fails e (run (within_limits classes methods fields coding.1)) → StopsAtFirst dexes manifest e
+    at_limits stops.Memory coding classes methods fields none codes one two three fails = tt
+    at_limits (stops.Fault fault) coding classes methods fields none codes one two three fails =
+        of_limits gathered coding gathers none codes
+        (subst (λ (n : ℕ). run (within_limits n (length gathered.methods) (length gathered.fields) coding.1) ≡ Err fault) one
+        (subst (λ (n : ℕ). run (within_limits classes n (length gathered.fields) coding.1) ≡ Err fault) two
+        (subst (λ (n : ℕ). run (within_limits classes methods n coding.1) ≡ Err fault) three fails)))
+
+pub told_first : (dexes : List Dex) (manifest : Manifest) (layouts : Layouts) (fault : Fault) (f : LinkFault) → FirstFault dexes manifest fault → (f ≡ told.Memory) ⊎ (f ≡ shown fault) → f ≢ told.Memory → FirstLinkFault dexes manifest layouts f
+told_first dexes manifest layouts fault f first (inl memory) other = absurd (other memory)
+told_first dexes manifest layouts fault f first (inr shows) other = record { found = fault; first = first; shows = shows }

@@ -1,0 +1,121 @@
+-- The app before its methods are put in is sound.
+use Rattle.std.proofs.Common.{◌≡◌, true, false, List, [], ◌∷◌, map, Option, Some, refl, sym, ◌∙◌, ap, subst, inl, inr}
+use Rattle.std.specs.Prelude.{IsTrue, is_some}
+use Rattle.std.specs.List.{AllByRecursion}
+use Rattle.std.specs.List.Sorted.{IsStrictlySortedBy}
+use Rattle.std.specs.Map.{lookup, keys_of}
+use Rattle.std.specs.BTreeMap.{is_at}
+use Rattle.std.specs.Ordering.{is_eq}
+use Rattle.std.specs.declared.cmp.Ordering.{Ordering}
+use Rattle.std.specs.declared.cmp.Ordering.TheVariants.{Less, Greater}
+use Rattle.std.proofs.lemmas.Map.Keys.{sorted_head, sorted_tail}
+use Rattle.std.proofs.lemmas.Map.Entries.{lookup_head, lookup_tail}
+use Rattle.std.proofs.lemmas.Cmp.{nat_list_cmp_total, tied_itself}
+use Rattle.app_model.specs.declared.app.App.{App}
+use Rattle.app_model.specs.declared.app.Class.{Class}
+use Rattle.app_model.specs.Members.{In}
+use Rattle.app_model.specs.Names.{Name}
+use Rattle.app_model.specs.Sound.{Ascends, name_order, class_order, IsAbove, directly, beyond}
+use Rattle.app_model.specs.Lookups.{directly_above}
+use Rattle.app_link.specs.Orders.{named, has_name}
+use Rattle.app_link.specs.Hierarchy.{Above, NoCircle, without_outer, renamed}
+use Rattle.app_link.specs.Hierarchy as hierarchy
+use Rattle.app_link.proofs.Lookups.{split, eq_names}
+
+-- names that stand in strict order
+ascend_by_name : (list : List Class) → IsStrictlySortedBy name_order (map (λ (c : Class). c.name) list) → Ascends class_order list
+unfolding IsStrictlySortedBy
+ascend_by_name [] sorted = tt
+ascend_by_name (x ∷ []) sorted = tt
+ascend_by_name (x ∷ y ∷ ys) sorted = (sorted.0.0, ascend_by_name (y ∷ ys) sorted.1)
+
+names_of : (list : List Class) (entries : List (Name × Class)) → map without_outer list ≡ map renamed entries → map (λ (c : Class). c.name) list ≡ keys_of entries
+names_of [] [] same = refl
+names_of [] (e ∷ es) same = absurd cc
+names_of (c ∷ cs) [] same = absurd cc
+names_of (c ∷ cs) (e ∷ es) same =
+    let first : without_outer c ≡ renamed e = cc in
+    let others : map without_outer cs ≡ map renamed es = cc in
+    let name : c.name ≡ e.0 = ap (λ (d : Class). d.name) first in
+    ap (λ (n : Name). n ∷ map (λ (c : Class). c.name) cs) name ∙ ap (λ (ns : List Name). e.0 ∷ ns) (names_of cs es others)
+
+pub classes_ascend : (list : List Class) (entries : List (Name × Class)) → map without_outer list ≡ map renamed entries → IsStrictlySortedBy name_order (keys_of entries) → Ascends class_order list
+classes_ascend list entries same sorted = ascend_by_name list (subst (λ (ns : List Name). IsStrictlySortedBy name_order ns) (sym (names_of list entries same)) sorted)
+
+-- what stands for a class among the entries
+record Entry (entries : List (Name × Class)) (c : Class) : Type 0 where
+  class : Class
+  there : In (c.name, class) entries
+  above : directly_above class ≡ directly_above c
+
+entry_of : (list : List Class) (entries : List (Name × Class)) (c : Class) → map without_outer list ≡ map renamed entries → In c list → Entry entries c
+entry_of [] entries c same k = absurd k
+entry_of (d ∷ ds) [] c same k = absurd cc
+entry_of (d ∷ ds) (e ∷ es) c same (inl k) =
+    let first : without_outer d ≡ renamed e = cc in
+    let name : c.name ≡ e.0 = ap (λ (d : Class). d.name) k ∙ ap (λ (d : Class). d.name) first in
+    let above : directly_above e.1 ≡ directly_above c = sym (ap directly_above k ∙ ap directly_above first) in
+    record { class = e.1; there = inl (ap (λ (n : Name). (n, e.1)) name); above = above }
+entry_of (d ∷ ds) (e ∷ es) c same (inr k) =
+    let others : map without_outer ds ≡ map renamed es = cc in
+    let found = entry_of ds es c others k in
+    record { class = found.class; there = inr found.there; above = found.above }
+
+in_keys : {X : Type 0} (entries : List (Name × X)) (name : Name) (x : X) → In (name, x) entries → In name (keys_of entries)
+in_keys [] name x k = absurd k
+in_keys (e ∷ es) name x (inl k) = inl (ap (λ (p : Name × _). p.0) k)
+in_keys (e ∷ es) name x (inr k) = inr (in_keys es name x k)
+
+all_in : (P : Name → Type 0) (names : List Name) (name : Name) → AllByRecursion P names → In name names → P name
+all_in P [] name all k = absurd k
+all_in P (n ∷ ns) name all (inl k) = subst P (sym k) all.0
+all_in P (n ∷ ns) name all (inr k) = all_in P ns name all.1 k
+
+not_equal : (o : Ordering) → o ≡ Greater → is_eq o ≡ false
+not_equal o e = rw e refl
+
+-- in an ordered list the entry of a name is what is found
+pub found_in : {X : Type 0} (entries : List (Name × X)) (name : Name) (x : X) → IsStrictlySortedBy name_order (keys_of entries) → In (name, x) entries → named entries name ≡ Some x
+unfolding named
+found_in [] name x sorted k = absurd k
+found_in {X = X} (e ∷ es) name x sorted (inl k) =
+    let same : name ≡ e.0 = ap (λ (p : Name × X). p.0) k in
+    let value : x ≡ e.1 = ap (λ (p : Name × X). p.1) k in
+    let tie : is_at (name_order name) e.0 ≡ true = ap (λ (n : Name). is_eq (name_order name n)) (sym same) ∙ ap is_eq (tied_itself nat_list_cmp_total name) in
+    lookup_head (is_at (name_order name)) e es tie ∙ ap (λ (y : X). Some y) (sym value)
+found_in (e ∷ es) name x sorted (inr k) =
+    let less : name_order e.0 name ≡ Less = all_in (λ y. name_order e.0 y ≡ Less) (keys_of es) name (sorted_head name_order e.0 (keys_of es) sorted) (in_keys es name x k) in
+    let greater : name_order name e.0 ≡ Greater = rw (nat_list_cmp_total.antisymm name e.0, less) refl in
+    let differs : is_at (name_order name) e.0 ≡ false = not_equal (name_order name e.0) greater in
+    lookup_tail (is_at (name_order name)) e es differs ∙ found_in es name x (sorted_tail name_order e.0 (keys_of es) sorted) k
+
+module _ (app : App) (entries : List (Name × Class)) (same : map without_outer app.classes ≡ map renamed entries) (sorted : IsStrictlySortedBy name_order (keys_of entries)) where
+  among_entries : (class above : Name) → IsAbove app class above → Above entries class above
+  among_entries class above (directly c k j) =
+      let e = entry_of app.classes entries c same k in
+      hierarchy.directly e.class (found_in entries c.name e.class sorted e.there) (subst (λ (ns : List Name). In above ns) (sym e.above) j)
+  among_entries class above (beyond p q) = hierarchy.beyond (among_entries _ _ p) (among_entries _ _ q)
+
+  pub no_circle : NoCircle entries → (class : Name) → IsAbove app class class → ⊥
+  no_circle none class p = none.none class (among_entries class class p)
+
+-- a name among the entries is that of a class
+named_there : (list : List Class) (entries : List (Name × Class)) (name : Name) → map without_outer list ≡ map renamed entries → IsTrue (is_some (lookup (is_at (name_order name)) entries)) → (k : Class) × In k list × (k.name ≡ name)
+named_there list [] name same h = absurd cc
+named_there [] (e ∷ es) name same h = absurd cc
+named_there (c ∷ cs) (e ∷ es) name same h = elim (split (is_at (name_order name) e.0)) [
+  | inl here ↦ (
+      let first : without_outer c ≡ renamed e = cc in
+      let k : name ≡ e.0 = eq_names name e.0 here in
+      let n : c.name ≡ e.0 = ap (λ (d : Class). d.name) first in
+      (c, inl refl, n ∙ sym k))
+  | inr other ↦ (
+      let others : map without_outer cs ≡ map renamed es = cc in
+      let tail : lookup (is_at (name_order name)) (e ∷ es) ≡ lookup (is_at (name_order name)) es = lookup_tail (is_at (name_order name)) e es other in
+      let found = named_there cs es name others (subst (λ (o : Option Class). IsTrue (is_some o)) tail h) in
+      (found.0, inr found.1, found.2))
+]
+
+pub class_of_entry : (list : List Class) (entries : List (Name × Class)) (name : Name) → map without_outer list ≡ map renamed entries → IsTrue (has_name entries name) → (k : Class) × In k list × (k.name ≡ name)
+unfolding named
+class_of_entry list entries name same h = named_there list entries name same h

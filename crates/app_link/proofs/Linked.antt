@@ -1,0 +1,62 @@
+-- An app that was put together from its parts is the app of the files.
+use Rattle.std.proofs.Common.{◌≡◌, ℕ, Ok, List, [], map, length, sym, ◌∙◌, ap, subst}
+use Rattle.vet_base.specs.Script.{run}
+use Rattle.dex_reader.specs.declared.dex.Dex.{Dex}
+use Rattle.app_model.specs.declared.app.App.{App}
+use Rattle.app_model.specs.declared.app.Class.{Class}
+use Rattle.app_model.specs.declared.method.Method.{Method}
+use Rattle.app_model.specs.declared.papers.Manifest.{Manifest}
+use Rattle.app_model.specs.declared.papers.Layouts.{Layouts}
+use Rattle.app_model.specs.Names.{Name}
+use Rattle.app_link.specs.Code.{Coding, all_codes}
+use Rattle.app_link.specs.Components.{providers_of}
+use Rattle.app_link.specs.Frame.{IsFrame, before_code}
+use Rattle.app_link.specs.Gathered.{Gathered, gathering}
+use Rattle.app_link.specs.Hierarchy.{HasOuters, without_outer, renamed}
+use Rattle.app_link.specs.IsApp.{IsApp}
+use Rattle.app_link.specs.Limits.{within_limits}
+use Rattle.app_link.specs.Methods.{all_methods}
+use Rattle.app_link.specs.StaticList.{all_statics}
+
+within : (dexes : List Dex) (gathered : Gathered) (coding : Coding) (classes methods fields : ℕ) → classes ≡ length gathered.classes → methods ≡ length gathered.methods → fields ≡ length gathered.fields
+    → run (within_limits classes methods fields coding.1) ≡ Ok tt → run (within_limits (length gathered.classes) (length gathered.methods) (length gathered.fields) coding.1) ≡ Ok tt
+within dexes gathered coding classes methods fields one two three e =
+    subst (λ (n : ℕ). run (within_limits n (length gathered.methods) (length gathered.fields) coding.1) ≡ Ok tt) one
+    (subst (λ (n : ℕ). run (within_limits classes n (length gathered.fields) coding.1) ≡ Ok tt) two
+    (subst (λ (n : ℕ). run (within_limits classes methods n coding.1) ≡ Ok tt) three e))
+
+module _ (dexes : List Dex) (manifest : Manifest) (layouts : Layouts) (gathered : Gathered) (coding : Coding) (frame app : App)
+    (is : IsFrame gathered.classes gathered.fields frame) (others : app ≡ record frame { statics = app.statics; methods = app.methods }) where
+  -- the app before its statics and methods were put in
+  before : before_code app ≡ frame
+  before =
+      let none : before_code app ≡ record frame { statics = []; methods = [] } = ap before_code others in
+      let one : record frame { statics = []; methods = [] } ≡ record frame { methods = [] } = ap (λ (ss : List (Name × Name × Name)). record frame { statics = ss; methods = [] }) (sym is.statics) in
+      let two : record frame { methods = [] } ≡ frame = ap (λ (ms : List Method). record frame { methods = ms }) (sym is.methods) in
+      none ∙ (one ∙ two)
+
+  same_classes : app.classes ≡ frame.classes
+  same_classes = ap (λ (a : App). a.classes) others
+
+  pub is_app : (classes methods fields : ℕ) → classes ≡ length gathered.classes → methods ≡ length gathered.methods → fields ≡ length gathered.fields
+      → run (gathering dexes manifest) ≡ Ok gathered → run (all_codes dexes gathered.methods) ≡ Ok coding → run (within_limits classes methods fields coding.1) ≡ Ok tt
+      → frame.components ≡ gathered.components → frame.clicks ≡ layouts.clicks → frame.providers ≡ providers_of manifest → frame.layout_classes ≡ layouts.classes
+      → app.statics ≡ all_statics frame gathered.fields dexes coding.0 → app.methods ≡ all_methods frame gathered.fields app.statics dexes coding.0
+      → IsApp dexes manifest layouts app
+  is_app classes methods fields one two three gathers codes limits components clicks providers layout_classes statics lifted = record {
+    gathered = gathered;
+    gathers = gathers;
+    no_circle = is.no_circle;
+    coding = coding;
+    codes = codes;
+    limits = within dexes gathered coding classes methods fields one two three limits;
+    classes = subst (λ (cs : List Class). map without_outer cs ≡ map renamed gathered.classes) (sym same_classes) is.classes;
+    outers = subst HasOuters (sym same_classes) is.outers;
+    keys = ap (λ (a : App). a.keys) others ∙ is.keys;
+    components = ap (λ (a : App). a.components) others ∙ components;
+    clicks = ap (λ (a : App). a.clicks) others ∙ clicks;
+    providers = ap (λ (a : App). a.providers) others ∙ providers;
+    layout_classes = ap (λ (a : App). a.layout_classes) others ∙ layout_classes;
+    statics = statics ∙ ap (λ (a : App). all_statics a gathered.fields dexes coding.0) (sym before);
+    methods = lifted ∙ ap (λ (a : App). all_methods a gathered.fields app.statics dexes coding.0) (sym before);
+  }

@@ -1,0 +1,64 @@
+-- The place of three names in an ascending list of such.
+use Rattle.std.proofs.Common.{◌≡◌, ℕ, ◌<◌, ◌≤◌, Bool, true, false, List, length, get_or, Option, Ok, Err, refl, sym, ap, ◌∙◌}
+use Rattle.std.specs.Prelude.{◌&&◌, unwrap_or}
+use Rattle.std.specs.List.Sorted.{IsBinarySearchResult}
+use Rattle.std.specs.Cmp.{IsTotalOrder}
+use Rattle.std.specs.Ordering.{ordering_then}
+use Rattle.std.specs.declared.cmp.Ordering.{Ordering}
+use Rattle.std.specs.declared.cmp.Ordering.TheVariants.{Less, Equal, Greater}
+use Rattle.std.proofs.lemmas.Cmp.{nat_list_cmp_total, then_total, on_total}
+use Rattle.app_model.specs.Names.{same_name}
+use Rattle.app_model.specs.Sound.{Ascends, name_order}
+use Rattle.app_model.proofs.Halving.{found_at, found_nowhere}
+use Rattle.app_model.proofs.NameOrder.{same_tie, tied_same}
+use Rattle.app_link.specs.Texts.{Triple}
+use Rattle.app_link.specs.Orders.{triple_order}
+use Rattle.app_link.specs.Statics.{same_triple, number_among}
+use Rattle.app_link.proofs.Throughs.{placed}
+
+pub triple_total : IsTotalOrder triple_order
+triple_total = then_total (then_total (on_total (λ (t : Triple). t.0) nat_list_cmp_total) (on_total (λ (t : Triple). t.1) nat_list_cmp_total)) (on_total (λ (t : Triple). t.2) nat_list_cmp_total)
+
+both : (a b : Bool) → (a && b) ≡ true → (a ≡ true) × (b ≡ true)
+both true b h = (refl, h)
+both false b h = absurd cc
+
+joined_true : (a b : Bool) → a ≡ true → b ≡ true → (a && b) ≡ true
+joined_true a b h k = rw (h, k) refl
+
+then_equal : (o p : Ordering) → o ≡ Equal → p ≡ Equal → ordering_then o p ≡ Equal
+then_equal o p h k = rw (h, k) refl
+
+equal_both : (o p : Ordering) → ordering_then o p ≡ Equal → (o ≡ Equal) × (p ≡ Equal)
+equal_both Less p h = absurd cc
+equal_both Equal p h = (refl, h)
+equal_both Greater p h = absurd cc
+
+pub same_triples_tie : (a b : Triple) → same_triple a b ≡ true → triple_order a b ≡ Equal
+same_triples_tie a b same =
+    let outer = both (same_name a.0 b.0 && same_name a.1 b.1) (same_name a.2 b.2) same in
+    let inner = both (same_name a.0 b.0) (same_name a.1 b.1) outer.0 in
+    then_equal (ordering_then (name_order a.0 b.0) (name_order a.1 b.1)) (name_order a.2 b.2) (then_equal (name_order a.0 b.0) (name_order a.1 b.1) (same_tie a.0 b.0 inner.0) (same_tie a.1 b.1 inner.1)) (same_tie a.2 b.2 outer.1)
+
+pub tied_triples_same : (a b : Triple) → triple_order a b ≡ Equal → same_triple a b ≡ true
+tied_triples_same a b tie =
+    let outer = equal_both (ordering_then (name_order a.0 b.0) (name_order a.1 b.1)) (name_order a.2 b.2) tie in
+    let inner = equal_both (name_order a.0 b.0) (name_order a.1 b.1) outer.0 in
+    joined_true (same_name a.0 b.0 && same_name a.1 b.1) (same_name a.2 b.2) (joined_true (same_name a.0 b.0) (same_name a.1 b.1) (tied_same a.0 b.0 inner.0) (tied_same a.1 b.1 inner.1)) (tied_same a.2 b.2 outer.1)
+
+module _ (statics : List Triple) (sorted : Ascends triple_order statics) (at : Triple) where
+  pub place_there : (i : ℕ) → i < length statics → IsBinarySearchResult (λ y. triple_order y at) statics (Ok i) → i ≡ number_among statics at
+  unfolding number_among
+  place_there i within position =
+      let x : Triple = get_or statics i at in
+      let is : x ≡ get_or statics i x = placed statics i at within in
+      let ties : triple_order (get_or statics i x) at ≡ Equal = position x in
+      let passes : same_triple x at ≡ true = ap (λ (s : Triple). same_triple s at) is ∙ tied_triples_same (get_or statics i x) at ties in
+      let first = found_at (λ (t : Triple). t) triple_total statics sorted at (λ s. same_triple s at) (λ s same. same_triples_tie s at same) i x within is ties passes in
+      sym (ap (λ (o : Option ℕ). unwrap_or o 0) first.0)
+
+  pub place_missing : (i : ℕ) → i ≤ length statics → IsBinarySearchResult (λ y. triple_order y at) statics (Err i) → 0 ≡ number_among statics at
+  unfolding number_among
+  place_missing i within parted =
+      let none = found_nowhere (λ (t : Triple). t) triple_total statics sorted at (λ s. same_triple s at) (λ s same. same_triples_tie s at same) i within parted in
+      sym (ap (λ (o : Option ℕ). unwrap_or o 0) none.0)

@@ -1,0 +1,5 @@
+use Rattle.app_link.proofs.Steps.{Lifts}
+use Rattle.app_link.proofs.lift.steps_at.Given as goal
+
+abbrev pub invariant-loop-i : goal.invariant-loop-i
+invariant-loop-i l = Lifts l.app l.fields.entries l.statics l.dex l.tries l.lines l.i l.steps.items

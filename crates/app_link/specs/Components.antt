@@ -1,0 +1,54 @@
+-- The components of the manifest: the application first, where there is one, and then activities, services and receivers.
+use Rattle.std.specs.Prelude.{ℕ, List, [], ◌∷◌, ◌++◌, Option, Some, None, filter_map}
+use Rattle.vet_base.specs.Script.{Script, Value, ◌>>=◌, test}
+use Rattle.app_model.specs.declared.app.Class.{Class}
+use Rattle.app_model.specs.declared.component.Kind.{Kind}
+use Rattle.app_model.specs.declared.component.Kind.TheVariants as kinds
+use Rattle.app_model.specs.declared.component.Component.{Component}
+use Rattle.app_model.specs.declared.papers.Word.{Word}
+use Rattle.app_model.specs.declared.papers.Word.TheVariants as words
+use Rattle.app_model.specs.declared.papers.Manifest.{Manifest}
+use Rattle.app_model.specs.Names.{Name}
+use Rattle.app_link.specs.declared.fault.Fault.{Fault}
+use Rattle.app_link.specs.declared.fault.Fault.TheVariants.{NoClass}
+use Rattle.app_link.specs.Orders.{has_name}
+use Rattle.app_link.specs.Through.{through}
+
+abbrev pub kind_of : Word → Option Kind
+kind_of words.Activity = Some kinds.Activity
+kind_of words.Service = Some kinds.Service
+kind_of words.Receiver = Some kinds.Receiver
+kind_of words.Provider = None
+
+-- one more component, whose class is one of the app
+unfoldable pub one_component : List (Name × Class) → Kind → Name → List Component → Script Fault (List Component)
+one_component classes kind name components = do
+  _ ← test (has_name classes name) (NoClass name)
+  Value (components ++ record { kind = kind; class = name } ∷ [])
+
+unfoldable pub component_row : List (Name × Class) → ℕ → Word × Name → List Component → Script Fault (List Component)
+component_row classes i row components = elim (kind_of row.0) [ None ↦ Value components | Some kind ↦ one_component classes kind row.1 components ]
+
+unfoldable pub component_rows : List (Name × Class) → List (Word × Name) → List Component → Script Fault (List Component)
+component_rows classes rows components = through (component_row classes) 0 rows components
+
+unfoldable pub application_row : List (Name × Class) → Option Name → Script Fault (List Component)
+application_row classes None = Value []
+application_row classes (Some name) = one_component classes kinds.Application name []
+
+unfoldable pub all_components : List (Name × Class) → Manifest → Script Fault (List Component)
+all_components classes manifest = do
+  first ← application_row classes manifest.application
+  component_rows classes manifest.components first
+
+abbrev pub named_provider : Word → Name → Option Name
+named_provider words.Provider name = Some name
+named_provider words.Activity name = None
+named_provider words.Service name = None
+named_provider words.Receiver name = None
+
+unfoldable pub provider_of : Word × Name → Option Name
+provider_of row = named_provider row.0 row.1
+
+unfoldable pub providers_of : Manifest → List Name
+providers_of manifest = filter_map provider_of manifest.components

@@ -1,0 +1,37 @@
+-- The app of DEX files, a manifest and layouts.
+use Rattle.std.specs.Prelude.{◌≡◌, List, map, length, Ok}
+use Rattle.vet_base.specs.Script.{run}
+use Rattle.dex_reader.specs.declared.dex.Dex.{Dex}
+use Rattle.app_model.specs.declared.app.App.{App}
+use Rattle.app_model.specs.declared.papers.Manifest.{Manifest}
+use Rattle.app_model.specs.declared.papers.Layouts.{Layouts}
+use Rattle.app_link.specs.Code.{Coding, all_codes}
+use Rattle.app_link.specs.Components.{providers_of}
+use Rattle.app_link.specs.Frame.{before_code}
+use Rattle.app_link.specs.Gathered.{Gathered, gathering}
+use Rattle.app_link.specs.Hierarchy.{NoCircle, HasOuters, without_outer, renamed}
+use Rattle.app_link.specs.Keys.{all_keys}
+use Rattle.app_link.specs.Limits.{within_limits}
+use Rattle.app_link.specs.Methods.{all_methods}
+use Rattle.app_link.specs.StaticList.{all_statics}
+
+pub record IsApp (dexes : List Dex) (manifest : Manifest) (layouts : Layouts) (app : App) : Type 0 where
+  -- classes, members and components stand in the files, each once, and each component has a class
+  pub gathered : Gathered
+  pub gathers : run (gathering dexes manifest) ≡ Ok gathered
+  -- no class is above itself
+  pub no_circle : NoCircle gathered.classes
+  -- all code is decoded and tested, and there is not too much of anything
+  pub coding : Coding
+  pub codes : run (all_codes dexes gathered.methods) ≡ Ok coding
+  pub limits : run (within_limits (length gathered.classes) (length gathered.methods) (length gathered.fields) coding.1) ≡ Ok tt
+  -- the classes stand by name, and each lists the library classes above it
+  pub classes : map without_outer app.classes ≡ map renamed gathered.classes
+  pub outers : HasOuters app.classes
+  pub keys : app.keys ≡ all_keys gathered.fields
+  pub components : app.components ≡ gathered.components
+  pub clicks : app.clicks ≡ layouts.clicks
+  pub providers : app.providers ≡ providers_of manifest
+  pub layout_classes : app.layout_classes ≡ layouts.classes
+  pub statics : app.statics ≡ all_statics (before_code app) gathered.fields dexes coding.0
+  pub methods : app.methods ≡ all_methods (before_code app) gathered.fields app.statics dexes coding.0

@@ -1,0 +1,12 @@
+-- Files that are an app have no fault.
+use Rattle.std.specs.Prelude.{List}
+use Rattle.dex_reader.specs.declared.dex.Dex.{Dex}
+use Rattle.app_model.specs.declared.app.App.{App}
+use Rattle.app_model.specs.declared.papers.Manifest.{Manifest}
+use Rattle.app_model.specs.declared.papers.Layouts.{Layouts}
+use Rattle.app_link.specs.declared.linking.LinkFault.{LinkFault}
+use Rattle.app_link.specs.FirstLinkFault.{FirstLinkFault}
+use Rattle.app_link.specs.IsApp.{IsApp}
+
+pub record OneAnswer (dexes : List Dex) (manifest : Manifest) (layouts : Layouts) : Type 0 where
+  pub not_both : (app : App) (fault : LinkFault) → IsApp dexes manifest layouts app → FirstLinkFault dexes manifest layouts fault → ⊥

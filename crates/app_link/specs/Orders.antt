@@ -1,0 +1,32 @@
+-- Ordered lists of entries, by a name or by three names.
+use Rattle.std.specs.Prelude.{Bool, List, Option, is_some}
+use Rattle.std.specs.declared.cmp.Ordering.{Ordering}
+use Rattle.std.specs.Ordering.{ordering_then}
+use Rattle.std.specs.BTreeMap.{insert_entry, is_at}
+use Rattle.std.specs.Map.{lookup}
+use Rattle.app_model.specs.Names.{Name}
+use Rattle.app_model.specs.Sound.{name_order}
+use Rattle.app_link.specs.Texts.{Triple}
+
+-- by the first name, then by the second, then by the third
+abbrev pub triple_order : Triple → Triple → Ordering
+triple_order a b = ordering_then (ordering_then (name_order a.0 b.0) (name_order a.1 b.1)) (name_order a.2 b.2)
+
+-- the value of the entry of the name
+unfoldable pub named : {X : Type 0} → List (Name × X) → Name → Option X
+named entries name = lookup (is_at (name_order name)) entries
+
+abbrev pub has_name : {X : Type 0} → List (Name × X) → Name → Bool
+has_name entries name = is_some (named entries name)
+
+unfoldable pub with_name : {X : Type 0} → List (Name × X) → Name → X → List (Name × X)
+with_name entries name x = insert_entry name_order entries name x
+
+unfoldable pub named_triple : {X : Type 0} → List (Triple × X) → Triple → Option X
+named_triple entries triple = lookup (is_at (triple_order triple)) entries
+
+abbrev pub has_triple : {X : Type 0} → List (Triple × X) → Triple → Bool
+has_triple entries triple = is_some (named_triple entries triple)
+
+unfoldable pub with_triple : {X : Type 0} → List (Triple × X) → Triple → X → List (Triple × X)
+with_triple entries triple x = insert_entry triple_order entries triple x

@@ -1,0 +1,244 @@
+//! The classes and interfaces above each class: none is above itself, and the library classes above are listed.
+
+ghost use Rattle.std.specs.Prelude.{◌≡◌, ◌≤◌, ◌<◌, ◌++◌, ◌∷◌, [], IfOk, IfErr, Some, length, cond};
+ghost use Rattle.std.specs.Map.{keys_of};
+ghost use Rattle.std.specs.BTreeMap.{is_at};
+ghost use Rattle.app_model.specs.Sound.{name_order};
+ghost use Rattle.app_model.specs.Names.{Name};
+ghost use Rattle.app_link.specs.Hierarchy.{IsLeastCircle};
+ghost use Rattle.app_link.specs.Orders.{has_name, named};
+ghost use Rattle.app_link.specs.Settled.{AllSettled, AreStuck, Covers, Settled, StopsAtCircle, Turn, all_settled, is_ready, is_settled, one_settled};
+
+use crate::circle::least_circle;
+use crate::classes::{Classes, class_named, holds_name};
+use crate::fault::{Fault, Halt};
+use crate::outer::{Outers, outer_at};
+use app_model::Class;
+use std::alloc::Global;
+use std::collections::{BTreeMap, BTreeSet};
+use vet_base::{Memory, Name, Seq, Stop};
+
+/// The class or interface of that number directly above: the superclass first.
+fn above_at(class: &Class, k: usize) -> Option<&Name> {
+    match &class.superclass {
+        Some(superclass) if k == 0 => Some(superclass),
+        Some(_) => class.interfaces.get(k - 1),
+        None => class.interfaces.get(k),
+    }
+}
+
+/// Puts the names of a class and of the app classes above it behind the others, each behind those above it.
+fn add_in_order(
+    alloc: Global,
+    classes: &Classes,
+    root: &Name,
+    seen: &mut BTreeSet<Name>,
+    order: &mut Vec<Name>,
+) -> Result<(), Memory> {
+    let mut open: Vec<(Name, usize)> = Vec::new(alloc);
+    if seen.insert(root.copy(alloc)?)? {
+        open.push((root.copy(alloc)?, 0))?;
+    }
+    for _ in 0..u64::MAX {
+        let Some((name, k)) = open.pop() else {
+            break;
+        };
+        if let Some(class) = classes.get(&name) {
+            match above_at(class, k) {
+                Some(above) => {
+                    let above = above.copy(alloc)?;
+                    open.push((name, k.saturating_add(1)))?;
+                    if holds_name(classes, &above) && seen.insert(above.copy(alloc)?)? {
+                        open.push((above, 0))?;
+                    }
+                }
+                None => order.push(name)?,
+            }
+        }
+    }
+    Ok(())
+}
+
+/// The names of the classes, each behind those above it where none is above itself. No proof rests on this order: in another
+/// one it would only take longer to settle the classes.
+fn order_of(alloc: Global, classes: &Classes) -> Result<Vec<Name>, Memory> {
+    let mut seen = BTreeSet::new(alloc);
+    let mut order = Vec::new(alloc);
+    for name in classes.keys() {
+        add_in_order(alloc, classes, name, &mut seen, &mut order)?;
+    }
+    Ok(order)
+}
+
+#[tactic(auto, unfolding(crate::specs::Orders::named))]
+fn holds_outer(outers: &Outers, name: &Name) -> bool
+    ensures { result ≡ has_name outers.now.entries name.now }
+{
+    outers.contains_key(name)
+}
+
+#[tactic(auto, unfolding(crate::specs::Settled::is_settled))]
+fn settled(classes: &Classes, outers: &Outers, above: &Name) -> bool
+    ensures { result ≡ is_settled classes.now.entries outers.now.entries above.now }
+{
+    !holds_name(classes, above) || holds_outer(outers, above)
+}
+
+fn are_settled(classes: &Classes, outers: &Outers, names: &[Name]) -> bool
+    ensures { result ≡ all_settled classes.now.entries outers.now.entries names.now }
+{
+    names.iter().all(|name| settled(classes, outers, name))
+}
+
+fn settled_if_any(classes: &Classes, outers: &Outers, name: &Option<Name>) -> bool
+    ensures { result ≡ one_settled classes.now.entries outers.now.entries name.now }
+{
+    match name {
+        Some(name) => settled(classes, outers, name),
+        None => true,
+    }
+}
+
+#[tactic(auto, unfolding(crate::specs::Settled::is_ready))]
+fn may_settle(classes: &Classes, outers: &Outers, class: &Class) -> bool
+    ensures { result ≡ is_ready classes.now.entries outers.now.entries class.now }
+{
+    settled_if_any(classes, outers, &class.superclass)
+        && are_settled(classes, outers, class.interfaces.as_slice())
+}
+
+#[tactic(auto, unfolding(crate::specs::Orders::named))]
+fn put_outer(mut outers: Outers, name: Name, outer: Seq<Name>) -> Result<Outers, Memory>
+    ensures { IfOk result (λ m. (q : Name) → named m.entries q ≡ cond (is_at (name_order name) q) (Some outer) (named outers.entries q)) }
+{
+    outers.insert(name, outer)?;
+    Ok(outers)
+}
+
+/// Settles the class, where all that stands directly above it is settled. Whether it has to wait for that is told beside.
+#[tactic(auto, using(crate::proofs::Settling::settled_before, crate::proofs::Settling::no_class, crate::proofs::Settling::waits, crate::proofs::Settling::settles))]
+fn settle(
+    alloc: Global,
+    classes: &Classes,
+    outers: Outers,
+    name: &Name,
+) -> Result<(Outers, bool), Memory>
+    requires { Settled classes.now.entries outers.entries }
+    ensures { IfOk result (λ t. Turn classes.now.entries outers.entries t.0.entries name.now t.1) }
+{
+    if holds_outer(&outers, name) {
+        return Ok((outers, false));
+    }
+    let Some(class) = class_named(classes, name) else {
+        return Ok((outers, false));
+    };
+    if !may_settle(classes, &outers, class) {
+        return Ok((outers, true));
+    }
+    let outer = outer_at(alloc, classes, &outers, class)?;
+    let outers = put_outer(outers, name.copy(alloc)?, outer)?;
+    Ok((outers, false))
+}
+
+/// Settles as many of the classes as the order allows.
+#[tactic(auto, using(crate::proofs::Settling::none_settled))]
+fn settle_along(alloc: Global, classes: &Classes, order: &[Name]) -> Result<Outers, Memory>
+    ensures { IfOk result (λ m. Settled classes.now.entries m.entries) }
+{
+    let mut outers = BTreeMap::new(alloc);
+    for name in order {
+        let (more, _) = settle(alloc, classes, outers, name)?;
+        outers = more;
+    }
+    Ok(outers)
+}
+
+/// The names that are left, with this one where it waits.
+fn left_with(
+    alloc: Global,
+    mut left: Vec<Name>,
+    name: &Name,
+    waits: bool,
+) -> Result<Vec<Name>, Memory>
+    ensures { IfOk result (λ v. v.items ≡ cond waits (left.items ++ name.now ∷ []) left.items) }
+{
+    if waits {
+        left.push(name.copy(alloc)?)?;
+    }
+    Ok(left)
+}
+
+/// Settles what can be settled of these classes, one after the other, and gives those that are left.
+#[tactic(auto, using(crate::proofs::Rounds::round_begins, crate::proofs::Rounds::covers_left, crate::proofs::Rounds::fewer_left, crate::proofs::Rounds::left_stuck))]
+fn settle_round(
+    alloc: Global,
+    classes: &Classes,
+    mut outers: Outers,
+    names: &[Name],
+) -> Result<(Outers, Vec<Name>), Memory>
+    requires settled { Settled classes.now.entries outers.entries }
+    requires covers { Covers classes.now.entries outers.entries names.now }
+    ensures settled { IfOk result (λ r. Settled classes.now.entries r.0.entries) }
+    ensures covers { IfOk result (λ r. Covers classes.now.entries r.0.entries r.1.items) }
+    ensures fewer { IfOk result (λ r. length r.1.items ≤ length names.now) }
+    ensures stuck { IfOk result (λ r. length r.1.items ≡ length names.now → AreStuck classes.now.entries r.0.entries r.1.items) }
+{
+    let mut left = Vec::new(alloc);
+    for name in names {
+        let (more, waits) = settle(alloc, classes, outers, name)?;
+        outers = more;
+        left = left_with(alloc, left, name, waits)?;
+    }
+    Ok((outers, left))
+}
+
+/// The least class that is above itself. Where classes wait for one another one is.
+#[tactic(auto, using(crate::proofs::Stuck::least_of_all, crate::proofs::Stuck::one_is))]
+fn circle_among(
+    alloc: Global,
+    classes: &Classes,
+    outers: &Outers,
+    left: &[Name],
+) -> Result<Name, Memory>
+    requires settled { Settled classes.now.entries outers.now.entries }
+    requires covers { Covers classes.now.entries outers.now.entries left.now }
+    requires stuck { AreStuck classes.now.entries outers.now.entries left.now }
+    requires some { 0 < length left.now }
+    ensures { IfOk result (λ c. IsLeastCircle classes.now.entries c) }
+{
+    match least_circle(alloc, classes, left)? {
+        Some(class) => Ok(class),
+        None => unreachable!(),
+    }
+}
+
+fn names_of(alloc: Global, classes: &Classes) -> Result<Vec<Name>, Memory>
+    ensures { IfOk result (λ v. v.items ≡ keys_of classes.now.entries) }
+{
+    let mut names = Vec::new(alloc);
+    for name in classes.keys() {
+        names.push(name.copy(alloc)?)?;
+    }
+    Ok(names)
+}
+
+/// The library classes above each class, or the least class that is above itself.
+#[tactic(auto, using(crate::proofs::Rounds::all_left, crate::proofs::Rounds::none_left))]
+pub fn outers_of(alloc: Global, classes: &Classes) -> Result<Outers, Halt>
+    ensures ok { IfOk result (λ m. AllSettled classes.now.entries m.entries) }
+    ensures fault { IfErr result (λ h. StopsAtCircle classes.now.entries h) }
+{
+    let order = order_of(alloc, classes)?;
+    let mut outers = settle_along(alloc, classes, &order)?;
+    let mut left = names_of(alloc, classes)?;
+    'rounds: while !left.is_empty() {
+        let (more, rest) = settle_round(alloc, classes, outers, &left)?;
+        if rest.len() == left.len() {
+            let class = circle_among(alloc, classes, &more, &rest)?;
+            return Err(Stop::Fault(Fault::Circle(class)));
+        }
+        outers = more;
+        left = rest;
+    }
+    Ok(outers)
+}

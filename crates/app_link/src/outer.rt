@@ -1,0 +1,167 @@
+//! The library classes above each class.
+
+ghost use Rattle.std.specs.Prelude.{◌≡◌, true, not, IfOk, OnOk, map, flat_map, fold, cond};
+ghost use Rattle.std.specs.BTreeMap.{is_at};
+ghost use Rattle.app_model.specs.Sound.{name_order};
+ghost use Rattle.app_model.specs.Names.{Name};
+ghost use Rattle.app_link.specs.Hierarchy.{SameNames, add_once, is_among};
+ghost use Rattle.app_link.specs.Orders.{named};
+ghost use Rattle.app_link.specs.Settled.{filled_by, given_to, gives, listed};
+
+use crate::classes::{Classes, holds_name};
+use crate::coded::names_copied;
+use app_model::Class;
+use std::alloc::Global;
+use std::collections::{BTreeMap, BTreeSet};
+use vet_base::{Memory, Name, Seq};
+
+/// Classes with the library classes above them.
+pub type Outers = BTreeMap<Name, Seq<Name>>;
+
+/// Puts the name among those seen, and tells whether it is new.
+fn put_once(seen: &mut BTreeSet<Name>, name: Name) -> Result<bool, Memory>
+    ensures added { IfOk result (λ b. b ≡ not (is_among seen.old.keys name)) }
+    ensures seen { OnOk result ((q : Name) → is_among seen.new.keys q ≡ cond (is_at (name_order name) q) true (is_among seen.old.keys q)) }
+{
+    Ok(seen.insert(name)?)
+}
+
+/// One more name, where it is new.
+#[tactic(auto, using(crate::proofs::Firsts::adds_new, crate::proofs::Firsts::adds_none, crate::proofs::Firsts::same_with, crate::proofs::Firsts::same_without))]
+fn add_new(
+    alloc: Global,
+    name: &Name,
+    seen: &mut BTreeSet<Name>,
+    outer: &mut Vec<Name>,
+) -> Result<(), Memory>
+    requires { SameNames seen.old.keys outer.old.items }
+    ensures names { OnOk result (outer.new.items ≡ add_once outer.old.items name.now) }
+    ensures same { OnOk result (SameNames seen.new.keys outer.new.items) }
+{
+    if !put_once(seen, name.copy(alloc)?)? {
+        return Ok(());
+    }
+    outer.push(name.copy(alloc)?)?;
+    Ok(())
+}
+
+#[tactic(auto, using(crate::proofs::FoldsOn::onto_begins, crate::proofs::FoldsOn::onto_goes_on, crate::proofs::FoldsOn::onto_is_done))]
+fn add_all(
+    alloc: Global,
+    names: &[Name],
+    seen: &mut BTreeSet<Name>,
+    outer: &mut Vec<Name>,
+) -> Result<(), Memory>
+    requires { SameNames seen.old.keys outer.old.items }
+    ensures names { OnOk result (outer.new.items ≡ fold add_once outer.old.items names.now) }
+    ensures same { OnOk result (SameNames seen.new.keys outer.new.items) }
+{
+    for name in names {
+        add_new(alloc, name, seen, outer)?;
+    }
+    Ok(())
+}
+
+#[tactic(auto, unfolding(crate::specs::Orders::named))]
+fn outer_named<'a>(outers: &'a Outers, name: &Name) -> &'a [Name]
+    ensures { result.now ≡ listed (named outers.now.entries name.now) }
+{
+    match outers.get(name) {
+        Some(outer) => outer.as_slice(),
+        None => &[],
+    }
+}
+
+/// What a class or interface gives to those below it: itself where it is none of the app, else its own library classes.
+#[tactic(auto, unfolding(crate::specs::Settled::gives))]
+fn add_given(
+    alloc: Global,
+    classes: &Classes,
+    outers: &Outers,
+    above: &Name,
+    seen: &mut BTreeSet<Name>,
+    outer: &mut Vec<Name>,
+) -> Result<(), Memory>
+    requires { SameNames seen.old.keys outer.old.items }
+    ensures names { OnOk result (outer.new.items ≡ fold add_once outer.old.items (gives classes.now.entries outers.now.entries above.now)) }
+    ensures same { OnOk result (SameNames seen.new.keys outer.new.items) }
+{
+    if holds_name(classes, above) {
+        return add_all(alloc, outer_named(outers, above), seen, outer);
+    }
+    add_new(alloc, above, seen, outer)
+}
+
+#[tactic(auto, using(crate::proofs::FoldsOn::onto_begins, crate::proofs::FoldsOn::onto_goes_on, crate::proofs::FoldsOn::onto_is_done, crate::proofs::Firsts::folded))]
+fn add_each(
+    alloc: Global,
+    classes: &Classes,
+    outers: &Outers,
+    interfaces: &[Name],
+    seen: &mut BTreeSet<Name>,
+    outer: &mut Vec<Name>,
+) -> Result<(), Memory>
+    requires { SameNames seen.old.keys outer.old.items }
+    ensures { OnOk result (outer.new.items ≡ fold add_once outer.old.items (flat_map (gives classes.now.entries outers.now.entries) interfaces.now)) }
+{
+    for interface in interfaces {
+        add_given(alloc, classes, outers, interface, seen, outer)?;
+    }
+    Ok(())
+}
+
+/// The library classes above a class: what its superclass gives, and then what each interface gives.
+#[tactic(auto, unfolding(crate::specs::Hierarchy::firsts), using(crate::proofs::Firsts::none_same, crate::proofs::Firsts::fold_joined))]
+pub fn outer_at(
+    alloc: Global,
+    classes: &Classes,
+    outers: &Outers,
+    class: &Class,
+) -> Result<Seq<Name>, Memory>
+    ensures { IfOk result (λ o. o ≡ given_to classes.now.entries outers.now.entries class.now) }
+{
+    let mut seen = BTreeSet::new(alloc);
+    let mut outer = Vec::new(alloc);
+    if let Some(superclass) = &class.superclass {
+        add_given(alloc, classes, outers, superclass, &mut seen, &mut outer)?;
+    }
+    add_each(
+        alloc,
+        classes,
+        outers,
+        class.interfaces.as_slice(),
+        &mut seen,
+        &mut outer,
+    )?;
+    Ok(Seq::from_vec(outer))
+}
+
+fn filled(name: Name, class: Class, outer: Seq<Name>) -> Class
+    ensures { result ≡ record class { name = name; outer = outer } }
+{
+    Class {
+        name,
+        superclass: class.superclass,
+        interfaces: class.interfaces,
+        is_interface: class.is_interface,
+        outer,
+        bare: class.bare,
+    }
+}
+
+/// The classes by name, each with the library classes above it.
+#[tactic(auto, using(crate::proofs::Filled::fills_begin, crate::proofs::Filled::one_filled, crate::proofs::Filled::fills_end))]
+pub fn with_outers(
+    alloc: Global,
+    mut classes: Classes,
+    outers: &Outers,
+) -> Result<Vec<Class>, Memory>
+    ensures { IfOk result (λ v. v.items ≡ map (filled_by outers.now.entries) classes.entries) }
+{
+    let mut list = Vec::new(alloc);
+    while let Some((name, class)) = classes.pop_first() {
+        let outer = names_copied(alloc, outer_named(outers, &name))?;
+        list.push(filled(name, class, outer))?;
+    }
+    Ok(list)
+}

@@ -1,0 +1,151 @@
+//! The static fields that instructions name.
+
+ghost use Rattle.std.specs.Prelude.{◌≡◌, IfOk, fold};
+ghost use Rattle.std.specs.BTreeSet.{insert_key};
+ghost use Rattle.std.specs.List.Sorted.{IsStrictlySortedBy};
+ghost use Rattle.dalvik_formats.specs.Layouts.{group_of};
+ghost use Rattle.app_model.specs.Sound.{SoundApp};
+ghost use Rattle.app_link.specs.Orders.{triple_order};
+ghost use Rattle.app_link.specs.StaticList.{all_statics, put_line, put_lines, put_method, static_index, static_index_of};
+
+use crate::coded::Coded;
+use crate::members::{Fields, Triple};
+use crate::statics::static_at;
+use app_model::App;
+use dalvik_formats::{Kind, kind_of};
+use dex_code::Insn;
+use dex_reader::Dex;
+use std::alloc::Global;
+use std::collections::BTreeSet;
+use vet_base::Memory;
+
+type Statics = BTreeSet<Triple>;
+
+fn static_index_by(kind: Kind, i: u32) -> Option<u32>
+    ensures { result ≡ static_index_of kind i }
+{
+    match kind {
+        Kind::StaticGet | Kind::StaticPut => Some(i),
+        _ => None,
+    }
+}
+
+/// The field of a static that the instruction names.
+#[tactic(auto, unfolding(crate::specs::StaticList::static_index))]
+fn static_index_at(insn: &Insn) -> Option<u32>
+    ensures { result ≡ static_index insn.now }
+{
+    match insn {
+        Insn::F21c(op, _, i) => static_index_by(kind_of(*op), *i),
+        _ => None,
+    }
+}
+
+fn with_static(mut statics: Statics, at: Triple) -> Result<Statics, Memory>
+    ensures { IfOk result (λ s. s.keys ≡ insert_key triple_order statics.keys at) }
+{
+    statics.insert(at)?;
+    Ok(statics)
+}
+
+#[tactic(auto, unfolding(crate::specs::StaticList::put_line))]
+fn add_line(
+    alloc: Global,
+    app: &App,
+    fields: &Fields,
+    dex: &Dex,
+    line: &(u32, Insn),
+    statics: Statics,
+) -> Result<Statics, Memory>
+    requires { SoundApp app.now }
+    ensures { IfOk result (λ s. s.keys ≡ put_line app.now fields.now.entries dex.now statics.keys line.now) }
+{
+    match static_index_at(&line.1) {
+        Some(i) => with_static(statics, static_at(alloc, app, fields, dex, i)?),
+        None => Ok(statics),
+    }
+}
+
+#[tactic(auto, unfolding(crate::specs::StaticList::put_lines), using(crate::proofs::FoldsOn::onto_begins, crate::proofs::FoldsOn::onto_goes_on, crate::proofs::FoldsOn::onto_is_done))]
+fn add_lines(
+    alloc: Global,
+    app: &App,
+    fields: &Fields,
+    dex: &Dex,
+    lines: &[(u32, Insn)],
+    mut statics: Statics,
+) -> Result<Statics, Memory>
+    requires { SoundApp app.now }
+    ensures { IfOk result (λ s. s.keys ≡ put_lines app.now fields.now.entries dex.now statics.keys lines.now) }
+{
+    for line in lines {
+        statics = add_line(alloc, app, fields, dex, line, statics)?;
+    }
+    Ok(statics)
+}
+
+#[tactic(auto, unfolding(crate::specs::StaticList::put_method))]
+fn add_method(
+    alloc: Global,
+    app: &App,
+    fields: &Fields,
+    dexes: &[Dex],
+    coded: &Coded,
+    statics: Statics,
+) -> Result<Statics, Memory>
+    requires { SoundApp app.now }
+    ensures { IfOk result (λ s. s.keys ≡ put_method app.now fields.now.entries dexes.now statics.keys coded.now) }
+{
+    match dexes.get(coded.dex) {
+        Some(dex) => add_lines(
+            alloc,
+            app,
+            fields,
+            dex,
+            coded.decoded.lines.as_slice(),
+            statics,
+        ),
+        None => Ok(statics),
+    }
+}
+
+#[tactic(auto, unfolding(crate::specs::StaticList::all_statics), using(crate::proofs::FoldsOn::onto_begins, crate::proofs::FoldsOn::onto_goes_on, crate::proofs::FoldsOn::onto_is_done))]
+fn set_of(
+    alloc: Global,
+    app: &App,
+    fields: &Fields,
+    dexes: &[Dex],
+    coded: &[Coded],
+) -> Result<Statics, Memory>
+    requires { SoundApp app.now }
+    ensures { IfOk result (λ s. s.keys ≡ all_statics app.now fields.now.entries dexes.now coded.now) }
+{
+    let mut statics = BTreeSet::new(alloc);
+    for method in coded {
+        statics = add_method(alloc, app, fields, dexes, method, statics)?;
+    }
+    Ok(statics)
+}
+
+fn listed(alloc: Global, statics: Statics) -> Result<Vec<Triple>, Memory>
+    ensures list { IfOk result (λ v. v.items ≡ statics.keys) }
+    ensures order { IfOk result (λ v. IsStrictlySortedBy triple_order v.items) }
+{
+    let list: Vec<Triple> = statics.into_iter().collect(alloc)?;
+    Ok(list)
+}
+
+/// Each static field that an instruction names, as the field that it stands for, once and in order.
+pub fn statics_of(
+    alloc: Global,
+    app: &App,
+    fields: &Fields,
+    dexes: &[Dex],
+    coded: &[Coded],
+) -> Result<Vec<Triple>, Memory>
+    requires { SoundApp app.now }
+    ensures list { IfOk result (λ v. v.items ≡ all_statics app.now fields.now.entries dexes.now coded.now) }
+    ensures order { IfOk result (λ v. IsStrictlySortedBy triple_order v.items) }
+{
+    listed(alloc, set_of(alloc, app, fields, dexes, coded)?)
+}

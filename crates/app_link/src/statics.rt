@@ -1,0 +1,299 @@
+//! The fields that references to static fields stand for, and their numbers.
+
+ghost use Rattle.std.specs.Prelude.{◌≡◌, ◌<◌, ◌++◌, ◌^◌, [], length, IfOk, OnOk, sum_by, take};
+ghost use Rattle.std.specs.BTreeSet.{insert_key};
+ghost use Rattle.std.specs.Option.{option_copied};
+ghost use Rattle.app_model.specs.Members.{first_given};
+ghost use Rattle.app_model.specs.Lookups.{class_named, up};
+ghost use Rattle.app_model.specs.Sound.{SoundApp, name_order};
+ghost use Rattle.app_link.specs.Orders.{named_triple};
+ghost use Rattle.app_link.specs.Statics.{among, behind, class_among_interfaces, class_of_static, class_or, defines, first_interfaces, found_at, is_true, meetings, number_among, number_of, own_name, resolved};
+ghost use Rattle.app_link.specs.StaticsInOrder.{StaticsInOrder};
+ghost use Rattle.app_link.specs.Texts.{field_of};
+
+use crate::members::{Fields, Triple};
+use crate::texts::field_at;
+use app_model::{App, Class};
+use dex_reader::Dex;
+use std::alloc::Global;
+use std::collections::BTreeSet;
+use vet_base::{Memory, Name};
+
+/// The class of the app with this name.
+#[tactic(auto, unfolding(app_model::specs::Lookups::class_named))]
+fn class_of<'a>(app: &'a App, name: &[u8]) -> Option<&'a Class>
+    requires { SoundApp app.now }
+    ensures { option_copied result ≡ class_named app.now name.now }
+{
+    let classes = app.classes.as_slice();
+    match classes.binary_search_by(|class| class.name.as_bytes().cmp(name)) {
+        Ok(i) => Some(&classes[i]),
+        Err(_) => None,
+    }
+}
+
+#[tactic(auto, unfolding(crate::specs::Orders::named_triple))]
+fn is_static_field(fields: &Fields, triple: &Triple) -> bool
+    ensures { result ≡ is_true (named_triple fields.now.entries triple.now) }
+{
+    match fields.get(triple) {
+        Some(is_static) => *is_static,
+        None => false,
+    }
+}
+
+/// Whether the class itself defines a static field of the name and type.
+#[tactic(auto, unfolding(crate::specs::Statics::defines))]
+fn has_static(
+    alloc: Global,
+    fields: &Fields,
+    name: &Name,
+    kind: &Name,
+    class: &Class,
+) -> Result<bool, Memory>
+    ensures { IfOk result (λ b. b ≡ defines fields.now.entries name.now kind.now class.now) }
+{
+    let triple = (
+        class.name.copy(alloc)?,
+        name.copy(alloc)?,
+        kind.copy(alloc)?,
+    );
+    Ok(is_static_field(fields, &triple))
+}
+
+/// The name of the class, where it itself defines the static field.
+fn own_class(
+    alloc: Global,
+    fields: &Fields,
+    name: &Name,
+    kind: &Name,
+    class: &Class,
+) -> Result<Option<Name>, Memory>
+    ensures { IfOk result (λ o. o ≡ own_name fields.now.entries name.now kind.now class.now) }
+{
+    if has_static(alloc, fields, name, kind, class)? {
+        Ok(Some(class.name.copy(alloc)?))
+    } else {
+        Ok(None)
+    }
+}
+
+/// The first class that defines the static field, from one upward along superclasses.
+#[tactic(auto, using(app_model::proofs::Upward::onward_begins, app_model::proofs::Upward::onward_found, app_model::proofs::Upward::onward_next, app_model::proofs::Upward::onward_top, app_model::proofs::Upward::onward_outside, app_model::proofs::Upward::onward_end))]
+fn class_upward(
+    alloc: Global,
+    app: &App,
+    fields: &Fields,
+    class: &[u8],
+    name: &Name,
+    kind: &Name,
+) -> Result<Option<Name>, Memory>
+    requires { SoundApp app.now }
+    ensures { IfOk result (λ o. o ≡ first_given (own_name fields.now.entries name.now kind.now) (up app.now class.now)) }
+{
+    let mut at = class;
+    for _step in 0..app.classes.len() {
+        match class_of(app, at) {
+            Some(class) => {
+                if let Some(found) = own_class(alloc, fields, name, kind, class)? {
+                    return Ok(Some(found));
+                }
+                match &class.superclass {
+                    Some(superclass) => at = superclass.as_bytes(),
+                    None => return Ok(None),
+                }
+            }
+            None => return Ok(None),
+        }
+    }
+    Ok(None)
+}
+
+pub fn add_copies(alloc: Global, names: &mut Vec<Name>, more: &[Name]) -> Result<(), Memory>
+    ensures { OnOk result (names.new.items ≡ names.old.items ++ more.now) }
+{
+    for name in more {
+        names.push(name.copy(alloc)?)?;
+    }
+    Ok(())
+}
+
+/// The interfaces of a class and of those above it along superclasses, in the order met.
+#[tactic(auto, unfolding(crate::specs::Statics::first_interfaces), using(crate::proofs::Climbing::gather_begins, crate::proofs::Climbing::gather_next, crate::proofs::Climbing::gather_top, crate::proofs::Climbing::gather_outside, crate::proofs::Climbing::gather_end))]
+fn interfaces_upward(alloc: Global, app: &App, class: &[u8]) -> Result<Vec<Name>, Memory>
+    requires { SoundApp app.now }
+    ensures { IfOk result (λ v. v.items ≡ first_interfaces app.now class.now) }
+{
+    let mut queue = Vec::new(alloc);
+    let mut at = class;
+    for _step in 0..app.classes.len() {
+        match class_of(app, at) {
+            Some(class) => {
+                add_copies(alloc, &mut queue, class.interfaces.as_slice())?;
+                match &class.superclass {
+                    Some(superclass) => at = superclass.as_bytes(),
+                    None => return Ok(queue),
+                }
+            }
+            None => return Ok(queue),
+        }
+    }
+    Ok(queue)
+}
+
+/// Visits an interface that may define the static field.
+#[tactic(auto, unfolding(crate::specs::Statics::found_at, crate::specs::Statics::behind))]
+fn visit(
+    alloc: Global,
+    app: &App,
+    fields: &Fields,
+    name: &Name,
+    kind: &Name,
+    interface: &Name,
+    seen: &BTreeSet<Name>,
+    queue: &mut Vec<Name>,
+) -> Result<Option<Name>, Memory>
+    requires { SoundApp app.now }
+    ensures found { IfOk result (λ o. o ≡ found_at app.now fields.now.entries name.now kind.now seen.now.keys interface.now) }
+    ensures queue { IfOk result (λ o. o ≡ None → queue.new.items ≡ queue.old.items ++ behind app.now seen.now.keys interface.now) }
+{
+    if seen.contains(interface) {
+        return Ok(None);
+    }
+    match class_of(app, interface.as_bytes()) {
+        Some(class) => {
+            add_copies(alloc, queue, class.interfaces.as_slice())?;
+            own_class(alloc, fields, name, kind, class)
+        }
+        None => Ok(None),
+    }
+}
+
+#[tactic(auto, unfolding(crate::specs::Statics::meetings))]
+fn most_meetings(app: &App) -> usize
+    ensures { result ≡ meetings app.now }
+{
+    let mut count: usize = 0;
+    for class in app.classes.as_slice() {
+        count = count.saturating_add(class.interfaces.len());
+    }
+    count.saturating_mul(2)
+}
+
+/// The class of the first interface in the queue, or behind it, that defines the static field.
+#[tactic(auto, using(crate::proofs::Searched::search_begins, crate::proofs::Searched::search_finds, crate::proofs::Searched::search_goes_on, crate::proofs::Searched::search_ends, crate::proofs::Searched::search_tires))]
+fn class_behind(
+    alloc: Global,
+    app: &App,
+    fields: &Fields,
+    name: &Name,
+    kind: &Name,
+    mut queue: Vec<Name>,
+) -> Result<Option<Name>, Memory>
+    requires { SoundApp app.now }
+    ensures { IfOk result (λ o. o ≡ among app.now fields.now.entries name.now kind.now (meetings app.now) [] queue.items) }
+{
+    let mut seen = BTreeSet::new(alloc);
+    let most = most_meetings(app);
+    for i in 0..most {
+        if i >= queue.len() {
+            return Ok(None);
+        }
+        let interface = queue[i].copy(alloc)?;
+        let outcome = visit(
+            alloc, app, fields, name, kind, &interface, &seen, &mut queue,
+        )?;
+        match outcome {
+            Some(found) => return Ok(Some(found)),
+            None => {}
+        }
+        seen.insert(interface)?;
+    }
+    Ok(None)
+}
+
+#[tactic(auto, unfolding(crate::specs::Statics::class_among_interfaces), using(crate::proofs::Searched::none_queued))]
+fn class_of_interfaces(
+    alloc: Global,
+    app: &App,
+    fields: &Fields,
+    at: &Triple,
+) -> Result<Name, Memory>
+    requires { SoundApp app.now }
+    ensures { IfOk result (λ n. n ≡ class_among_interfaces app.now fields.now.entries at.now) }
+{
+    let queue = interfaces_upward(alloc, app, at.0.as_bytes())?;
+    if queue.is_empty() {
+        return at.0.copy(alloc);
+    }
+    match class_behind(alloc, app, fields, &at.1, &at.2, queue)? {
+        Some(found) => Ok(found),
+        None => at.0.copy(alloc),
+    }
+}
+
+#[tactic(auto, unfolding(crate::specs::Statics::class_of_static))]
+fn class_at(alloc: Global, app: &App, fields: &Fields, at: &Triple) -> Result<Name, Memory>
+    requires { SoundApp app.now }
+    ensures { IfOk result (λ n. n ≡ class_of_static app.now fields.now.entries at.now) }
+{
+    match class_upward(alloc, app, fields, at.0.as_bytes(), &at.1, &at.2)? {
+        Some(class) => Ok(class),
+        None => class_of_interfaces(alloc, app, fields, at),
+    }
+}
+
+/// The field that a reference to a static field stands for.
+#[tactic(auto, unfolding(crate::specs::Statics::resolved))]
+fn resolve(alloc: Global, app: &App, fields: &Fields, at: Triple) -> Result<Triple, Memory>
+    requires { SoundApp app.now }
+    ensures { IfOk result (λ t. t ≡ resolved app.now fields.now.entries at) }
+{
+    let class = class_at(alloc, app, fields, &at)?;
+    let (_, name, kind) = at;
+    Ok((class, name, kind))
+}
+
+/// The static that the field of that index stands for.
+pub fn static_at(
+    alloc: Global,
+    app: &App,
+    fields: &Fields,
+    dex: &Dex,
+    i: u32,
+) -> Result<Triple, Memory>
+    requires { SoundApp app.now }
+    ensures { IfOk result (λ t. t ≡ resolved app.now fields.now.entries (field_of dex.now i)) }
+{
+    resolve(alloc, app, fields, field_at(alloc, dex, i)?)
+}
+
+/// The number of a static among these, and 0 where it is not one.
+#[tactic(auto, unfolding(crate::specs::Statics::number_among))]
+fn place_among(statics: &[Triple], at: &Triple) -> u32
+    requires { StaticsInOrder statics.now }
+    ensures { result ≡ number_among statics.now at.now }
+{
+    match statics.binary_search(at) {
+        Ok(i) => i as u32,
+        Err(_) => 0,
+    }
+}
+
+/// The number of the static that the field of that index stands for.
+#[tactic(auto, unfolding(crate::specs::Statics::number_of))]
+pub fn number_at(
+    alloc: Global,
+    app: &App,
+    fields: &Fields,
+    statics: &[Triple],
+    dex: &Dex,
+    i: u32,
+) -> Result<u32, Memory>
+    requires app { SoundApp app.now }
+    requires statics { StaticsInOrder statics.now }
+    ensures { IfOk result (λ n. n ≡ number_of app.now fields.now.entries statics.now dex.now i) }
+{
+    let at = static_at(alloc, app, fields, dex, i)?;
+    Ok(place_among(statics, &at))
+}

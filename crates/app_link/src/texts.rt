@@ -1,0 +1,110 @@
+//! What the indices of a DEX file name.
+
+ghost use Rattle.std.specs.Prelude.{◌≡◌, IfOk};
+ghost use Rattle.app_link.specs.Texts.{field_of, field_row, method_of, method_row, proto_of, text_of, type_of, types_of};
+
+use app_model::{MethodRef, Proto};
+use dex_reader::{Dex, FieldId, MethodRow};
+use std::alloc::Global;
+use vet_base::{Memory, Name, Seq};
+
+/// The string of that index, and an empty one where there is none.
+#[tactic(auto, unfolding(crate::specs::Texts::text_of))]
+pub fn text_at(dex: &Dex, i: u32) -> &[u8]
+    ensures { result.now ≡ text_of dex.now i }
+{
+    match dex.strings.get(i as usize) {
+        Some(text) => text.as_bytes(),
+        None => &[],
+    }
+}
+
+/// The descriptor of the type of that index, and an empty one where there is none.
+#[tactic(auto, unfolding(crate::specs::Texts::type_of))]
+pub fn type_at(dex: &Dex, i: u32) -> &[u8]
+    ensures { result.now ≡ type_of dex.now i }
+{
+    match dex.types.get(i as usize) {
+        Some(text) => text_at(dex, *text),
+        None => &[],
+    }
+}
+
+/// The descriptors of types.
+#[tactic(auto, unfolding(crate::specs::Texts::types_of))]
+pub fn types_at(alloc: Global, dex: &Dex, types: &[u32]) -> Result<Seq<Name>, Memory>
+    ensures { IfOk result (λ names. names ≡ types_of dex.now types.now) }
+{
+    let mut names = Vec::new(alloc);
+    for i in types {
+        names.push(Name::from_bytes(alloc, type_at(dex, *i))?)?;
+    }
+    Ok(Seq::from_vec(names))
+}
+
+#[tactic(auto, unfolding(crate::specs::Texts::proto_of))]
+pub fn proto_at(alloc: Global, dex: &Dex, i: u32) -> Result<Proto, Memory>
+    ensures { IfOk result (λ p. p ≡ proto_of dex.now i) }
+{
+    match dex.protos.get(i as usize) {
+        Some(row) => {
+            let params = types_at(alloc, dex, row.params.as_slice())?;
+            let ret = Name::from_bytes(alloc, type_at(dex, row.ret))?;
+            Ok(Proto { params, ret })
+        }
+        None => Ok(Proto {
+            params: Seq::new(alloc),
+            ret: Name::new(Vec::new(alloc)),
+        }),
+    }
+}
+
+pub fn field_row_at(dex: &Dex, i: u32) -> FieldId
+    ensures { result ≡ field_row dex.now i }
+{
+    match dex.fields.get(i as usize) {
+        Some(row) => *row,
+        None => FieldId {
+            class: 0,
+            kind: 0,
+            name: 0,
+        },
+    }
+}
+
+/// The class, the name and the type of the field of that index.
+#[tactic(auto, unfolding(crate::specs::Texts::field_of))]
+pub fn field_at(alloc: Global, dex: &Dex, i: u32) -> Result<(Name, Name, Name), Memory>
+    ensures { IfOk result (λ f. f ≡ field_of dex.now i) }
+{
+    let row = field_row_at(dex, i);
+    let class = Name::from_bytes(alloc, type_at(dex, row.class))?;
+    let name = Name::from_bytes(alloc, text_at(dex, row.name))?;
+    let kind = Name::from_bytes(alloc, type_at(dex, row.kind))?;
+    Ok((class, name, kind))
+}
+
+pub fn method_row_at(dex: &Dex, i: u32) -> MethodRow
+    ensures { result ≡ method_row dex.now i }
+{
+    match dex.methods.get(i as usize) {
+        Some(row) => *row,
+        None => MethodRow {
+            class: 0,
+            proto: 0,
+            name: 0,
+        },
+    }
+}
+
+/// The method of that index.
+#[tactic(auto, unfolding(crate::specs::Texts::method_of))]
+pub fn method_at(alloc: Global, dex: &Dex, i: u32) -> Result<MethodRef, Memory>
+    ensures { IfOk result (λ m. m ≡ method_of dex.now i) }
+{
+    let row = method_row_at(dex, i);
+    let class = Name::from_bytes(alloc, type_at(dex, row.class))?;
+    let name = Name::from_bytes(alloc, text_at(dex, row.name))?;
+    let proto = proto_at(alloc, dex, row.proto)?;
+    Ok(MethodRef { class, name, proto })
+}
