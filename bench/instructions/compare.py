@@ -22,7 +22,7 @@ def signed(n, bits):
 
 
 def table_of(path):
-    rows = re.findall(r'\((\w+)(?:\(\w+\))?, \w+, \w+\), // ([0-9A-F]{2}) (\S+)', open(path).read())
+    rows = re.findall(r'\((\w+)(?:\(\w+\))?, \w+, \w+\), // ([0-9A-Fa-f]{2}) (\S+)', open(path).read())
     return {name: (int(opcode, 16), form) for form, opcode, name in rows if form != 'Unused'}
 
 

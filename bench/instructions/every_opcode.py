@@ -13,7 +13,7 @@ POOLS = {'Types': TYPES, 'Fields': FIELDS, 'Methods': METHODS, 'Strings': STRING
 
 
 def rows(table):
-    found = re.findall(r'\((\w+)(?:\((\w+)\))?, \w+, (\w+)\), // [0-9A-F]{2} (\S+)', open(table).read())
+    found = re.findall(r'\((\w+)(?:\((\w+)\))?, \w+, (\w+)\), // [0-9A-Fa-f]{2} (\S+)', open(table).read())
     return [(name, form, pool, kind) for form, pool, kind, name in found if form not in ('Unused', 'F10t')]
 
 

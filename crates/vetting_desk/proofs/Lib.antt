@@ -1,4 +1,4 @@
+pub mod Folders
+pub mod Holding
 pub mod Printing
 pub mod Safety
-pub mod Singles
-pub mod Texts

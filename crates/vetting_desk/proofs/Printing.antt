@@ -1,43 +1,63 @@
--- What was printed where the sink failed.
-use Rattle.std.proofs.Common.{◌≡◌, ◌≢◌, ◌==◌, ◌⊎◌, inl, inr, ℕ, ◌+◌, ◌≤◌, Bool, true, false, List, ◌++◌, length, take, Option, refl, sym, ap, ◌∙◌, subst, arith, not, cond}
-use Rattle.std.specs.Option.{option_map}
+-- What was printed for an answer, and the status with which it ended.
+use Rattle.std.proofs.Common.{◌≡◌, inl, inr, ℕ, ◌≤◌, false, List, Option, Some, None, is_some, refl, sym, ap, ◌∙◌, arith}
 use Rattle.vet_base.specs.Outside.{Told, HasRisen}
-use Rattle.vetting_desk.specs.declared.verdict.Status.{Status}
-use Rattle.vetting_desk.specs.declared.verdict.Verdict.{Verdict}
-use Rattle.vetting_desk.specs.declared.verdict.Verdict.TheVariants.{Usage, Absent, TooLong, Unread, Unbuilt, Judged}
+use Rattle.verdict.specs.declared.outcome.Outcome.{Outcome}
+use Rattle.verdict.specs.declared.outcome.Outcome.TheVariants.{Clear, Flagged, Undecided, Refused}
+use Rattle.verdict.specs.Outcome.{status_of as outcome_status}
+use Rattle.vetting_desk.specs.declared.answer.Status.{Status}
+use Rattle.vetting_desk.specs.declared.answer.Answer.{Answer}
+use Rattle.vetting_desk.specs.declared.answer.Answer.TheVariants.{Usage, Vetted}
 use Rattle.vetting_desk.specs.declared.words.Words.{Words}
-use Rattle.vetting_desk.specs.Answer.{status_of, text_of}
-use Rattle.vetting_desk.specs.Top.{AnswersTold, Prints, PrintsPart, status}
+use Rattle.vetting_desk.specs.Answer.{Answers, status_of, text_of}
+use Rattle.vetting_desk.specs.Top.{Prints, PrintsPart, IsUsage, status}
 
-abbrev number : Bool → Bool → ℕ
-number unknown found = cond unknown 2 (cond found 1 0)
+outcome_below : (outcome : Outcome) → outcome_status outcome ≤ 3
+outcome_below Clear = omega arith
+outcome_below (Flagged fs) = omega arith
+outcome_below (Undecided cs fs) = omega arith
+outcome_below (Refused part reason) = omega arith
 
-small_number : (a b : Bool) → number a b ≤ 2
-small_number true b = omega arith
-small_number false true = omega arith
-small_number false false = omega arith
-
--- no verdict says that the sink failed
-below_six : (verdict : Verdict) → status_of verdict ≤ 4
+-- no answer says that the sink failed
+below_six : (answer : Answer) → status_of answer ≤ 4
 below_six Usage = omega arith
-below_six Absent = omega arith
-below_six TooLong = omega arith
-below_six (Unread fault) = omega arith
-below_six Unbuilt = omega arith
-below_six (Judged app lists flow) = let small : number (not (length flow.unknown == 0)) (not (length flow.findings == 0)) ≤ 2 = small_number _ _ in omega arith
+below_six (Vetted outcome) = omega (arith, outcome_below outcome)
 
 seven_is_six : ◌≡◌ {A = ℕ} 7 6 → ⊥
 seven_is_six e = omega (arith, e)
 
-pub part_of_verdict : (words : Option Words) (old new : Option Told) (before after : ℕ) (taken taken' : Option (List ℕ)) (said result : Status) (text : List ℕ) (verdict : Verdict)
-    → AnswersTold words old verdict → text ≡ text_of verdict → said ≡ status (status_of verdict) → Prints taken taken' before after said text result → result ≡ status 6
+pub part_of_answer : (words : Option Words) (old new : Option Told) (before after : ℕ) (taken taken' : Option (List ℕ)) (said result : Status) (text : List ℕ) (answer : Answer)
+    → Answers words old answer → text ≡ text_of answer → said ≡ status (status_of answer) → Prints taken taken' before after said text result → result ≡ status 6
     → HasRisen before after × PrintsPart words old new taken taken'
-part_of_verdict words old new before after taken taken' said result text verdict answers is says (inl h) six =
-    let e : status (status_of verdict) ≡ status 6 = sym says ∙ sym h.0 ∙ six in
-    let n : status_of verdict ≡ 6 = ap (λ (s : Status). s.0) e in
-    let small : status_of verdict ≤ 4 = below_six verdict in
+part_of_answer words old new before after taken taken' said result text answer answers is says (inl h) six =
+    let e : status (status_of answer) ≡ status 6 = sym says ∙ sym h.0 ∙ six in
+    let n : status_of answer ≡ 6 = ap (λ (s : Status). s.0) e in
+    let small : status_of answer ≤ 4 = below_six answer in
     absurd (omega arith)
-part_of_verdict words old new before after taken taken' said result text verdict answers is says (inr (inl h)) six = (h.2, (text, inl (verdict, answers, is), h.1))
-part_of_verdict words old new before after taken taken' said result text verdict answers is says (inr (inr h)) six =
+part_of_answer words old new before after taken taken' said result text answer answers is says (inr (inl h)) six = (h.2, (text, inl (answer, answers, is), h.1))
+part_of_answer words old new before after taken taken' said result text answer answers is says (inr (inr h)) six =
     let e : status 7 ≡ status 6 = sym h.0 ∙ six in
     absurd (seven_is_six (ap (λ (s : Status). s.0) e))
+
+same_number : (m n : ℕ) → status m ≡ status n → m ≡ n
+same_number m n e = ap (λ (s : Status). s.0) e
+
+-- no answer ends with the status of a read that failed
+pub never_five : (before after : ℕ) (taken taken' : Option (List ℕ)) (said result : Status) (text : List ℕ) (answer : Answer)
+    → said ≡ status (status_of answer) → Prints taken taken' before after said text result → result ≡ status 5 → ⊥
+never_five before after taken taken' said result text answer says (inl h) five =
+    let n : status_of answer ≡ 5 = same_number (status_of answer) 5 (sym says ∙ (sym h.0 ∙ five)) in
+    let small : status_of answer ≤ 4 = below_six answer in
+    omega (arith, n, small)
+never_five before after taken taken' said result text answer says (inr (inl h)) five = let e : ◌≡◌ {A = ℕ} 6 5 = same_number 6 5 (sym h.0 ∙ five) in omega (arith, e)
+never_five before after taken taken' said result text answer says (inr (inr h)) five = let e : ◌≡◌ {A = ℕ} 7 5 = same_number 7 5 (sym h.0 ∙ five) in omega (arith, e)
+
+-- the answer to words that are no command
+pub usage_of_answer : (before after : ℕ) (taken taken' : Option (List ℕ)) (said result : Status) (text : List ℕ) (answer : Answer)
+    → status_of answer ≡ 4 → said ≡ status (status_of answer) → Prints taken taken' before after said text result → IsUsage before after result
+usage_of_answer before after taken taken' said result text answer four says (inl h) = inl (h.0 ∙ (says ∙ ap status four))
+usage_of_answer before after taken taken' said result text answer four says (inr (inl h)) = inr (inl (h.0, h.2))
+usage_of_answer before after taken taken' said result text answer four says (inr (inr h)) = inr (inr h.0)
+
+pub none_is : (words : Option Words) → is_some words ≡ false → words ≡ None
+none_is None e = refl
+none_is (Some words) e = absurd cc

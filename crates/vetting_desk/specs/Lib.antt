@@ -1,6 +1,5 @@
 pub mod Answer
-pub mod OneClass
+pub mod Folder
+pub mod Reading
 pub mod Top
 pub mod Words
-pub mod Printed
-pub mod Sample

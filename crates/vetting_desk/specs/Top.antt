@@ -1,46 +1,25 @@
 -- What a run does to the files and the sink.
-use Rattle.std.specs.Prelude.{◌≡◌, ◌⊎◌, ℕ, ◌≤◌, List, ◌++◌, take, Option, Some, None, string_bytes, String, IsTrue, is_some}
+use Rattle.std.specs.Prelude.{◌≡◌, ◌⊎◌, ℕ, ◌≤◌, List, ◌++◌, take, Option, None, string_bytes, IsTrue, is_some}
 use Rattle.std.specs.Option.{option_map}
-use Rattle.vet_base.specs.Outside.{HasRisen, Told, held_by}
-use Rattle.vet_base.specs.declared.outside.FailedCall.TheVariants.{Read}
-use Rattle.vetting_desk.specs.declared.words.Words.{Words}
-use Rattle.vetting_desk.specs.declared.verdict.Status.{Status}
-use Rattle.vetting_desk.specs.declared.verdict.Verdict.{Verdict}
-use Rattle.vetting_desk.specs.declared.verdict.Verdict.TheVariants.{Usage}
+use Rattle.vet_base.specs.Outside.{HasRisen, Told}
+use Rattle.vetting_desk.specs.declared.answer.Status.{Status}
+use Rattle.vetting_desk.specs.declared.answer.Answer.{Answer}
 use Rattle.vetting_desk.specs.declared.run.Found.{Found}
 use Rattle.vetting_desk.specs.declared.run.Found.TheVariants.{Said, ReadFault, Memory}
-use Rattle.vetting_desk.specs.Answer.{Answers, status_of, text_of, read_fault_text, IsSafeFolder}
+use Rattle.vetting_desk.specs.declared.words.Words.{Words}
+use Rattle.vetting_desk.specs.Answer.{Answers, IsSafe, status_of, text_of, read_fault_text}
+use Rattle.vetting_desk.specs.Reading.{TellsRead, SameFiles}
 
 abbrev pub status : ℕ → Status
 status n = record { 0 = n }
 
--- where the files are told, the verdict is the answer to the words and the files
-abbrev pub AnswersTold : Option Words → Option Told → Verdict → Type 0
-AnswersTold words told verdict = IsTrue (is_some told) → Answers words (held_by told) verdict
-
--- where the files are told, the folder that the words name holds an app that is safe
-abbrev pub IsSafe : Option Words → Option Told → Type 0
-IsSafe words told = IsTrue (is_some told) → IsSafeFolder words (held_by told)
-
--- the call that failed last is a read of this file
-abbrev pub TellsRead : Option Told → List ℕ → Type 0
-TellsRead None name = Unit {0}
-TellsRead (Some told) name = told.failed ≡ Some (Read name)
-
--- no file changed
-abbrev pub SameFiles : Option Told → Option Told → Type 0
-SameFiles None None = Unit {0}
-SameFiles None (Some new) = ⊥
-SameFiles (Some old) None = ⊥
-SameFiles (Some old) (Some new) = new.files ≡ old.files
-
--- A verdict was found: it is the answer; it is a usage fault just where the words are no command; nothing failed; and where it
--- is clear the app is safe.
-pub record IsSaid (words : Option Words) (old new : Option Told) (before after : ℕ) (verdict : Verdict) : Type 0 where
-  pub answers : AnswersTold words old verdict
-  pub usage : status_of verdict ≡ 4 → words ≡ None
-  pub no_command : words ≡ None → status_of verdict ≡ 4
-  pub safe : status_of verdict ≡ 0 → IsSafe words old
+-- An answer was found: it is that to the words and the files; it is a usage fault just where the words are no command; nothing
+-- failed; and where it is clear the app is safe.
+pub record IsSaid (words : Option Words) (old new : Option Told) (before after : ℕ) (answer : Answer) : Type 0 where
+  pub answers : Answers words old answer
+  pub usage : status_of answer ≡ 4 → words ≡ None
+  pub no_command : words ≡ None → status_of answer ≡ 4
+  pub safe : status_of answer ≡ 0 → IsSafe words old
   pub told : SameFiles old new
   pub count : after ≡ before
 
@@ -52,7 +31,7 @@ pub record IsReadFault (words : Option Words) (old new : Option Told) (before af
   pub told : SameFiles old new
 
 abbrev pub IsFound : Option Words → Option Told → Option Told → ℕ → ℕ → Found → Type 0
-IsFound words old new before after (Said verdict) = IsSaid words old new before after verdict
+IsFound words old new before after (Said answer) = IsSaid words old new before after answer
 IsFound words old new before after (ReadFault name) = IsReadFault words old new before after (string_bytes name)
 IsFound words old new before after Memory = (after ≡ before) × SameFiles old new
 
@@ -63,10 +42,10 @@ Prints old new before after said text result =
     ⊎ ((result ≡ status 6) × ((n : ℕ) × (new ≡ option_map (λ taken. taken ++ take n text) old)) × HasRisen before after)
     ⊎ ((result ≡ status 7) × (new ≡ old) × (after ≡ before))
 
--- The status and the printed bytes are those of the answer to the words and the files, where these are told.
+-- The status and the printed bytes are those of the answer to the words and the files.
 abbrev pub IsAnswer : Option Words → Option Told → Option (List ℕ) → Option (List ℕ) → Status → Type 0
-IsAnswer words told old new result = IsTrue (is_some told) →
-    (verdict : Verdict) × Answers words (held_by told) verdict × (result ≡ status (status_of verdict)) × (new ≡ option_map (λ taken. taken ++ text_of verdict) old)
+IsAnswer words told old new result =
+    (answer : Answer) × Answers words told answer × (result ≡ status (status_of answer)) × (new ≡ option_map (λ taken. taken ++ text_of answer) old)
 
 -- the status for words that are no command
 abbrev pub IsUsage : ℕ → ℕ → Status → Type 0
@@ -78,7 +57,7 @@ TellsPrinted told old new = (name : List ℕ) × TellsRead told name × (new ≡
 
 -- the text that was due: that of the answer, or that of the read that failed
 abbrev pub IsDue : Option Words → Option Told → Option Told → List ℕ → Type 0
-IsDue words old new text = ((verdict : Verdict) × AnswersTold words old verdict × (text ≡ text_of verdict)) ⊎ ((name : List ℕ) × TellsRead new name × (text ≡ read_fault_text name))
+IsDue words old new text = ((answer : Answer) × Answers words old answer × (text ≡ text_of answer)) ⊎ ((name : List ℕ) × TellsRead new name × (text ≡ read_fault_text name))
 
 -- a front of the text that was due was printed
 abbrev pub PrintsPart : Option Words → Option Told → Option Told → Option (List ℕ) → Option (List ℕ) → Type 0

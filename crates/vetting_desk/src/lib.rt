@@ -2,21 +2,16 @@
 //! system.
 #![tactic(auto)]
 
+mod answer;
+mod folder;
 mod host;
-mod judge;
-mod lines;
 mod number;
-mod one_class;
-mod printed;
-mod report;
 mod run;
-mod sample;
-mod verdict;
 mod words;
 
+pub use answer::Status;
 pub use host::{HostFiles, StandardSink};
 pub use run::vet;
-pub use verdict::{Status, Verdict};
 pub use words::{WordFault, Words, parse_words};
 
 #[cfg(test)]

@@ -1,38 +1,27 @@
 //! The top call.
 
-ghost use Rattle.std.specs.Prelude.{◌≡◌, ◌≢◌, ◌<◌, ◌++◌, Some, map, string_bytes, IsNone, IfOk};
+ghost use Rattle.std.specs.Prelude.{◌≡◌, ◌≢◌, ◌<◌, Some, map, string_bytes, IsNone};
 ghost use Rattle.vet_base.specs.Outside.{HasRisen, HasNotRisen};
 ghost use Rattle.vetting_desk.specs.declared.words.Words.TheVariants.{Check};
 ghost use Rattle.vetting_desk.specs.Words.{parse};
-ghost use Rattle.vetting_desk.specs.Answer.{dex_name, text_of, read_fault_text};
-ghost use Rattle.vetting_desk.specs.Top.{IsFound, Prints, IsAnswer, IsUsage, TellsPrinted, PrintsPart, IsFaultStatus, SameFiles, IsSafe, IsKnown, status};
+ghost use Rattle.vetting_desk.specs.Answer.{IsSafe};
+ghost use Rattle.vetting_desk.specs.Reading.{SameFiles};
+ghost use Rattle.vetting_desk.specs.Top.{IsFound, Prints, IsAnswer, IsUsage, TellsPrinted, PrintsPart, IsFaultStatus, IsKnown, status};
 
-use crate::judge::verdict_on;
-use crate::report::{read_fault, report};
-use crate::verdict::{Status, Verdict, status_for};
+use crate::answer::{Answer, Status, read_fault, status_saying, text_saying};
+use crate::folder::{Halt, parts_in};
 use crate::words::{Command, command_in};
-use std::alloc::{AllocError, Global};
-use vet_base::{FileFault, Files, PutFault, Sink};
-
-/// A file has at most so many bytes.
-const FILE_LIMIT: u64 = 16_777_216;
+use std::alloc::Global;
+use verdict::{Outcome, judge};
+use vet_base::{Files, PutFault, Sink};
 
 /// What a run found before it prints.
 #[derive(Debug, Drop)]
 pub enum Found {
-    Said(Verdict),
-    /// The read of this file failed.
+    Said(Answer),
+    /// The read of the file of this name failed.
     ReadFault(String),
     Memory,
-}
-
-#[tactic(auto, unfolding(crate::specs::Answer::dex_name))]
-fn dex_name_in(alloc: Global, dir: &str) -> Result<String, AllocError>
-    ensures { IfOk result (λ name. string_bytes name ≡ dex_name dir.now) }
-{
-    let mut name = String::from_str(alloc, dir)?;
-    name.push_str("/classes.dex")?;
-    Ok(name)
 }
 
 /// What `check` finds in a folder.
@@ -40,18 +29,16 @@ fn found_in_folder<F: Files>(alloc: Global, dir: &str, workers: u8, files: &mut 
     ensures { IsFound (Some (Check dir.now workers)) (F.told files.old) (F.told files.new)
         (F.fault_count files.old) (F.fault_count files.new) result }
 {
-    let Ok(name) = dex_name_in(alloc, dir) else {
-        return Found::Memory;
-    };
-    match files.read(alloc, name.as_str(), FILE_LIMIT) {
-        Ok(bytes) => match verdict_on(alloc, &bytes) {
-            Ok(verdict) => Found::Said(verdict),
+    match parts_in(alloc, files, dir) {
+        Ok(parts) => match judge(alloc, &parts) {
+            Ok(outcome) => Found::Said(Answer::Vetted(outcome)),
             Err(_) => Found::Memory,
         },
-        Err(FileFault::Absent) => Found::Said(Verdict::Absent),
-        Err(FileFault::TooLong) => Found::Said(Verdict::TooLong),
-        Err(FileFault::Failed) => Found::ReadFault(name),
-        Err(FileFault::Memory) => Found::Memory,
+        Err(Halt::Refused(part, reason)) => {
+            Found::Said(Answer::Vetted(Outcome::Refused(part, reason)))
+        }
+        Err(Halt::ReadFault(name)) => Found::ReadFault(name),
+        Err(Halt::Memory) => Found::Memory,
     }
 }
 
@@ -60,7 +47,7 @@ fn found_in<F: Files>(alloc: Global, words: &[String], files: &mut F) -> Found
         (F.fault_count files.old) (F.fault_count files.new) result }
 {
     match command_in(words) {
-        None => Found::Said(Verdict::Usage),
+        None => Found::Said(Answer::Usage),
         Some(Command::Check(dir, workers)) => found_in_folder(alloc, dir, workers, files),
     }
 }
@@ -77,8 +64,9 @@ fn printed<O: Sink>(alloc: Global, out: &mut O, status: Status, text: &[u8]) -> 
 
 /// Runs the words over files, and prints the answer to a sink as one text that ends with one line feed.
 ///
-/// Where the files tell what they hold, status 0 says: the folder that the words name holds a DEX file that makes one
-/// app, and no run of the machine brings a value of a listed source to a listed sink, or comes to what is not modelled.
+/// Status 0 says: the folder that the words name gives the parts of an app that is safe, that is, no run of the machine
+/// brings a value of a listed source to a listed sink unless the declaration names that pair, or comes to what is not
+/// modelled. Where the files tell what they hold, those parts are the files of the folder.
 pub fn vet<F: Files, O: Sink>(alloc: Global, words: &[String], files: &mut F, out: &mut O) -> Status
     // Clear is a theorem about the very bytes handed in.
     ensures sound { result ≡ status 0 → IsSafe (parse (map string_bytes words.now)) (F.told files.old) }
@@ -103,8 +91,8 @@ pub fn vet<F: Files, O: Sink>(alloc: Global, words: &[String], files: &mut F, ou
     ensures files { SameFiles (F.told files.old) (F.told files.new) }
 {
     match found_in(alloc, words, files) {
-        Found::Said(verdict) => match report(alloc, &verdict) {
-            Ok(text) => printed(alloc, out, status_for(&verdict), &text),
+        Found::Said(answer) => match text_saying(alloc, &answer) {
+            Ok(text) => printed(alloc, out, status_saying(&answer), &text),
             Err(_) => Status(7),
         },
         Found::ReadFault(name) => match read_fault(alloc, name.as_bytes()) {

@@ -1,69 +1,57 @@
-mod assembled;
-
-ghost use Rattle.std.specs.Prelude.{◌<◌};
-
 use crate::{HostFiles, StandardSink, Status, vet};
 use std::alloc::Global;
 use std::process::Abort;
 use std::test::Fail;
 use vet_base::{FileFault, Files, MemFiles, MemSink, Name, Sink};
 
-/// Three words of a command line.
-fn three_words(
-    alloc: Global,
-    command: &str,
-    dir: &str,
-    workers: &str,
-) -> Result<Vec<String>, Fail> {
-    let mut words = Vec::new(alloc);
-    words.push(String::from_str(alloc, command)?)?;
-    words.push(String::from_str(alloc, dir)?)?;
-    words.push(String::from_str(alloc, workers)?)?;
-    Ok(words)
-}
+/// The files of an app with one DEX file, in the order in which they are read.
+const FILES: [&str; 5] = [
+    "manifest.toml",
+    "layouts.toml",
+    "declaration.toml",
+    "lists.toml",
+    "classes.dex",
+];
 
-/// The folder `D` with this `classes.dex`.
-fn folder(alloc: Global, bytes: &[u8], failing: Vec<u64>) -> Result<MemFiles, Fail> {
-    let name = Name::from_bytes(alloc, b"D/classes.dex".as_slice())?;
-    let held = vec![in alloc; (name, bytes.to_vec(alloc)?)]?;
+/// The folder `D`: a manifest, and other files that are empty. One file has so many zeros, or is absent where `None`
+/// stands. The files fail at these calls.
+fn folder(
+    alloc: Global,
+    changed: &str,
+    zeros: Option<usize>,
+    failing: Vec<u64>,
+) -> Result<MemFiles, Fail> {
+    let mut held = Vec::new(alloc);
+    for file in FILES {
+        let path = format!(in alloc; "D/{file}")?;
+        let name = Name::from_bytes(alloc, path.as_bytes())?;
+        if file != changed {
+            let text = if file == "manifest.toml" {
+                "package = \"a\"\ndex_files = 1\n"
+            } else {
+                ""
+            };
+            held.push((name, text.as_bytes().to_vec(alloc)?))?;
+        } else if let Some(count) = zeros {
+            held.push((name, vec![in alloc; 0u8; count]?))?;
+        }
+    }
     Ok(MemFiles::new(held, failing))
 }
 
-/// The status and the text of `check D 1` over this `classes.dex`.
-fn checked(alloc: Global, bytes: &[u8]) -> Result<(u8, Vec<u8>), Fail> {
-    let words = three_words(alloc, "check", "D", "1")?;
-    let mut files = folder(alloc, bytes, Vec::new(alloc))?;
-    let mut out = MemSink::new(alloc, Vec::new(alloc));
-    let Status(status) = vet(alloc, &words, &mut files, &mut out);
-    Ok((status, out.taken().to_vec(alloc)?))
-}
-
-fn digit(byte: u8) -> u8
-    ensures { result < 16 }
-{
-    match byte {
-        b'0'..=b'9' => byte - b'0',
-        b'a'..=b'f' => byte - b'a' + 10,
-        _ => 0,
+/// The status and the text for these words over these files, where the sink fails at these calls.
+fn answer(
+    alloc: Global,
+    words: &[&str],
+    mut files: MemFiles,
+    failing: Vec<u64>,
+) -> Result<(u8, Vec<u8>), Fail> {
+    let mut line = Vec::new(alloc);
+    for word in words {
+        line.push(String::from_str(alloc, word)?)?;
     }
-}
-
-/// The bytes that a hexadecimal text spells.
-fn bytes_of(alloc: Global, text: &str) -> Result<Vec<u8>, Fail> {
-    let mut bytes = Vec::new(alloc);
-    for pair in text.as_bytes().chunks_exact(2) {
-        if let [high, low] = pair {
-            bytes.push(16 * digit(*high) + digit(*low))?;
-        }
-    }
-    Ok(bytes)
-}
-
-/// The status and the text for these words over a folder `D` whose `classes.dex` is empty.
-fn answer_to(alloc: Global, words: Vec<String>) -> Result<(u8, Vec<u8>), Fail> {
-    let mut files = folder(alloc, &[], Vec::new(alloc))?;
-    let mut out = MemSink::new(alloc, Vec::new(alloc));
-    let Status(status) = vet(alloc, &words, &mut files, &mut out);
+    let mut out = MemSink::new(alloc, failing);
+    let Status(status) = vet(alloc, &line, &mut files, &mut out);
     Ok((status, out.taken().to_vec(alloc)?))
 }
 
@@ -76,155 +64,84 @@ fn name_of_length(alloc: Global, count: usize) -> Result<String, Fail> {
     Ok(name)
 }
 
+/// Lines of words that are no command.
+static NO_COMMANDS: [&[&str]; 13] = [
+    &[],
+    &["check", "D"],
+    &["check", "D", "1", "1"],
+    &["", "D", "1"],
+    &["Check", "D", "1"],
+    &["serve", "D", "1"],
+    &["check", "D", "0"],
+    &["check", "D", "01"],
+    &["check", "D", "17"],
+    &["check", "D", "1 "],
+    &["check", "D", "+1"],
+    &["check", "D", ""],
+    &["check", "", "1"],
+];
+
+const USAGE: &str = "unknown command or argument\n";
+
 #[test]
 fn words_that_are_no_command(rt: HostRuntime) -> Result<(), Fail> {
     let alloc = rt.alloc();
-    for workers in ["0", "01", "17", "1 ", "+1", ""] {
-        let answer = answer_to(alloc, three_words(alloc, "check", "D", workers)?)?;
-        assert_eq!(rt; answer.0, 4, "{workers}");
-        assert_eq!(rt;
-            answer.1.as_slice(),
-            b"unknown command or argument\n".as_slice()
-        );
+    for (i, words) in NO_COMMANDS.iter().enumerate() {
+        let files = folder(alloc, "", None, Vec::new(alloc))?;
+        let (status, text) = answer(alloc, words, files, Vec::new(alloc))?;
+        assert_eq!(rt; status, 4, "at {i}");
+        assert_eq!(rt; text.as_slice(), USAGE.as_bytes(), "at {i}");
     }
-    for command in ["", "Check", "serve"] {
-        let answer = answer_to(alloc, three_words(alloc, command, "D", "1")?)?;
-        assert_eq!(rt; answer.0, 4, "{command}");
+    for (count, want) in [(1024, 3), (1025, 4)] {
+        let name = name_of_length(alloc, count)?;
+        let files = folder(alloc, "", None, Vec::new(alloc))?;
+        let words = ["check", name.as_str(), "16"];
+        let (status, _) = answer(alloc, words.as_slice(), files, Vec::new(alloc))?;
+        assert_eq!(rt; status, want, "at {count}");
     }
-    let none = answer_to(alloc, Vec::new(alloc))?;
-    assert_eq!(rt; none.0, 4);
-    let mut words = three_words(alloc, "check", "D", "1")?;
-    words.push(String::from_str(alloc, "1")?)?;
-    let four = answer_to(alloc, words)?;
-    assert_eq!(rt; four.0, 4);
-    let mut words = three_words(alloc, "check", "D", "1")?;
-    let _ = words.pop();
-    let two = answer_to(alloc, words)?;
-    assert_eq!(rt; two.0, 4);
     Ok(())
 }
 
-#[test]
-fn names_of_folders(rt: HostRuntime) -> Result<(), Fail> {
-    let alloc = rt.alloc();
-    let none = answer_to(alloc, three_words(alloc, "check", "", "1")?)?;
-    assert_eq!(rt; none.0, 4);
-    let long = name_of_length(alloc, 1025)?;
-    let refused = answer_to(alloc, three_words(alloc, "check", long.as_str(), "1")?)?;
-    assert_eq!(rt; refused.0, 4);
-    let longest = name_of_length(alloc, 1024)?;
-    let absent = answer_to(alloc, three_words(alloc, "check", longest.as_str(), "16")?)?;
-    assert_eq!(rt; absent.0, 3);
-    assert_eq!(rt;
-        absent.1.as_slice(),
-        b"refused classes.dex: absent\n".as_slice()
-    );
-    Ok(())
-}
-
-/// That this app, assembled to the hexadecimal text, has this answer.
-fn expect_answer(
+/// That this folder is answered by this status and this line.
+fn expect(
     rt: &impl Abort,
     alloc: Global,
-    app: &str,
-    status: u8,
-    text: &str,
+    files: MemFiles,
+    want: u8,
+    line: &str,
 ) -> Result<(), Fail> {
-    let bytes = bytes_of(alloc, app)?;
-    let answer = checked(alloc, &bytes)?;
-    assert_eq!(rt; answer.0, status);
-    assert_eq!(rt; answer.1.as_slice(), text.as_bytes());
+    let words = ["check", "D", "1"];
+    let (status, text) = answer(alloc, words.as_slice(), files, Vec::new(alloc))?;
+    assert_eq!(rt; text.as_slice(), line.as_bytes(), "{line}");
+    assert_eq!(rt; status, want, "{line}");
     Ok(())
 }
 
 #[test]
-fn a_device_id_that_is_posted_is_flagged(rt: HostRuntime) -> Result<(), Fail> {
-    let line = "flagged 1\ndevice_id -> network at La/Main;->onCreate(Landroid/os/Bundle;)V @4\n";
-    expect_answer(&rt, rt.alloc(), assembled::DEVICE_ID_POSTED, 1, line)
-}
-
-#[test]
-fn a_constant_in_between_is_clear(rt: HostRuntime) -> Result<(), Fail> {
-    expect_answer(&rt, rt.alloc(), assembled::CONSTANT_POSTED, 0, "clear\n")
-}
-
-#[test]
-fn no_call_at_all_is_clear(rt: HostRuntime) -> Result<(), Fail> {
-    expect_answer(&rt, rt.alloc(), assembled::EMPTY, 0, "clear\n")
-}
-
-#[test]
-fn a_call_that_the_lists_do_not_have_is_undecided(rt: HostRuntime) -> Result<(), Fail> {
-    let lines = "undecided 1\nno summary: La/Main;->onCreate(Landroid/os/Bundle;)V @0\n";
-    expect_answer(&rt, rt.alloc(), assembled::UNLISTED_CALL, 2, lines)
-}
-
-#[test]
-fn an_app_that_branches_or_has_two_methods_is_not_built(rt: HostRuntime) -> Result<(), Fail> {
-    expect_answer(
-        &rt,
-        rt.alloc(),
-        assembled::BRANCHES,
-        3,
-        "refused app: unbuilt\n",
-    )?;
-    expect_answer(
-        &rt,
-        rt.alloc(),
-        assembled::TWO_METHODS,
-        3,
-        "refused app: unbuilt\n",
-    )
-}
-
-// The first bytes of a file, for every number of them.
-#[test]
-fn a_file_cut_at_any_byte_is_refused(rt: HostRuntime) -> Result<(), Fail> {
+fn files_that_are_absent_too_long_or_fail(rt: HostRuntime) -> Result<(), Fail> {
     let alloc = rt.alloc();
-    let bytes = bytes_of(alloc, assembled::DEVICE_ID_POSTED)?;
-    for n in 0..bytes.len() {
-        let answer = checked(alloc, &bytes[..n])?;
-        let reason = if n < 8 {
-            "magic"
-        } else if n < 112 {
-            "outside at 0"
-        } else {
-            "header file_size"
-        };
-        let text = format!(in alloc; "refused classes.dex: {reason}\n")?;
-        assert_eq!(rt; answer.0, 3);
-        assert_eq!(rt; answer.1.as_slice(), text.as_bytes());
+    for (i, name) in FILES.iter().enumerate() {
+        let line = format!(in alloc; "refused {name}: absent\n")?;
+        let gone = folder(alloc, name, None, Vec::new(alloc))?;
+        expect(&rt, alloc, gone, 3, line.as_str())?;
+        let line = format!(in alloc; "refused {name}: longer than 16777216\n")?;
+        let long = folder(alloc, name, Some(16_777_217), Vec::new(alloc))?;
+        expect(&rt, alloc, long, 3, line.as_str())?;
+        let line = format!(in alloc; "read fault D/{name}\n")?;
+        let failing = folder(alloc, "", None, vec![in alloc; i as u64 + 1]?)?;
+        expect(&rt, alloc, failing, 5, line.as_str())?;
     }
     Ok(())
 }
 
 #[test]
-fn a_file_above_the_limit_is_refused(rt: HostRuntime) -> Result<(), Fail> {
+fn a_sink_that_fails(rt: HostRuntime) -> Result<(), Fail> {
     let alloc = rt.alloc();
-    let bytes = vec![in alloc; 0u8; 16_777_217]?;
-    let answer = checked(alloc, &bytes)?;
-    assert_eq!(rt; answer.0, 3);
-    assert_eq!(rt;
-        answer.1.as_slice(),
-        b"refused classes.dex: longer than 16777216\n".as_slice()
-    );
-    Ok(())
-}
-
-#[test]
-fn devices_that_fail(rt: HostRuntime) -> Result<(), Fail> {
-    let alloc = rt.alloc();
-    let words = three_words(alloc, "check", "D", "1")?;
-    let bytes = bytes_of(alloc, assembled::EMPTY)?;
-    let mut files = folder(alloc, &bytes, vec![in alloc; 1]?)?;
-    let mut out = MemSink::new(alloc, Vec::new(alloc));
-    assert_eq!(rt; vet(alloc, &words, &mut files, &mut out), Status(5));
-    assert_eq!(rt; out.taken(), b"read fault D/classes.dex\n".as_slice());
-
-    let mut files = folder(alloc, &bytes, Vec::new(alloc))?;
-    let mut out = MemSink::new(alloc, vec![in alloc; 1]?);
-    assert_eq!(rt; vet(alloc, &words, &mut files, &mut out), Status(6));
-    assert_eq!(rt; out.taken(), [].as_slice());
+    let files = folder(alloc, "", None, Vec::new(alloc))?;
+    let words = ["check", "D", "1"];
+    let (status, text) = answer(alloc, words.as_slice(), files, vec![in alloc; 1]?)?;
+    assert_eq!(rt; text.as_slice(), [].as_slice());
+    assert_eq!(rt; status, 6);
     Ok(())
 }
 

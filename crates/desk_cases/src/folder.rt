@@ -1,0 +1,42 @@
+//! A folder in memory, and the answer to it.
+use std::alloc::{AllocError, Global};
+use vet_base::{MemFiles, MemSink, Name};
+use vetting_desk::{Status, vet};
+
+/// Files by name.
+pub type Held = Vec<(Name, Vec<u8>)>;
+
+/// The name of a file of the folder `D`.
+pub fn path_of(alloc: Global, name: &str) -> Result<Name, AllocError> {
+    let path = format!(in alloc; "D/{name}")?;
+    Ok(Name::new(path.as_bytes().to_vec(alloc)?))
+}
+
+/// The changed files, and those of the sample that are neither changed nor absent: of a name that stands twice the first
+/// counts.
+pub fn folder_with(
+    alloc: Global,
+    mut files: Held,
+    absent: &Name,
+    sample: &Held,
+) -> Result<MemFiles, AllocError> {
+    for (name, bytes) in sample {
+        if name != absent {
+            let name = Name::new(name.as_bytes().to_vec(alloc)?);
+            files.push((name, bytes.to_vec(alloc)?))?;
+        }
+    }
+    Ok(MemFiles::new(files, Vec::new(alloc)))
+}
+
+/// The status and the text for `check D 1` over these files.
+pub fn answer_to(alloc: Global, mut files: MemFiles) -> Result<String, AllocError> {
+    let mut words = Vec::new(alloc);
+    for word in ["check", "D", "1"] {
+        words.push(String::from_str(alloc, word)?)?;
+    }
+    let mut out = MemSink::new(alloc, Vec::new(alloc));
+    let Status(status) = vet(alloc, &words, &mut files, &mut out);
+    let text = std::str::from_utf8(out.taken()).unwrap_or("?");
+    format!(in alloc; "{status}\n{text}")
+}

@@ -1,0 +1,7 @@
+use Rattle.std.proofs.Common.{append_assoc}
+use Rattle.verdict.specs.Reasons.{link_reason}
+use Rattle.verdict.proofs.reasons.put_link_reason.Goals as goal
+
+pub returns-in-TwoMembers : goal.returns-in-TwoMembers
+unfolding link_reason
+returns-in-TwoMembers c = rw c.in-TwoMembers.is (rw append_assoc at (rw c.as_slice-in-TwoMembers.ensures at c.put_member.ensures))

@@ -1,0 +1,11 @@
+pub mod Ascending
+pub mod Causes
+pub mod Findings
+pub mod Halts
+pub mod Outcome
+pub mod Places
+pub mod Printed
+pub mod Reasons
+pub mod Refuses
+pub mod Report
+pub mod Verdict

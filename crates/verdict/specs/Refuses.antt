@@ -1,0 +1,73 @@
+-- The first refusal of the parts of an app: the manifest's form and the number of DEX files, the forms of layouts, declaration
+-- and lists, each DEX file, and then the app that they make.
+use Rattle.std.specs.Prelude.{◌≡◌, ◌≢◌, ℕ, false, List, [], ◌∷◌, length, take, Some, slice_get, codes}
+use Rattle.dex_reader.specs.declared.dex.Dex.{Dex}
+use Rattle.dex_reader.specs.declared.fault.Fault.{Fault}
+use Rattle.dex_reader.specs.Dex.{IsDex}
+use Rattle.dex_reader.specs.Told.{shown}
+use Rattle.dex_reader.specs.Whole.{FirstDexFault}
+use Rattle.app_model.specs.declared.app.App.{App}
+use Rattle.app_model.specs.declared.papers.Manifest.{Manifest}
+use Rattle.app_model.specs.declared.papers.Layouts.{Layouts}
+use Rattle.app_model.specs.declared.papers.Declaration.{Declaration}
+use Rattle.app_link.specs.declared.linking.LinkFault.{LinkFault}
+use Rattle.app_link.specs.FirstLinkFault.{FirstLinkFault}
+use Rattle.app_link.specs.IsApp.{IsApp}
+use Rattle.office_forms.specs.declared.told.FormFault.{FormFault}
+use Rattle.office_forms.specs.declared.told.FormFault.TheVariants.{Range}
+use Rattle.office_forms.specs.Form.{IsForm, FirstFormFault}
+use Rattle.office_forms.specs.Manifest.{manifest_form}
+use Rattle.office_forms.specs.Layouts.{layouts_form}
+use Rattle.office_forms.specs.Declaration.{declaration_form}
+use Rattle.office_forms.specs.Lists.{lists_form}
+use Rattle.straight_line.specs.Straight.{is_straight}
+use Rattle.verdict.specs.declared.outcome.Part.{Part}
+use Rattle.verdict.specs.declared.outcome.Part.TheVariants as part
+use Rattle.verdict.specs.declared.outcome.Reason.{Reason}
+use Rattle.verdict.specs.declared.outcome.Reason.TheVariants as reason
+use Rattle.verdict.specs.declared.papers.Papers.{Papers}
+use Rattle.verdict.specs.declared.parts.Parts.{Parts}
+
+-- the manifest, which tells the number of DEX files
+pub record HasManifest (parts : Parts) (manifest : Manifest) : Type 0 where
+  pub form : IsForm manifest_form parts.manifest manifest
+  pub count : manifest.dex_files ≡ length parts.dex
+
+-- what the four forms say
+pub record HasPapers (parts : Parts) (papers : Papers) : Type 0 where
+  pub manifest : HasManifest parts papers.manifest
+  pub layouts : IsForm layouts_form parts.layouts papers.layouts
+  pub declaration : IsForm declaration_form parts.declaration papers.declaration
+  pub lists : IsForm lists_form parts.lists papers.lists
+
+-- each is a DEX file, and this is what stands in it
+abbrev pub AreDex : List (List ℕ) → List Dex → Type 0
+AreDex [] [] = Unit {0}
+AreDex [] (d ∷ ds) = ⊥
+AreDex (file ∷ files) [] = ⊥
+AreDex (file ∷ files) (d ∷ ds) = IsDex file d × AreDex files ds
+
+-- those before the i-th are DEX files, and this is the first fault of that
+pub record IsFirstBad (files : List (List ℕ)) (i : ℕ) (fault : Fault) : Type 0 where
+  pub before : List Dex
+  pub stand : AreDex (take i files) before
+  pub file : List ℕ
+  pub there : slice_get files i ≡ Some file
+  pub fails : FirstDexFault file fault
+
+-- what all parts say
+pub record Reads (parts : Parts) (papers : Papers) (dexes : List Dex) : Type 0 where
+  pub forms : HasPapers parts papers
+  pub files : AreDex parts.dex dexes
+
+pub data Refuses (parts : Parts) : Part → Reason → Type 0 where
+  bad_manifest : (e : FormFault) → FirstFormFault manifest_form parts.manifest e → Refuses parts part.Manifest (reason.Form e)
+  other_count : (m : Manifest) → IsForm manifest_form parts.manifest m → m.dex_files ≢ length parts.dex → Refuses parts part.Manifest (reason.Form (Range (codes "dex_files")))
+  bad_layouts : (m : Manifest) (e : FormFault) → HasManifest parts m → FirstFormFault layouts_form parts.layouts e → Refuses parts part.Layouts (reason.Form e)
+  bad_declaration : (m : Manifest) (l : Layouts) (e : FormFault) → HasManifest parts m → IsForm layouts_form parts.layouts l → FirstFormFault declaration_form parts.declaration e → Refuses parts part.Declaration (reason.Form e)
+  bad_lists : (m : Manifest) (l : Layouts) (d : Declaration) (e : FormFault) → HasManifest parts m → IsForm layouts_form parts.layouts l → IsForm declaration_form parts.declaration d → FirstFormFault lists_form parts.lists e →
+      Refuses parts part.Lists (reason.Form e)
+  bad_dex : (papers : Papers) (i : ℕ) (fault : Fault) → HasPapers parts papers → IsFirstBad parts.dex i fault → Refuses parts (part.Dex i) (reason.Dex (shown fault))
+  bad_app : (papers : Papers) (dexes : List Dex) (fault : LinkFault) → Reads parts papers dexes → FirstLinkFault dexes papers.manifest papers.layouts fault → Refuses parts part.App (reason.Link fault)
+  -- an app whose flow is not told yet
+  unbuilt : (papers : Papers) (dexes : List Dex) (app : App) → Reads parts papers dexes → IsApp dexes papers.manifest papers.layouts app → is_straight app papers.lists ≡ false → Refuses parts part.App reason.Unbuilt

@@ -1,0 +1,17 @@
+//! Copies of names.
+
+ghost use Rattle.std.specs.Prelude.{◌≡◌, IfOk, take};
+
+use std::alloc::Global;
+use vet_base::{Memory, Name};
+
+/// The same names.
+pub fn copied(alloc: Global, names: &[Name]) -> Result<Vec<Name>, Memory>
+    ensures { IfOk result (λ v. v.items ≡ names.now) }
+{
+    let mut copies = Vec::new(alloc);
+    for name in names {
+        copies.push(name.copy(alloc)?)?;
+    }
+    Ok(copies)
+}

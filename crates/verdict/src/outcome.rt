@@ -1,0 +1,87 @@
+//! What the parts of an app come to.
+
+ghost use Rattle.std.specs.Prelude.{◌≡◌};
+ghost use Rattle.verdict.specs.Outcome.{status_of};
+
+use app_link::LinkFault;
+use app_model::MethodRef;
+use dex_reader::DexFault;
+use office_forms::FormFault;
+use vet_base::{Name, Seq};
+
+/// An instruction: its method and its address there.
+#[derive(Debug, Drop)]
+pub struct Place {
+    pub at: MethodRef,
+    pub pc: u32,
+}
+
+/// Data of a source category may come to a sink category at a place. The declaration does not name the pair.
+#[derive(Debug, Drop)]
+pub struct Finding {
+    pub source: Name,
+    pub sink: Name,
+    pub at: Place,
+}
+
+/// Why nothing certain can be said of an app.
+#[derive(Debug, Drop)]
+pub enum Cause {
+    /// The lists say nothing of what is called here.
+    NoSummary(Place),
+    /// The manifest has a content provider, of this class.
+    Provider(Name),
+    /// A layout names this class of the app.
+    LayoutClass(Name),
+}
+
+/// What is refused.
+#[derive(Clone, Copy, Debug, PartialEq, Eq)]
+pub enum Part {
+    Manifest,
+    Layouts,
+    Declaration,
+    Lists,
+    /// The DEX file of this number; `classes.dex` has the number 0.
+    Dex(u32),
+    /// The app that the DEX files make.
+    App,
+}
+
+/// Why it is refused.
+#[derive(Debug, Drop)]
+pub enum Reason {
+    /// The file is not there.
+    Absent,
+    /// The file is longer than this limit.
+    TooLong(u64),
+    Form(FormFault),
+    Dex(DexFault),
+    Link(LinkFault),
+    /// The flow of such an app is not told yet.
+    Unbuilt,
+}
+
+/// What the parts of an app come to.
+#[derive(Debug, Drop)]
+pub enum Outcome {
+    /// No run brings a value of a source category to a sink category, unless that pair is declared.
+    Clear,
+    /// One finding at least.
+    Flagged(Seq<Finding>),
+    /// One cause at least, and the findings, if any.
+    Undecided(Seq<Cause>, Seq<Finding>),
+    Refused(Part, Reason),
+}
+
+/// The exit status that says the outcome: 0 clear, 1 flagged, 2 undecided, 3 refused.
+pub fn status_for(outcome: &Outcome) -> u8
+    ensures { result ≡ status_of outcome.now }
+{
+    match outcome {
+        Outcome::Clear => 0,
+        Outcome::Flagged(_) => 1,
+        Outcome::Undecided(_, _) => 2,
+        Outcome::Refused(_, _) => 3,
+    }
+}

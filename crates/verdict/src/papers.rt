@@ -1,0 +1,148 @@
+//! What the forms say: manifest, layouts, declaration and lists.
+
+ghost use Rattle.std.specs.Prelude.{◌≡◌, IfOk, IfErr};
+ghost use Rattle.app_model.specs.LibraryWalk.{NumberedLists};
+ghost use Rattle.office_forms.specs.Form.{IsForm};
+ghost use Rattle.office_forms.specs.Manifest.{manifest_form};
+ghost use Rattle.office_forms.specs.Layouts.{layouts_form};
+ghost use Rattle.office_forms.specs.Declaration.{declaration_form};
+ghost use Rattle.office_forms.specs.Lists.{lists_form};
+ghost use Rattle.office_forms.specs.Sound.{SoundManifest, SoundLayouts};
+ghost use Rattle.verdict.specs.Halts.{Halts, HaltsForm};
+ghost use Rattle.verdict.specs.Refuses.{HasManifest, HasPapers, Refuses};
+
+use crate::{Part, Parts, Reason};
+use app_model::{Declaration, Layouts, Lists, Manifest};
+use office_forms::{FormFault, read_declaration, read_layouts, read_lists, read_manifest};
+use std::alloc::Global;
+use vet_base::{Name, Stop};
+
+/// What the forms say.
+#[derive(Drop)]
+pub struct Papers {
+    pub manifest: Manifest,
+    pub layouts: Layouts,
+    pub declaration: Declaration,
+    pub lists: Lists,
+}
+
+/// What is refused, and why.
+#[derive(Drop)]
+pub struct Refusal {
+    pub part: Part,
+    pub reason: Reason,
+}
+
+pub type Halt = Stop<Refusal>;
+
+fn halt_of(part: Part, fault: FormFault) -> Halt
+    ensures { HaltsForm part fault result }
+{
+    match fault {
+        FormFault::Memory => Stop::Memory,
+        fault => Stop::Fault(Refusal {
+            part,
+            reason: Reason::Form(fault),
+        }),
+    }
+}
+
+#[tactic(auto, using(crate::proofs::Halting::of_manifest))]
+fn manifest_form_of(alloc: Global, parts: &Parts) -> Result<Manifest, Halt>
+    ensures ok { IfOk result (λ m. IsForm manifest_form parts.now.manifest m) }
+    ensures sound { IfOk result SoundManifest }
+    ensures err { IfErr result (λ h. Halts (Refuses parts.now) h) }
+{
+    match read_manifest(alloc, parts.manifest.as_slice()) {
+        Ok(manifest) => Ok(manifest),
+        Err(fault) => Err(halt_of(Part::Manifest, fault)),
+    }
+}
+
+/// The manifest, which tells the number of DEX files.
+#[tactic(auto, using(crate::proofs::Halting::of_count))]
+fn manifest_of(alloc: Global, parts: &Parts) -> Result<Manifest, Halt>
+    ensures ok { IfOk result (λ m. HasManifest parts.now m) }
+    ensures sound { IfOk result SoundManifest }
+    ensures err { IfErr result (λ h. Halts (Refuses parts.now) h) }
+{
+    let manifest = manifest_form_of(alloc, parts)?;
+    if manifest.dex_files as usize != parts.dex.len() {
+        let key = Name::from_bytes(alloc, b"dex_files".as_slice())?;
+        return Err(Stop::Fault(Refusal {
+            part: Part::Manifest,
+            reason: Reason::Form(FormFault::Range(key)),
+        }));
+    }
+    Ok(manifest)
+}
+
+fn layouts_of(alloc: Global, parts: &Parts, manifest: &Manifest) -> Result<Layouts, Halt>
+    requires { HasManifest parts.now manifest.now }
+    ensures ok { IfOk result (λ l. IsForm layouts_form parts.now.layouts l) }
+    ensures sound { IfOk result SoundLayouts }
+    ensures err { IfErr result (λ h. Halts (Refuses parts.now) h) }
+{
+    match read_layouts(alloc, parts.layouts.as_slice()) {
+        Ok(layouts) => Ok(layouts),
+        Err(fault) => Err(halt_of(Part::Layouts, fault)),
+    }
+}
+
+fn declaration_of(
+    alloc: Global,
+    parts: &Parts,
+    manifest: &Manifest,
+    layouts: &Layouts,
+) -> Result<Declaration, Halt>
+    requires manifest { HasManifest parts.now manifest.now }
+    requires layouts { IsForm layouts_form parts.now.layouts layouts.now }
+    ensures ok { IfOk result (λ d. IsForm declaration_form parts.now.declaration d) }
+    ensures err { IfErr result (λ h. Halts (Refuses parts.now) h) }
+{
+    match read_declaration(alloc, parts.declaration.as_slice()) {
+        Ok(declaration) => Ok(declaration),
+        Err(fault) => Err(halt_of(Part::Declaration, fault)),
+    }
+}
+
+#[tactic(auto, using(crate::proofs::Halting::numbered))]
+fn lists_of(
+    alloc: Global,
+    parts: &Parts,
+    manifest: &Manifest,
+    layouts: &Layouts,
+    declaration: &Declaration,
+) -> Result<Lists, Halt>
+    requires manifest { HasManifest parts.now manifest.now }
+    requires layouts { IsForm layouts_form parts.now.layouts layouts.now }
+    requires declaration { IsForm declaration_form parts.now.declaration declaration.now }
+    ensures ok { IfOk result (λ ls. IsForm lists_form parts.now.lists ls) }
+    ensures numbered { IfOk result NumberedLists }
+    ensures err { IfErr result (λ h. Halts (Refuses parts.now) h) }
+{
+    match read_lists(alloc, parts.lists.as_slice()) {
+        Ok(lists) => Ok(lists),
+        Err(fault) => Err(halt_of(Part::Lists, fault)),
+    }
+}
+
+/// What the forms say, or the first refusal.
+pub fn papers_of(alloc: Global, parts: &Parts) -> Result<Papers, Halt>
+    ensures ok { IfOk result (λ p. HasPapers parts.now p) }
+    ensures manifest { IfOk result (λ p. SoundManifest p.manifest) }
+    ensures layouts { IfOk result (λ p. SoundLayouts p.layouts) }
+    ensures numbered { IfOk result (λ p. NumberedLists p.lists) }
+    ensures err { IfErr result (λ h. Halts (Refuses parts.now) h) }
+{
+    let manifest = manifest_of(alloc, parts)?;
+    let layouts = layouts_of(alloc, parts, &manifest)?;
+    let declaration = declaration_of(alloc, parts, &manifest, &layouts)?;
+    let lists = lists_of(alloc, parts, &manifest, &layouts, &declaration)?;
+    Ok(Papers {
+        manifest,
+        layouts,
+        declaration,
+        lists,
+    })
+}

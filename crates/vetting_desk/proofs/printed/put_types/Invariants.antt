@@ -1,7 +1,0 @@
-use Rattle.std.proofs.Common.{◌≡◌, ◌++◌, take}
-use Rattle.app_model.specs.Names.{joined}
-use Rattle.vetting_desk.specs.Printed.{escaped}
-use Rattle.vetting_desk.proofs.printed.put_types.Given as goal
-
-abbrev pub invariant-loop-kind : goal.invariant-loop-kind
-invariant-loop-kind l = l.text.items ≡ l.initial.text.items ++ escaped (joined (take l.kind-index l.types))

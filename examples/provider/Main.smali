@@ -1,0 +1,11 @@
+# Posts the device id; the manifest has a content provider besides.
+.class public La/Main;
+.super Landroid/app/Activity;
+
+.method public onCreate(Landroid/os/Bundle;)V
+    .registers 3
+    invoke-static {}, Lvendor/Device;->id()Ljava/lang/String;
+    move-result-object v0
+    invoke-static {v0}, Lvendor/Net;->post(Ljava/lang/Object;)V
+    return-void
+.end method

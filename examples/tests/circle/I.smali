@@ -1,0 +1,3 @@
+.class public interface abstract La/I;
+.super Ljava/lang/Object;
+.implements La/J;

@@ -1,0 +1,3 @@
+.class public interface abstract La/J;
+.super Ljava/lang/Object;
+.implements La/I;

@@ -1,0 +1,3 @@
+.class public La/Main;
+.super Landroid/app/Activity;
+.implements La/I;

@@ -1,0 +1,2 @@
+.class public La/Main;
+.super La/Main;
