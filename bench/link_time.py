@@ -10,7 +10,8 @@ import os
 import shutil
 import subprocess
 import sys
-import time
+
+from runs import time_check
 
 program, folder = sys.argv[1], sys.argv[2]
 lists = os.path.join(os.path.dirname(os.path.abspath(__file__)), '..', 'examples', 'lists.toml')
@@ -69,16 +70,4 @@ def app(methods):
     return path
 
 
-before = None
-for methods in [1000, 2000, 4000, 8000]:
-    path = app(methods)
-    times = []
-    for _ in range(5):
-        start = time.perf_counter()
-        ran = subprocess.run([program, 'check', path, '1'], capture_output=True)
-        times.append(time.perf_counter() - start)
-    least = min(times)
-    ratio = '' if before is None else f' x{least / before:.2f}'
-    before = least
-    size = os.path.getsize(f'{path}/classes.dex')
-    print(f'{methods} methods, {size} bytes: {least * 1000:.1f} ms{ratio}  {ran.stdout.decode().strip()}')
+time_check(program, ((f'{n} methods', app(n), 'classes.dex') for n in [1000, 2000, 4000, 8000]))

@@ -6,9 +6,9 @@ Everything else in the app is empty but for the manifest, so the program reads t
 for each size the least time of five runs, the ratio to the one before, and the line that the program printed.
 """
 import os
-import subprocess
 import sys
-import time
+
+from runs import time_check
 
 program, folder = sys.argv[1], sys.argv[2]
 
@@ -36,16 +36,4 @@ def app(rows):
     return path
 
 
-before = None
-for rows in [500, 1000, 2000, 4000, 8000]:
-    path = app(rows)
-    times = []
-    for _ in range(5):
-        start = time.perf_counter()
-        ran = subprocess.run([program, 'check', path, '1'], capture_output=True)
-        times.append(time.perf_counter() - start)
-    least = min(times)
-    ratio = '' if before is None else f' x{least / before:.2f}'
-    before = least
-    size = os.path.getsize(f'{path}/lists.toml')
-    print(f'{rows} classes and rows, {size} bytes: {least * 1000:.1f} ms{ratio}  {ran.stdout.decode().strip()}')
+time_check(program, ((f'{n} classes and rows', app(n), 'lists.toml') for n in [500, 1000, 2000, 4000, 8000]))
