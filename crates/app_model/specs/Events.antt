@@ -1,6 +1,6 @@
 -- The events that may come while no frame is there.
 -- Android documentation: as in `LifeEvents`; "Input events overview" for clicks; "Processes and threads" for callbacks.
-use Rattle.std.specs.Prelude.{◌≡◌, ◌≢◌, ◌==◌, ◌⊎◌, ℕ, suc, ◌+◌, IsTrue, if◌then◌else◌, List, [], ◌∷◌, ◌++◌, length, map, Option, Some, None, filter_map}
+use Rattle.std.specs.Prelude.{◌≡◌, ◌≢◌, ◌==◌, ◌⊎◌, ℕ, ◌+◌, IsTrue, if◌then◌else◌, List, [], ◌∷◌, ◌++◌, length, Option, Some, None, filter_map}
 use Rattle.vet_base.specs.declared.key_id.KeyId.{KeyId}
 use Rattle.app_model.specs.declared.component.Kind.TheVariants.{Application, Activity}
 use Rattle.app_model.specs.declared.component.Component.{Component}
@@ -11,8 +11,8 @@ use Rattle.app_model.specs.Members.{In, IsAt}
 use Rattle.app_model.specs.Names.{Name, is_wide, is_reference, click_descriptor}
 use Rattle.app_model.specs.Lookups.{find_body, body_named, initialisers_from, elem_key}
 use Rattle.app_model.specs.Summaries.{Below}
-use Rattle.app_model.specs.Heap.{Value, Object, blank, labelled, ClassAt}
-use Rattle.app_model.specs.State.{World, Component_state, object_at, new_object}
+use Rattle.app_model.specs.Heap.{Value, Object, labelled, ClassAt}
+use Rattle.app_model.specs.State.{World, Component_state, new_object}
 use Rattle.app_model.specs.LifeEvents.{LifeEvent, life_events}
 
 -- the component is the application object

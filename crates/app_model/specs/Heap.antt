@@ -1,5 +1,5 @@
 -- Values, objects, and what is reached from a value.
-use Rattle.std.specs.Prelude.{◌≡◌, ◌==◌, ℕ, zero, suc, Bool, if◌then◌else◌, List, [], ◌∷◌, Option, Some, None}
+use Rattle.std.specs.Prelude.{◌≡◌, ◌==◌, ℕ, zero, suc, if◌then◌else◌, List, [], ◌∷◌, Option, Some, None}
 use Rattle.vet_base.specs.declared.key_id.KeyId.{KeyId}
 use Rattle.app_model.specs.Members.{In}
 use Rattle.app_model.specs.Names.{Name}

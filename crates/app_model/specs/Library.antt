@@ -1,5 +1,5 @@
 -- A library call, by what the lists say of it. Every value is read from the state before the call.
-use Rattle.std.specs.Prelude.{◌≡◌, ◌⊎◌, ◌↔◌, ℕ, Bool, false, IsTrue, IsFalse, if◌then◌else◌, List, [], ◌∷◌, ◌++◌, length, drop, map, Option, Some, None, slice_get}
+use Rattle.std.specs.Prelude.{◌≡◌, ◌⊎◌, ◌↔◌, ℕ, false, IsTrue, IsFalse, if◌then◌else◌, List, [], ◌∷◌, ◌++◌, length, drop, map, Option, Some, None, slice_get}
 use Rattle.vet_base.specs.declared.key_id.KeyId.{KeyId}
 use Rattle.app_model.specs.declared.call.MethodRef.{MethodRef}
 use Rattle.app_model.specs.declared.call.CallKind.{CallKind}
@@ -9,7 +9,7 @@ use Rattle.app_model.specs.declared.summary.Summary.{Summary}
 use Rattle.app_model.specs.declared.lists.SummaryId.{SummaryId}
 use Rattle.app_model.specs.declared.lists.Lists.{Lists}
 use Rattle.app_model.specs.declared.app.App.{App}
-use Rattle.app_model.specs.Members.{In, IsAt}
+use Rattle.app_model.specs.Members.{In}
 use Rattle.app_model.specs.Names.{Name, is_wide, is_reference, is_void}
 use Rattle.app_model.specs.Lookups.{elem_key, is_static_call, Library}
 use Rattle.app_model.specs.Summaries.{library_key, summary}

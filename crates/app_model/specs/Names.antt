@@ -1,6 +1,6 @@
 -- Names of classes, methods and types, as the bytes of their descriptors.
 -- Android documentation, Dalvik Executable format: "TypeDescriptor semantics", "ShortyDescriptor".
-use Rattle.std.specs.Prelude.{ℕ, ◌+◌, Bool, true, false, ◌&&◌, ◌||◌, ◌==◌, nat_eq, if◌then◌else◌, List, [], ◌∷◌, ◌++◌, codes}
+use Rattle.std.specs.Prelude.{ℕ, ◌+◌, Bool, false, ◌&&◌, ◌||◌, ◌==◌, nat_eq, if◌then◌else◌, List, [], ◌∷◌, ◌++◌, codes}
 use Rattle.std.specs.Cmp.Lexicographic.{pointwise}
 pub use Rattle.vet_base.specs.declared.name.Name.{Name}
 use Rattle.app_model.specs.declared.call.Proto.{Proto}

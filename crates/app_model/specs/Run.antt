@@ -9,7 +9,7 @@ use Rattle.app_model.specs.declared.lists.Lists.{Lists}
 use Rattle.app_model.specs.declared.app.App.{App}
 use Rattle.app_model.specs.Lookups.{Body, ActAt, Goes, HasCode, IsNative, Initialises}
 use Rattle.app_model.specs.Heap.{Value, Object, blank}
-use Rattle.app_model.specs.State.{result_register, write, World, Frame, entered, object_at}
+use Rattle.app_model.specs.State.{result_register, write, World, Frame, entered}
 use Rattle.app_model.specs.Local.{Local}
 use Rattle.app_model.specs.Calls.{Calls_to, arguments, Raises, returned, hand}
 use Rattle.app_model.specs.Library.{positions, Library_call, Uses_row}

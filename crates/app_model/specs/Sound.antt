@@ -1,12 +1,9 @@
 -- What holds of a linked app.
-use Rattle.std.specs.Prelude.{◌≡◌, ◌<◌, ◌≤◌, ◌+◌, ℕ, Bool, true, false, if◌then◌else◌, List, [], ◌∷◌, ◌++◌, length, map, Option, Some, None, option_to_list}
+use Rattle.std.specs.Prelude.{◌≡◌, ◌<◌, ◌≤◌, ◌+◌, ℕ, Bool, true, false, if◌then◌else◌, List, [], ◌∷◌, ◌++◌, length, map, option_to_list}
 use Rattle.std.specs.Ordering.{nat_cmp, ordering_then}
 use Rattle.std.specs.Cmp.Lexicographic.{slice_cmp}
 use Rattle.std.specs.declared.cmp.Ordering.{Ordering}
 use Rattle.std.specs.declared.cmp.Ordering.TheVariants.{Less}
-use Rattle.vet_base.specs.declared.key_id.KeyId.{KeyId}
-use Rattle.app_model.specs.declared.call.MethodRef.{MethodRef}
-use Rattle.app_model.specs.declared.call.CallKind.{CallKind}
 use Rattle.app_model.specs.declared.call.Proto.{Proto}
 use Rattle.app_model.specs.declared.method.Method.{Method}
 use Rattle.app_model.specs.declared.method.Step.{Step}
@@ -17,7 +14,7 @@ use Rattle.app_model.specs.declared.app.Key.{Key}
 use Rattle.app_model.specs.declared.app.Key.TheVariants.{Elem, Field}
 use Rattle.app_model.specs.declared.app.Class.{Class}
 use Rattle.app_model.specs.declared.app.App.{App}
-use Rattle.app_model.specs.Members.{In, IsAt}
+use Rattle.app_model.specs.Members.{In}
 use Rattle.app_model.specs.Names.{Name, widths, descriptor_of}
 use Rattle.app_model.specs.Lookups.{directly_above, is_static_call}
 use Rattle.app_model.specs.Events.{IsApplication}

@@ -1,5 +1,5 @@
 -- The state of the machine.
-use Rattle.std.specs.Prelude.{◌≡◌, ◌==◌, ◌+◌, ◌-◌, ◌&&◌, ℕ, Bool, nat_le, nat_lt, if◌then◌else◌, List, [], ◌∷◌, length, Option, Some, None, slice_get}
+use Rattle.std.specs.Prelude.{◌==◌, ◌+◌, ◌-◌, ◌&&◌, ℕ, Bool, nat_le, nat_lt, if◌then◌else◌, List, [], length, Option, Some, None, slice_get}
 use Rattle.std.specs.List.{list_any}
 use Rattle.app_model.specs.declared.method.Method.{Method}
 use Rattle.app_model.specs.declared.app.App.{App}

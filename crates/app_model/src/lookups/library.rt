@@ -4,13 +4,14 @@ ghost use Rattle.vet_base.specs.declared.name.Name.{Name};
 ghost use Rattle.app_model.specs.declared.call.MethodRef.{MethodRef};
 ghost use Rattle.app_model.specs.Members.{first_given};
 ghost use Rattle.app_model.specs.Names.{is_array, object_class};
-ghost use Rattle.app_model.specs.Lookups.{class_named};
+ghost use Rattle.app_model.specs.Sound.{SoundApp};
 ghost use Rattle.app_model.specs.Summaries.{row_of, default_of, listed_class, listed_above, row_walk, library_key, summary};
 ghost use Rattle.app_model.specs.Above.{is_among, is_listed_below};
 ghost use Rattle.app_model.specs.LibraryWalk.{NumberedLists, found, found_above, is_row, shown_summary};
 
+use crate::lookups::classes::class_of;
 use crate::lookups::equality::is_same_proto;
-use crate::{App, Class, FallbackWord, LibClass, Lists, Proto, Summary, SummaryId};
+use crate::{App, FallbackWord, LibClass, Lists, Proto, Summary, SummaryId};
 use vet_base::Name;
 
 /// What is looked for in the listed classes.
@@ -43,7 +44,8 @@ pub fn library_key(
     proto: &Proto,
     is_static: bool,
 ) -> Option<SummaryId>
-    requires { NumberedLists lists.now }
+    requires sound { SoundApp app.now }
+    requires numbered { NumberedLists lists.now }
     ensures { result ≡ library_key app.now lists.now class.now name.now proto.now is_static }
 {
     match on_walk(app, lists, class, Wanted::Row(name, proto, is_static)) {
@@ -78,7 +80,8 @@ pub fn summary_of(lists: &Lists, key: SummaryId) -> Option<SummaryView<'_>>
 /// The first that is found on the walk of the class.
 #[tactic(auto, unfolding(crate::specs::Summaries::row_walk, crate::specs::Summaries::library_classes, crate::specs::LibraryWalk::found_above), using(crate::proofs::First::given_of_each))]
 fn on_walk(app: &App, lists: &Lists, class: &Name, wanted: Wanted) -> Option<u32>
-    requires { NumberedLists lists.now }
+    requires sound { SoundApp app.now }
+    requires numbered { NumberedLists lists.now }
     ensures { result ≡ first_given (found lists.now wanted.entry) (row_walk app.now lists.now class.now) }
 {
     match class_of(app, class.as_bytes()) {
@@ -205,20 +208,6 @@ fn listed<'a>(lists: &'a Lists, name: &[u8]) -> Option<&'a LibClass>
     ensures { option_copied result ≡ listed_class lists.now name.now }
 {
     for class in lists.classes.as_slice() {
-        if class.name.as_bytes() == name {
-            return Some(class);
-        }
-    }
-    None
-}
-
-/// The class of the app with this name. A scan, since a library call is looked up in apps whose
-/// order is not known.
-#[tactic(auto, unfolding(crate::specs::Lookups::class_named), using(crate::proofs::First::none_before, crate::proofs::First::none_up_to, crate::proofs::First::first_at, crate::proofs::First::none_at_all))]
-fn class_of<'a>(app: &'a App, name: &[u8]) -> Option<&'a Class>
-    ensures { option_copied result ≡ class_named app.now name.now }
-{
-    for class in app.classes.as_slice() {
         if class.name.as_bytes() == name {
             return Some(class);
         }
