@@ -1,5 +1,6 @@
 ghost use Rattle.std.specs.Prelude.{◌≡◌, ◌++◌, true, IfOk, OnOk, drop, is_none, replicate};
 ghost use Rattle.std.specs.Option.{option_copied};
+ghost use Rattle.app_model.specs.Sound.{SoundApp};
 ghost use Rattle.app_model.specs.LibraryWalk.{NumberedLists};
 ghost use Rattle.app_model.specs.Library.{first_registers};
 ghost use Rattle.app_model.specs.Names.{is_void, is_wide};
@@ -36,6 +37,7 @@ pub struct Flow {
 /// calls alone.
 pub fn flow_of(alloc: Global, app: &App, lists: &Lists) -> Result<Flow, Memory>
     requires straight { IsStraight app.now lists.now }
+    requires sound { SoundApp app.now }
     requires numbered { NumberedLists lists.now }
     ensures findings { IfOk result (λ f. arrivals_of f.findings ≡ findings app.now lists.now) }
     ensures unknown { IfOk result (λ f. f.unknown ≡ unknown app.now lists.now) }
@@ -48,7 +50,8 @@ pub fn flow_of(alloc: Global, app: &App, lists: &Lists) -> Result<Flow, Memory>
 /// The flow along the app's first method.
 #[tactic(auto, unfolding(crate::specs::Flow::findings, crate::specs::Flow::unknown))]
 fn flow_of_first(alloc: Global, app: &App, lists: &Lists) -> Result<Flow, Memory>
-    requires { NumberedLists lists.now }
+    requires sound { SoundApp app.now }
+    requires numbered { NumberedLists lists.now }
     ensures findings { IfOk result (λ f. arrivals_of f.findings ≡ findings app.now lists.now) }
     ensures unknown { IfOk result (λ f. f.unknown ≡ unknown app.now lists.now) }
 {
@@ -63,7 +66,8 @@ fn flow_of_first(alloc: Global, app: &App, lists: &Lists) -> Result<Flow, Memory
 
 /// The flow along the method's steps. At its beginning no register holds a label.
 fn flow_along(alloc: Global, app: &App, lists: &Lists, method: &Method) -> Result<Flow, Memory>
-    requires { NumberedLists lists.now }
+    requires sound { SoundApp app.now }
+    requires numbered { NumberedLists lists.now }
     ensures findings { IfOk result (λ f. arrivals_of f.findings ≡ found_along app.now lists.now (replicate method.now.registers None) None method.now.steps) }
     ensures unknown { IfOk result (λ f. f.unknown ≡ unknown_along app.now lists.now method.now.steps) }
 {
@@ -91,7 +95,8 @@ fn find_arrivals(
     step: &Step,
     findings: &mut Seq<Finding>,
 ) -> Result<(), Memory>
-    requires { NumberedLists lists.now }
+    requires sound { SoundApp app.now }
+    requires numbered { NumberedLists lists.now }
     ensures { OnOk result (arrivals_of findings.new ≡ arrivals_of findings.old ++ found_at app.now lists.now registers.now step.now.pc step.now.act) }
 {
     match &step.act {
@@ -130,7 +135,8 @@ fn add_arrivals(
 
 /// Adds the step's address where it is a call of which the lists say nothing.
 fn find_unknown(app: &App, lists: &Lists, step: &Step, unknown: &mut Seq<u32>) -> Result<(), Memory>
-    requires { NumberedLists lists.now }
+    requires sound { SoundApp app.now }
+    requires numbered { NumberedLists lists.now }
     ensures { OnOk result (unknown.new ≡ unknown.old ++ unknown_at app.now lists.now step.now.pc step.now.act) }
 {
     match &step.act {
@@ -140,7 +146,8 @@ fn find_unknown(app: &App, lists: &Lists, step: &Step, unknown: &mut Seq<u32>) -
 }
 
 fn is_unlisted(app: &App, lists: &Lists, at: &MethodRef) -> bool
-    requires { NumberedLists lists.now }
+    requires sound { SoundApp app.now }
+    requires numbered { NumberedLists lists.now }
     ensures { result ≡ is_none (library_key app.now lists.now at.now.class at.now.name at.now.proto true) }
 {
     library_key(app, lists, &at.class, &at.name, &at.proto, true).is_none()
@@ -163,7 +170,8 @@ fn write_labels(registers: &mut [Option<u8>], last: Option<u8>, act: &Act)
 
 /// The label of the last call's result after the act.
 fn last_after(app: &App, lists: &Lists, last: Option<u8>, act: &Act) -> Option<u8>
-    requires { NumberedLists lists.now }
+    requires sound { SoundApp app.now }
+    requires numbered { NumberedLists lists.now }
     ensures { result ≡ result_after app.now lists.now last act.now }
 {
     match act {
@@ -254,7 +262,8 @@ fn is_void(kind: &Name) -> bool
 /// The category with which the result of a static call of the method comes.
 #[tactic(auto, unfolding(crate::specs::Flow::source_of))]
 fn source_of(app: &App, lists: &Lists, at: &MethodRef) -> Option<u8>
-    requires { NumberedLists lists.now }
+    requires sound { SoundApp app.now }
+    requires numbered { NumberedLists lists.now }
     ensures { result ≡ source_of app.now lists.now at.now }
 {
     if is_void(&at.proto.ret) {
@@ -269,7 +278,8 @@ fn source_of(app: &App, lists: &Lists, at: &MethodRef) -> Option<u8>
 /// The category of the sink that the method is, and its positions.
 #[tactic(auto, unfolding(crate::specs::Flow::sink_of))]
 fn sink_of<'a>(app: &App, lists: &'a Lists, at: &MethodRef) -> Option<&'a (u8, Seq<u32>)>
-    requires { NumberedLists lists.now }
+    requires sound { SoundApp app.now }
+    requires numbered { NumberedLists lists.now }
     ensures { option_copied result ≡ sink_of app.now lists.now at.now }
 {
     match row_of_call(app, lists, at) {

@@ -3,6 +3,7 @@ ghost use Rattle.std.specs.List.{list_any};
 ghost use Rattle.std.specs.Option.{option_copied, option_map_or};
 ghost use Rattle.app_model.specs.Lookups.{directly_above};
 ghost use Rattle.app_model.specs.Names.{same_name, same_names};
+ghost use Rattle.app_model.specs.Sound.{SoundApp};
 ghost use Rattle.app_model.specs.LibraryWalk.{NumberedLists, shown_summary};
 ghost use Rattle.app_model.specs.Summaries.{listed_class};
 ghost use Rattle.straight_line.specs.Straight.{are_below, are_in_line, begin_at_zero, bundle_class, goes_only_to, head, is_activity, is_bundle, is_in_line, is_line, is_listed_bundle, is_on_create, is_plain_act, is_plain_call, is_plain_result, is_plain_row, is_return_void, is_straight, only, row_of_call};
@@ -21,7 +22,8 @@ use vet_base::Name;
 /// within the method's, and its addresses ascend from 0. It takes no memory.
 #[tactic(auto, unfolding(crate::specs::Straight::is_straight))]
 pub fn is_straight(app: &App, lists: &Lists) -> bool
-    requires { NumberedLists lists.now }
+    requires sound { SoundApp app.now }
+    requires numbered { NumberedLists lists.now }
     ensures { result ≡ is_straight app.now lists.now }
 {
     if !lists.callbacks.is_empty() {
@@ -92,7 +94,8 @@ fn is_activity(class: &Class, component: &Component) -> bool
 /// Whether the code begins at 0 and is one straight line.
 #[tactic(auto, unfolding(crate::specs::Straight::is_line))]
 fn is_line(app: &App, lists: &Lists, class: &Class, method: &Method) -> bool
-    requires { NumberedLists lists.now }
+    requires sound { SoundApp app.now }
+    requires numbered { NumberedLists lists.now }
     ensures { result ≡ is_line app.now lists.now class.now method.now }
 {
     let steps = method.steps.as_slice();
@@ -109,7 +112,8 @@ fn begin_at_zero(steps: &[Step]) -> bool
 }
 
 fn are_in_line(app: &App, lists: &Lists, class: &Class, registers: u32, steps: &[Step]) -> bool
-    requires { NumberedLists lists.now }
+    requires sound { SoundApp app.now }
+    requires numbered { NumberedLists lists.now }
     ensures { result ≡ are_in_line app.now lists.now class.now registers steps.now }
 {
     let mut rest = steps;
@@ -131,7 +135,8 @@ fn is_in_line(
     step: &Step,
     following: Option<&Step>,
 ) -> bool
-    requires { NumberedLists lists.now }
+    requires sound { SoundApp app.now }
+    requires numbered { NumberedLists lists.now }
     ensures { result ≡ is_in_line app.now lists.now class.now registers step.now (option_copied following.entry) }
 {
     match following {
@@ -162,7 +167,8 @@ fn goes_only_to(pc: u32, next: &[u32]) -> bool
 
 /// Whether an instruction before the last may do this, in a method with so many registers.
 fn is_plain_act(app: &App, lists: &Lists, class: &Class, registers: u32, act: &Act) -> bool
-    requires { NumberedLists lists.now }
+    requires sound { SoundApp app.now }
+    requires numbered { NumberedLists lists.now }
     ensures { result ≡ is_plain_act app.now lists.now class.now registers act.now }
 {
     match act {
@@ -188,7 +194,8 @@ fn are_below(limit: u32, registers: &[u32]) -> bool
 /// plain.
 #[tactic(auto, unfolding(crate::specs::Straight::is_plain_call))]
 fn is_plain_call(app: &App, lists: &Lists, class: &Class, at: &MethodRef) -> bool
-    requires { NumberedLists lists.now }
+    requires sound { SoundApp app.now }
+    requires numbered { NumberedLists lists.now }
     ensures { result ≡ is_plain_call app.now lists.now class.now at.now }
 {
     at.class != class.name
@@ -198,7 +205,8 @@ fn is_plain_call(app: &App, lists: &Lists, class: &Class, at: &MethodRef) -> boo
 
 #[tactic(auto, unfolding(crate::specs::Straight::is_plain_row))]
 fn has_plain_row(app: &App, lists: &Lists, at: &MethodRef) -> bool
-    requires { NumberedLists lists.now }
+    requires sound { SoundApp app.now }
+    requires numbered { NumberedLists lists.now }
     ensures { result ≡ option_map_or is_plain_row (row_of_call app.now lists.now at.now) true }
 {
     match row_of_call(app, lists, at) {
@@ -215,7 +223,8 @@ pub(crate) fn row_of_call<'a>(
     lists: &'a Lists,
     at: &MethodRef,
 ) -> Option<SummaryView<'a>>
-    requires { NumberedLists lists.now }
+    requires sound { SoundApp app.now }
+    requires numbered { NumberedLists lists.now }
     ensures { option_map (λ v. shown_summary v at.now true) result ≡ row_of_call app.now lists.now at.now }
 {
     match library_key(app, lists, &at.class, &at.name, &at.proto, true) {

@@ -6,6 +6,7 @@ ghost use Rattle.dex_reader.specs.Sound.{SoundDex};
 ghost use Rattle.office_forms.specs.Sound.{SoundManifest, SoundLayouts};
 ghost use Rattle.app_model.specs.LibraryWalk.{NumberedLists};
 ghost use Rattle.app_model.specs.Safe.{Safe};
+ghost use Rattle.app_model.specs.Sound.{SoundApp};
 ghost use Rattle.straight_line.specs.Straight.{IsStraight};
 ghost use Rattle.verdict.specs.Halts.{Halts, HaltsLink};
 ghost use Rattle.verdict.specs.Outcome.{outcome_of};
@@ -45,6 +46,7 @@ fn linked_app(alloc: Global, parts: &Parts, papers: &Papers, dexes: &[Dex]) -> R
     requires layouts { SoundLayouts papers.now.layouts }
     requires sound { All SoundDex dexes.now }
     ensures app { IfOk result (λ app. IsApp dexes.now papers.now.manifest papers.now.layouts app) }
+    ensures sound { IfOk result SoundApp }
     ensures err { IfErr result (λ h. Halts (Refuses parts.now) h) }
 {
     match link(alloc, dexes, &papers.manifest, &papers.layouts) {
@@ -58,6 +60,7 @@ fn check_straight(parts: &Parts, papers: &Papers, dexes: &[Dex], app: &App) -> R
     requires papers { HasPapers parts.now papers.now }
     requires files { AreDex parts.now.dex dexes.now }
     requires app { IsApp dexes.now papers.now.manifest papers.now.layouts app.now }
+    requires sound { SoundApp app.now }
     requires numbered { NumberedLists papers.now.lists }
     ensures straight { OnOk result (IsStraight app.now papers.now.lists) }
     ensures err { IfErr result (λ h. Halts (Refuses parts.now) h) }
@@ -87,6 +90,7 @@ fn outcome_with(causes: Vec<Cause>, findings: Vec<Finding>) -> Outcome
 #[tactic(auto, using(crate::proofs::Outcomes::has_method, crate::proofs::Outcomes::outcome_is))]
 fn outcome_in(alloc: Global, app: &App, papers: &Papers) -> Result<Outcome, Memory>
     requires straight { IsStraight app.now papers.now.lists }
+    requires sound { SoundApp app.now }
     requires numbered { NumberedLists papers.now.lists }
     ensures value { IfOk result (λ o. o ≡ outcome_for app.now papers.now.lists papers.now.declaration) }
     ensures safe { IfOk result (λ o. o ≡ Outcome.Clear → Safe app.now papers.now.lists papers.now.declaration) }
