@@ -1,8 +1,12 @@
+pub mod ActNames
 pub mod Edges
 pub mod Flows
 pub mod Halving
+pub mod Holds
+pub mod Operands
 pub mod Ordered
 pub mod Payloads
 pub mod Runs
 pub mod Standing
+pub mod Starts
 pub mod Whole

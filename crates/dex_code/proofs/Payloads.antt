@@ -71,3 +71,8 @@ range_done first i count front whole le so_far =
     let n : count - i ≡ 0 = omega arith in
     let step : front ++ range_of (first + i) (count - i) ≡ front = rw n (append-nil front) in
     sym step ∙ so_far.is
+
+pub range_length : (first count : ℕ) → length (range_of first count) ≡ count
+unfolding range_of
+range_length first zero = refl
+range_length first (suc n) = let h : length (range_of (first + 1) n) ≡ n = range_length (first + 1) n in omega (arith, h)

@@ -1,7 +1,10 @@
-ghost use Rattle.std.specs.Prelude.{◌≡◌, ◌++◌, IfOk, OnOk, min};
+ghost use Rattle.std.specs.Prelude.{◌≡◌, ◌++◌, IfOk, OnOk, map, min};
+ghost use Rattle.dex_code.specs.Find.{Ascend};
 ghost use Rattle.dex_code.specs.Handlers.{AreCatches, edge_of, until_of};
+ghost use Rattle.dex_code.specs.Lines.{Line};
 ghost use Rattle.dex_code.specs.Next.{addresses, catches_of, covered, covering, covers};
 
+use crate::insn::Insn;
 use crate::order::put_in_order;
 use dex_reader::RawTry;
 use std::alloc::{AllocError, Global};
@@ -122,4 +125,27 @@ pub fn catches_at(
         return Ok(last);
     }
     Ok(catches_from(alloc, tries, pc)?)
+}
+
+fn seq_copied(alloc: Global, numbers: &Seq<u32>) -> Result<Seq<u32>, AllocError>
+    ensures { IfOk result (λ s. s ≡ numbers.now) }
+{
+    Ok(Seq::from_vec(numbers.as_slice().to_vec(alloc)?))
+}
+
+/// The addresses of the handlers that cover each line, each once, ascending.
+pub fn catches_of_lines(
+    alloc: Global,
+    tries: &[RawTry],
+    lines: &[(u32, Insn)],
+) -> Result<Vec<Seq<u32>>, Memory>
+    requires { Ascend lines.now }
+    ensures { IfOk result (λ v. v.items ≡ map (λ (line : Line). catches_of tries.now line.0) lines.now) }
+{
+    let mut all = Vec::new(alloc);
+    for line in lines {
+        let here = catches_from(alloc, tries, line.0)?;
+        all.push(seq_copied(alloc, &here.pcs)?)?;
+    }
+    Ok(all)
 }
