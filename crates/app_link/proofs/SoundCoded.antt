@@ -33,7 +33,7 @@ use Rattle.app_link.specs.Tested.{HasCode, IsTested, coded_order, Tested}
 use Rattle.app_link.proofs.Keeps.{same_value}
 use Rattle.app_link.proofs.KeyOrder.{same_order}
 use Rattle.app_link.proofs.CodedFacts.{tested_code}
-use Rattle.app_link.proofs.StepsKeys.{same_count}
+use Rattle.app_link.proofs.Named.{same_count}
 
 calls_each : (dex : Dex) (at : MethodRef) (i : ℕ) (lines : List Line) (u v : Unit {0}) → run (through (call_row dex at) i lines u) ≡ Ok v → (line : Line) → In line lines → IsTrue (call_fits dex line.1)
 unfolding through call_row
