@@ -1,6 +1,5 @@
 -- What a name stands for: what is needed, a key of the app, a static of the list, a call with the registers that it takes.
-use Rattle.std.proofs.Common.{◌≡◌, ℕ, suc, ◌<◌, Bool, true, false, cond, List, [], ◌∷◌, length, Option, Some, None, option_map, unwrap_or, ◌==◌, IsTrue, refl, arith}
-use Rattle.std.proofs.lemmas.Bool.Decides.{nat_tests}
+use Rattle.std.proofs.Common.{◌≡◌, ℕ, suc, ◌<◌, Bool, true, false, cond, List, [], ◌∷◌, length, Option, Some, None, option_map, unwrap_or, IsTrue, refl, sym, arith}
 use Rattle.vet_base.specs.declared.key_id.KeyId.{KeyId}
 use Rattle.dex_reader.specs.declared.dex.Dex.{Dex}
 use Rattle.dex_code.specs.declared.insn.Insn.{Insn}
@@ -9,6 +8,7 @@ use Rattle.dex_code.specs.declared.names.Naming.TheVariants as naming
 use Rattle.dex_code.specs.Acts.{arguments_of, call_kind_of, naming_of, suits}
 use Rattle.dex_code.specs.Insns.{kind_of}
 use Rattle.dex_code.proofs.ActNames.{NamesKey, NamesStatic, NamesCall}
+use Rattle.dex_code.proofs.Starts.{same_number}
 use Rattle.app_model.specs.declared.app.App.{App}
 use Rattle.app_model.specs.declared.app.Class.{Class}
 use Rattle.app_model.specs.declared.app.Key.{Key}
@@ -62,9 +62,6 @@ number_below app fields statics dex i some =
     let at : Triple = resolved app fields (field_of dex i) in
     index_or_first (first_index (λ (s : Triple). same_triple s at) statics) (length statics) some (index_below (λ (s : Triple). same_triple s at) statics)
 
-pub same_count : (a b : ℕ) → IsTrue (a == b) → b ≡ a
-same_count a b h = grind (arith, nat_tests)
-
 module _ (app : App) (fields : Fields) (statics : List Triple) (dex : Dex) where
   pub suited : (needed : Naming) → IsTrue (suits needed (named_of app fields statics dex needed))
   unfolding named_of
@@ -92,7 +89,7 @@ module _ (app : App) (fields : Fields) (statics : List Triple) (dex : Dex) where
 
   call_named : (insn : Insn) (needed : Naming) → IsTrue (call_takes dex (call_kind_of (kind_of insn)) (length (arguments_of insn)) needed) → NamesCall insn (named_of app fields statics dex needed)
   unfolding named_of method_of
-  call_named insn (naming.Method i) h = same_count (taken_by dex (call_kind_of (kind_of insn)) i) (length (arguments_of insn)) h
+  call_named insn (naming.Method i) h = sym (same_number (taken_by dex (call_kind_of (kind_of insn)) i) (length (arguments_of insn)) h)
   call_named insn naming.Nothing h = tt
   call_named insn needed h = tt
 

@@ -1,5 +1,5 @@
 -- The registers that an act names are the instruction's: what it does stands with a format that has its operands.
-use Rattle.std.proofs.Common.{◌≡◌, ℕ, zero, suc, ◌+◌, ◌<◌, ◌≤◌, ◌%◌, Bool, true, false, cond, ◌&&◌, ◌||◌, List, [], ◌∷◌, ◌++◌, nat_lt, nat_le, ◌==◌, slice_index, slice_index_or, IsTrue, refl, sym, ap, subst, arith, inl, inr}
+use Rattle.std.proofs.Common.{◌≡◌, ℕ, zero, suc, ◌+◌, ◌<◌, ◌≤◌, ◌%◌, Bool, true, false, cond, ◌&&◌, ◌||◌, List, [], ◌∷◌, ◌++◌, nat_lt, nat_le, ◌==◌, slice_index, slice_index_or, IsTrue, refl, subst, arith, inl, inr}
 use Rattle.std.specs.List.{list_all}
 use Rattle.std.proofs.lemmas.Bool.Decides.{nat_tests}
 use Rattle.vet_base.specs.declared.key_id.KeyId.{KeyId}
@@ -15,7 +15,7 @@ use Rattle.app_model.specs.Members.{In}
 use Rattle.app_model.specs.Sound.{registers_of}
 use Rattle.app_model.proofs.Elements.{in_either}
 use Rattle.dex_code.specs.declared.insn.Insn.{Insn}
-use Rattle.dex_code.specs.declared.insn.Insn.TheVariants.{F10x, F12x, F11n, F11x, F10t, F20t, F22x, F21t, F21s, F21h, F21c, F23x, F22b, F22t, F22s, F22c, F32x, F30t, F31t, F31i, F31c, F35c, F3rc, F51l, Packed, Sparse, Filled}
+use Rattle.dex_code.specs.declared.insn.Insn.TheVariants.{F12x, F11n, F11x, F22x, F21t, F21s, F21h, F21c, F23x, F22b, F22t, F22s, F22c, F32x, F31t, F31i, F31c, F35c, F3rc, F51l}
 use Rattle.dex_code.specs.declared.names.Named.{Named}
 use Rattle.dex_code.specs.declared.names.Named.TheVariants as named
 use Rattle.dex_code.specs.declared.shape.Shape.{Shape}
@@ -24,6 +24,7 @@ use Rattle.dex_code.specs.Acts.{operands_of, range_of, arguments_of, begins_wide
 use Rattle.dex_code.specs.Insns.{said_with, said_by, shape_of, shape_at, insn_at, opcode_of, kind_of}
 use Rattle.dex_code.specs.Registers.{first_more, second_more, third_more, one_fits, two_fit, three_fit, all_below, registers_fit}
 use Rattle.dex_code.proofs.Holds.{and_both, every, holds_at}
+use Rattle.dex_code.proofs.Standing.{le_from, lt_from}
 
 -- how many operands an act of the kind names
 abbrev needed : Kind → ℕ
@@ -98,12 +99,6 @@ row_tells row = nat_le (needed row.2) (told_by row.0)
 
 table_tells : IsTrue (list_all row_tells OPCODES)
 table_tells = refl
-
-le_from : (a b : ℕ) → IsTrue (nat_le a b) → a ≤ b
-le_from a b h = grind (arith, nat_tests)
-
-lt_from : (a b : ℕ) → IsTrue (nat_lt a b) → a < b
-lt_from a b h = grind (arith, nat_tests)
 
 told_at : (op : ℕ) (format : Format) → layout_of op ≡ format → needed (group_of op) ≤ told_by format
 unfolding layout_of group_of row_of

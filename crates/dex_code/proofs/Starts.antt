@@ -47,7 +47,7 @@ pub further : (b : Bool) (at pc : ℕ) (ns : List ℕ) → In pc ns → In pc (s
 further true at pc ns k = k
 further false at pc ns k = inr k
 
-same_number : (a b : ℕ) → (a == b) ≡ true → a ≡ b
+pub same_number : (a b : ℕ) → (a == b) ≡ true → a ≡ b
 same_number a b e = grind (arith, nat_tests)
 
 by_pc : (b : Bool) (line : Line) (lines : List Line) (pc : ℕ) (rest : Option Insn) → (line.0 == pc) ≡ b → IsTrue (is_start (cond b (Some line.1) rest)) → (IsTrue (is_start rest) → In pc (starts_of lines)) → In pc (starts_of (line ∷ lines))
