@@ -1,5 +1,6 @@
-pub mod Edges
+pub mod Covering
 pub mod Flows
+pub mod Halves
 pub mod Halving
 pub mod Ordered
 pub mod Payloads
