@@ -1,6 +1,7 @@
 pub mod ActNames
-pub mod Edges
+pub mod Covering
 pub mod Flows
+pub mod Halves
 pub mod Halving
 pub mod Holds
 pub mod Operands
