@@ -5,7 +5,6 @@ pub mod CodedFacts
 pub mod Filled
 pub mod FirstFaults
 pub mod Firsts
-pub mod Folds
 pub mod FoldsOn
 pub mod Frame
 pub mod FrameSound
@@ -14,12 +13,12 @@ pub mod Keeps
 pub mod KeyOrder
 pub mod Linked
 pub mod Lookups
+pub mod Named
 pub mod Narrowed
 pub mod OneAnswer
 pub mod Ordered
 pub mod Places
 pub mod Providers
-pub mod Ranges
 pub mod Rounds
 pub mod Search
 pub mod Searched
@@ -32,8 +31,6 @@ pub mod SoundMethods
 pub mod StaticsCount
 pub mod Steps
 pub mod StepsFlow
-pub mod StepsKeys
-pub mod StepsRegisters
 pub mod StepsStatics
 pub mod Stuck
 pub mod Throughs

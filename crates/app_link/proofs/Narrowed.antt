@@ -1,15 +1,15 @@
 -- A loop that makes methods, each with at most 65,535 registers.
 use Rattle.std.proofs.Common.{◌≡◌, ℕ, zero, suc, ◌+◌, ◌<◌, ◌≤◌, List, [], ◌∷◌, ◌++◌, map, take, length, get_or, sym, ap, ◌∙◌, subst, arith, inl, inr}
 use Rattle.app_model.specs.declared.method.Method.{Method}
+use Rattle.app_model.proofs.Elements.{in_either}
 use Rattle.app_link.specs.Methods.{Narrow}
-use Rattle.app_link.proofs.StepsFlow.{in_append}
 
 pub narrow_begins : Narrow []
 narrow_begins = record { each = λ m k. absurd k }
 
 one_narrow : (ms : List Method) (m : Method) → m.registers ≤ 65535 → Narrow ms → Narrow (ms ++ m ∷ [])
 one_narrow ms m few all = record {
-  each = λ x k. elim (in_append x ms (m ∷ []) k) [
+  each = λ x k. elim (in_either x ms (m ∷ []) k) [
     | inl j ↦ all.each x j
     | inr j ↦ elim j [ inl e ↦ subst (λ (y : Method). y.registers ≤ 65535) (sym e) few | inr i ↦ absurd i ]
   ];

@@ -14,6 +14,7 @@ use Rattle.dex_code.specs.declared.fault.CodeFault.TheVariants.{Register}
 use Rattle.dex_code.specs.Code.{decoding}
 use Rattle.dex_code.specs.Lines.{Line}
 use Rattle.dex_code.proofs.Runs.{first_gave, passed}
+use Rattle.dex_code.proofs.Starts.{same_number}
 use Rattle.app_model.specs.declared.call.MethodRef.{MethodRef}
 use Rattle.app_model.specs.Members.{In}
 use Rattle.app_model.specs.Names.{Name, descriptor_of}
@@ -33,7 +34,6 @@ use Rattle.app_link.specs.Tested.{HasCode, IsTested, coded_order, Tested}
 use Rattle.app_link.proofs.Keeps.{same_value}
 use Rattle.app_link.proofs.KeyOrder.{same_order}
 use Rattle.app_link.proofs.CodedFacts.{tested_code}
-use Rattle.app_link.proofs.StepsKeys.{same_count}
 
 calls_each : (dex : Dex) (at : MethodRef) (i : ℕ) (lines : List Line) (u v : Unit {0}) → run (through (call_row dex at) i lines u) ≡ Ok v → (line : Line) → In line lines → IsTrue (call_fits dex line.1)
 unfolding through call_row
@@ -59,7 +59,7 @@ tested_facts at is_static dex code decoded e =
     let calls = first_gave (calls_fit dex at read.0.lines) (λ _. Value read.0) decoded ins.1 in
     let same : read.0 ≡ decoded = same_value {F = Fault} read.0 decoded calls.2 in
     let each : (line : Line) → In line read.0.lines → IsTrue (call_fits dex line.1) = calls_each dex at 0 read.0.lines tt calls.0 calls.1 in
-    record { takes = same_count (taken is_static at.proto) code.ins ins.0; calls = subst (λ (d : Decoded). (line : Line) → In line d.lines → IsTrue (call_fits dex line.1)) same each }
+    record { takes = sym (same_number (taken is_static at.proto) code.ins ins.0); calls = subst (λ (d : Decoded). (line : Line) → In line d.lines → IsTrue (call_fits dex line.1)) same each }
 
 -- the file of a place where there is code
 file_at : (dexes : List Dex) (place : Place) (dex : Dex) (code : RawCode) → code_at dexes place ≡ Some (dex, code) → slice_get dexes place.dex ≡ Some dex

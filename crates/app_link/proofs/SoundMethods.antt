@@ -6,12 +6,18 @@ use Rattle.dex_reader.specs.declared.dex.RawCode.{RawCode}
 use Rattle.dex_reader.specs.declared.dex.RawTry.{RawTry}
 use Rattle.dex_code.specs.declared.decoder.Counts.{Counts}
 use Rattle.dex_code.specs.declared.insn.Insn.{Insn}
+use Rattle.dex_code.specs.declared.names.Named.{Named}
+use Rattle.dex_code.specs.Acts.{act_of, naming_of}
 use Rattle.dex_code.specs.Insns.{shape_at, width_at, insn_at, is_payload}
 use Rattle.dex_code.specs.Registers.{registers_fit, count_fits}
 use Rattle.dex_code.specs.Lines.{Line, ins_fit, IsLine, StandFrom}
 use Rattle.dex_code.specs.Find.{Ascend}
 use Rattle.dex_code.specs.Flow.{AllFlow}
+use Rattle.dex_code.proofs.ActNames.{key_below, static_below, takes_its_registers}
+use Rattle.dex_code.proofs.Holds.{and_both}
+use Rattle.dex_code.proofs.Operands.{registers_below}
 use Rattle.dex_code.proofs.Standing.{ascend}
+use Rattle.dex_code.proofs.Starts.{starts_of}
 use Rattle.app_model.specs.declared.app.App.{App}
 use Rattle.app_model.specs.declared.method.Method.{Method}
 use Rattle.app_model.specs.declared.method.Step.{Step}
@@ -21,15 +27,14 @@ use Rattle.app_model.specs.Sound.{SoundMethod, SoundCode, SoundStep, BeginAtZero
 use Rattle.app_link.specs.declared.coded.Coded.{Coded}
 use Rattle.app_link.specs.Texts.{Triple}
 use Rattle.app_link.specs.MemberRows.{Fields}
-use Rattle.app_link.specs.Act.{act_of}
 use Rattle.app_link.specs.Code.{counts_of}
 use Rattle.app_link.specs.StaticList.{static_index, all_statics}
 use Rattle.app_link.specs.Lift.{step_of, step_if, steps_of}
+use Rattle.app_link.specs.Named.{named_of}
 use Rattle.app_link.specs.Methods.{steps_in, lifted}
 use Rattle.app_link.specs.Tested.{HasCode, IsTested}
-use Rattle.app_link.proofs.StepsFlow.{and_both, starts_of, pcs, pcs_are, steps_ascend, Stems, stem_of, step_goes_on, step_catches}
-use Rattle.app_link.proofs.StepsRegisters.{registers_below}
-use Rattle.app_link.proofs.StepsKeys.{NoOtherStatic, insn_plain, keyed, static_below, takes_its_registers}
+use Rattle.app_link.proofs.Named.{names_key, names_static, names_call}
+use Rattle.app_link.proofs.StepsFlow.{pcs, pcs_are, steps_ascend, covered_step, Stems, stem_of, step_goes_on, step_catches}
 use Rattle.app_link.proofs.StepsStatics.{some_statics}
 
 line_in : (code : RawCode) (counts : Counts) (at : ℕ) (lines : List Line) (line : Line) → StandFrom code counts at lines → In line lines → IsLine code counts line
@@ -37,14 +42,11 @@ line_in code counts at [] line stand k = absurd k
 line_in code counts at (l ∷ ls) line stand (inl e) = subst (IsLine code counts) (sym e) stand.1
 line_in code counts at (l ∷ ls) line stand (inr k) = line_in code counts (at + width_at code.units at) ls line stand.2 k
 
-line_fits : (code : RawCode) (counts : Counts) (line : Line) → IsLine code counts line → IsTrue (registers_fit code.registers line.1)
+line_fits : (code : RawCode) (counts : Counts) (line : Line) → IsLine code counts line → IsTrue (registers_fit code.registers (insn_at code.units line.0))
 line_fits code counts line is =
     let all = and_both (count_fits (shape_at code.units line.0) (slice_index code.units line.0) && registers_fit code.registers (insn_at code.units line.0)) (ins_fit code line.0) is.registers in
     let both = and_both (count_fits (shape_at code.units line.0) (slice_index code.units line.0)) (registers_fit code.registers (insn_at code.units line.0)) all.0 in
-    subst (λ (insn : Insn). IsTrue (registers_fit code.registers insn)) (sym is.says) both.1
-
-line_plain : (code : RawCode) (counts : Counts) (line : Line) → IsLine code counts line → NoOtherStatic line.1
-line_plain code counts line is = subst NoOtherStatic (sym is.says) (insn_plain code.units line.0)
+    both.1
 
 ins_from : (code : RawCode) (pc : ℕ) → pc ≡ 0 → IsTrue (ins_fit code pc) → code.ins ≤ code.registers
 ins_from code pc e h = by_tests (nat_lt 0 pc) (nat_le code.ins code.registers) refl refl h
@@ -75,10 +77,10 @@ module _ (app : App) (fields : Fields) (statics : List Triple) (dex : Dex) (trie
   unfolding steps_of step_if step_of
   first_step code counts [] some stand flow = absurd (let e : 0 ≡ length code.units = stand in omega (arith, e, some))
   first_step code counts (line ∷ rest) some stand flow =
-      first_if (is_payload line.1) (step_of app fields statics dex tries lines line rest) (steps_of app fields statics dex tries lines rest)
+      first_if (is_payload line.1) (covered_step app fields statics dex tries lines line rest) (steps_of app fields statics dex tries lines rest)
       (payload_behind (is_payload line.1) _ line.0 stand.0 flow.0.stays_within) stand.0
 
-  act_is : (step : Step) (stem : Stems app fields statics dex tries lines step) → step.act ≡ act_of app fields statics dex stem.line.1
+  act_is : (step : Step) (stem : Stems app fields statics dex tries lines step) → step.act ≡ act_of stem.line.1 (named_of app fields statics dex (naming_of stem.line.1))
   unfolding step_of
   act_is step stem = ap (λ (s : Step). s.act) stem.is
 
@@ -125,15 +127,17 @@ module _ (app : App) (fields : Fields) (statics : List Triple) (methods : List M
     sound_from step stem =
         let line : Line = stem.line in
         let is : IsLine has.code (counts_of has.dex) line = line_in has.code (counts_of has.dex) 0 c.decoded.lines line has.is.lines stem.of_lines in
-        let act : step.act ≡ act_of app fields statics has.dex line.1 = act_is app fields statics has.dex c.decoded.tries c.decoded.lines step stem in
+        let name : Named = named_of app fields statics has.dex (naming_of line.1) in
+        let act : step.act ≡ act_of line.1 name = act_is app fields statics has.dex c.decoded.tries c.decoded.lines step stem in
         let some : (j : ℕ) → static_index line.1 ≡ Some j → 0 < length statics = λ j e. subst (λ (s : List Triple). 0 < length s) (sym are) (some_statics app fields dexes coded c has.dex line j k has.file stem.of_lines e) in
         record {
           next = λ pc j. pcs_there pc (step_goes_on app fields statics has.dex c.decoded.tries c.decoded.lines step stem pc j);
           catches = λ pc j. pcs_there pc (step_catches app fields statics has.dex c.decoded.tries c.decoded.lines (length has.code.units) has.is.handlers step stem pc j);
-          registers = λ r j. subst (λ (n : ℕ). r < n) (sym registers_are) (registers_below app fields statics has.dex has.code.registers line.1 r (line_fits has.code (counts_of has.dex) line is) (subst (λ (a : Act). In r (registers_of a)) act j));
-          key = subst (λ (a : Act). KeyBelow a (length app.keys)) (sym act) (keyed app fields statics has.dex line.1 some_key);
-          static = subst (λ (a : Act). StaticBelow a (length statics)) (sym act) (static_below app fields statics has.dex line.1 (line_plain has.code (counts_of has.dex) line is) some);
-          call = subst TakesItsRegisters (sym act) (takes_its_registers app fields statics has.dex line.1 (has.calls line stem.of_lines));
+          registers = λ r j. subst (λ (n : ℕ). r < n) (sym registers_are) (registers_below has.code.units line.0 has.code.registers name r (line_fits has.code (counts_of has.dex) line is)
+              (subst (λ (insn : Insn). In r (registers_of (act_of insn name))) is.says (subst (λ (a : Act). In r (registers_of a)) act j)));
+          key = subst (λ (a : Act). KeyBelow a (length app.keys)) (sym act) (key_below line.1 name (length app.keys) some_key (names_key app fields statics has.dex (naming_of line.1) some_key));
+          static = subst (λ (a : Act). StaticBelow a (length statics)) (sym act) (static_below line.1 name (length statics) (names_static app fields statics has.dex line.1 some));
+          call = subst TakesItsRegisters (sym act) (takes_its_registers line.1 name (names_call app fields statics has.dex line.1 (has.calls line stem.of_lines)));
         }
 
     sound_step : (step : Step) → In step (method c).steps → SoundStep done (method c) step

@@ -2,7 +2,6 @@
 -- reference takes.
 use Rattle.std.specs.Prelude.{◌≡◌, ◌<◌, ℕ, ◌+◌, ◌==◌, min, Bool, true, false, List, [], ◌∷◌, ◌++◌, length, Option, Some, None, slice_get, if◌then◌else◌}
 use Rattle.vet_base.specs.Script.{Script, Value, Test, ◌>>=◌, test}
-use Rattle.dalvik_formats.specs.Layouts.{group_of}
 use Rattle.dex_reader.specs.declared.dex.Dex.{Dex}
 use Rattle.dex_reader.specs.declared.dex.ClassDef.{ClassDef}
 use Rattle.dex_reader.specs.declared.dex.Body.{Body}
@@ -10,9 +9,12 @@ use Rattle.dex_reader.specs.declared.dex.RawCode.{RawCode}
 use Rattle.dex_code.specs.declared.decoder.Counts.{Counts}
 use Rattle.dex_code.specs.declared.decoder.Decoded.{Decoded}
 use Rattle.dex_code.specs.declared.insn.Insn.{Insn}
-use Rattle.dex_code.specs.declared.insn.Insn.TheVariants.{F35c, F3rc}
+use Rattle.dex_code.specs.declared.names.Naming.{Naming}
+use Rattle.dex_code.specs.declared.names.Naming.TheVariants as naming
 use Rattle.dex_code.specs.declared.fault.CodeFault.TheVariants.{Register}
+use Rattle.dex_code.specs.Acts.{arguments_of, call_kind_of, naming_of}
 use Rattle.dex_code.specs.Code.{decoding}
+use Rattle.dex_code.specs.Insns.{kind_of}
 use Rattle.dex_code.specs.Lines.{Line}
 use Rattle.app_model.specs.declared.call.CallKind.{CallKind}
 use Rattle.app_model.specs.declared.call.MethodRef.{MethodRef}
@@ -24,7 +26,6 @@ use Rattle.app_link.specs.declared.members.Place.{Place}
 use Rattle.app_link.specs.declared.members.Listed.{Listed}
 use Rattle.app_link.specs.declared.coded.Coded.{Coded}
 use Rattle.app_link.specs.Texts.{Triple, proto_of, method_row}
-use Rattle.app_link.specs.Act.{called}
 use Rattle.app_link.specs.Through.{through}
 
 -- the same script with its faults seen by f
@@ -71,15 +72,13 @@ pub record ShortCodes (dexes : List Dex) : Type 0 where
 abbrev pub taken_by : Dex → CallKind → ℕ → ℕ
 taken_by dex kind i = taken (is_static_call kind) (proto_of dex (method_row dex i).proto)
 
-abbrev pub call_takes : Dex → Option CallKind → ℕ → ℕ → Bool
-call_takes dex None i count = true
-call_takes dex (Some kind) i count = taken_by dex kind i == count
+abbrev pub call_takes : Dex → CallKind → ℕ → Naming → Bool
+call_takes dex kind count (naming.Method i) = taken_by dex kind i == count
+call_takes dex kind count needed = true
 
 -- the instruction is no call, or it has the registers that its reference takes
 unfoldable pub call_fits : Dex → Insn → Bool
-call_fits dex (F35c op i args) = call_takes dex (called (group_of op)) i (length args)
-call_fits dex (F3rc op i first count) = call_takes dex (called (group_of op)) i count
-call_fits dex insn = true
+call_fits dex insn = call_takes dex (call_kind_of (kind_of insn)) (length (arguments_of insn)) (naming_of insn)
 
 unfoldable pub call_row : Dex → MethodRef → ℕ → Line → Unit {0} → Script Fault (Unit {0})
 call_row dex at i line s = test (call_fits dex line.1) (faults.Code at (Register line.0))

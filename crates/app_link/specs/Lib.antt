@@ -1,4 +1,3 @@
-pub mod Act
 pub mod Circle
 pub mod Classes
 pub mod Code
@@ -6,7 +5,6 @@ pub mod Components
 pub mod Described
 pub mod FirstLinkFault
 pub mod Flags
-pub mod Flow
 pub mod Frame
 pub mod Gathered
 pub mod Hierarchy
@@ -16,6 +14,7 @@ pub mod Lift
 pub mod Limits
 pub mod MemberRows
 pub mod Methods
+pub mod Named
 pub mod OneAnswer
 pub mod Orders
 pub mod Settled

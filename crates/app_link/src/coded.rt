@@ -3,26 +3,22 @@
 ghost use Rattle.std.specs.Prelude.{◌≡◌, ◌==◌, ◌<◌, ◌≤◌, ◌++◌, ◌^◌, ◌+◌, min, option_map, length, IfOk, map};
 ghost use Rattle.std.specs.List.Sorted.{IsStrictlySortedBy};
 ghost use Rattle.std.specs.Map.{keys_of};
-ghost use Rattle.dalvik_formats.specs.Layouts.{group_of};
 ghost use Rattle.vet_base.specs.Script.{Gives};
 ghost use Rattle.dex_code.specs.Code.{decoding};
 ghost use Rattle.app_model.specs.Names.{is_wide, widths};
 ghost use Rattle.app_model.specs.Sound.{taken};
-ghost use Rattle.app_link.specs.Act.{called};
-ghost use Rattle.app_link.specs.Code.{ShortCode, ShortCodes, all_codes, blamed, bodies_of, call_fits, call_row, call_takes, calls_fit, code_at, code_row, counts_of, one_code, reference, taken_by, tested};
+ghost use Rattle.app_link.specs.Code.{ShortCode, ShortCodes, all_codes, blamed, bodies_of, call_fits, call_row, calls_fit, code_at, code_row, counts_of, one_code, reference, tested};
 ghost use Rattle.app_link.specs.Described.{Described};
 ghost use Rattle.app_link.specs.Orders.{triple_order};
 ghost use Rattle.app_link.specs.Tested.{Tested};
-ghost use Rattle.app_link.specs.Texts.{method_row, proto_of, type_of};
+ghost use Rattle.app_link.specs.Texts.{method_row, proto_of};
 ghost use Rattle.app_link.specs.declared.fault.Fault.TheVariants as faults;
 
-use crate::act::call_kind;
 use crate::fault::{Fault, Halt};
 use crate::members::{Listed, Methods, Place, Triple};
 use crate::texts::{method_row_at, proto_at};
 use app_model::{CallKind, MethodRef, Proto};
-use dalvik_formats::kind_of;
-use dex_code::{CodeFault, Counts, Decoded, Insn, decode};
+use dex_code::{CodeFault, Counts, Decoded, Insn, Naming, decode};
 use dex_reader::{Body, ClassDef, Dex, RawCode};
 use std::alloc::Global;
 use vet_base::{Memory, Name, Seq, Stop};
@@ -122,33 +118,16 @@ fn takes(is_static: bool, proto: &Proto, count: usize) -> bool
     }
 }
 
-fn takes_call(
-    alloc: Global,
-    dex: &Dex,
-    kind: Option<CallKind>,
-    i: u32,
-    count: usize,
-) -> Result<bool, Memory>
-    ensures { IfOk result (λ b. b ≡ call_takes dex.now kind i count) }
-{
-    match kind {
-        Some(kind) => {
-            let proto = proto_at(alloc, dex, method_row_at(dex, i).proto)?;
-            Ok(takes(matches!(kind, CallKind::Static), &proto, count))
-        }
-        None => Ok(true),
-    }
-}
-
 /// Whether the instruction is no call, or has the registers that its reference takes.
 #[tactic(auto, unfolding(crate::specs::Code::call_fits))]
 fn fits_call(alloc: Global, dex: &Dex, insn: &Insn) -> Result<bool, Memory>
     ensures { IfOk result (λ b. b ≡ call_fits dex.now insn.now) }
 {
-    match insn {
-        Insn::F35c(op, i, args) => takes_call(alloc, dex, call_kind(kind_of(*op)), *i, args.len()),
-        Insn::F3rc(op, i, _, count) => {
-            takes_call(alloc, dex, call_kind(kind_of(*op)), *i, *count as usize)
+    match insn.naming() {
+        Naming::Method(i) => {
+            let is_static = matches!(insn.call_kind(), CallKind::Static);
+            let proto = proto_at(alloc, dex, method_row_at(dex, i).proto)?;
+            Ok(takes(is_static, &proto, insn.argument_count()))
         }
         _ => Ok(true),
     }

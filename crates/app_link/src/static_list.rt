@@ -3,17 +3,15 @@
 ghost use Rattle.std.specs.Prelude.{◌≡◌, IfOk, fold};
 ghost use Rattle.std.specs.BTreeSet.{insert_key};
 ghost use Rattle.std.specs.List.Sorted.{IsStrictlySortedBy};
-ghost use Rattle.dalvik_formats.specs.Layouts.{group_of};
 ghost use Rattle.app_model.specs.Sound.{SoundApp};
 ghost use Rattle.app_link.specs.Orders.{triple_order};
-ghost use Rattle.app_link.specs.StaticList.{all_statics, put_line, put_lines, put_method, static_index, static_index_of};
+ghost use Rattle.app_link.specs.StaticList.{all_statics, put_line, put_lines, put_method, static_index};
 
 use crate::coded::Coded;
 use crate::members::{Fields, Triple};
 use crate::statics::static_at;
 use app_model::App;
-use dalvik_formats::{Kind, kind_of};
-use dex_code::Insn;
+use dex_code::{Insn, Naming};
 use dex_reader::Dex;
 use std::alloc::Global;
 use std::collections::BTreeSet;
@@ -21,22 +19,13 @@ use vet_base::Memory;
 
 type Statics = BTreeSet<Triple>;
 
-fn static_index_by(kind: Kind, i: u32) -> Option<u32>
-    ensures { result ≡ static_index_of kind i }
-{
-    match kind {
-        Kind::StaticGet | Kind::StaticPut => Some(i),
-        _ => None,
-    }
-}
-
 /// The field of a static that the instruction names.
 #[tactic(auto, unfolding(crate::specs::StaticList::static_index))]
 fn static_index_at(insn: &Insn) -> Option<u32>
     ensures { result ≡ static_index insn.now }
 {
-    match insn {
-        Insn::F21c(op, _, i) => static_index_by(kind_of(*op), *i),
+    match insn.naming() {
+        Naming::StaticField(i) => Some(i),
         _ => None,
     }
 }

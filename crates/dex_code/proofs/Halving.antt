@@ -1,21 +1,19 @@
 -- What halving finds among lines by ascending pc.
-use Rattle.std.proofs.Common.{◌≡◌, ◌≢◌, ℕ, zero, suc, ◌+◌, ◌-◌, ◌<◌, ◌≤◌, Bool, true, false, List, [], ◌∷◌, length, get_or, Option, Some, None, Result, Ok, Err, IfOk, OnErr, refl, sym, ap, subst, ◌∙◌, arith}
+use Rattle.std.proofs.Common.{◌≡◌, ◌≢◌, ℕ, zero, suc, ◌<◌, ◌≤◌, List, [], ◌∷◌, length, get_or, Some, None, Result, Ok, Err, IfOk, OnErr, refl, sym, ap, ◌∙◌, arith}
 use Rattle.std.specs.List.Sorted.{IsSearchInRange, IsBinarySearchResult, IsNonDecreasingBy}
 use Rattle.std.specs.Ordering.{nat_cmp, ordering_index}
 use Rattle.std.proofs.lemmas.Cmp.{ranked}
 use Rattle.std.proofs.lemmas.List.Sorted.{IsNonDecreasingBy-from_default}
 use Rattle.std.proofs.lemmas.Bool.Decides.{nat_tests}
-use Rattle.std.proofs.lemmas.Grind.{common_steps}
-use Rattle.dex_code.specs.declared.insn.Insn.{Insn}
 use Rattle.dex_code.specs.declared.insn.Insn.TheVariants.{F10x}
 use Rattle.dex_code.specs.Lines.{Line}
 use Rattle.dex_code.specs.Flow.{found}
 use Rattle.dex_code.specs.Find.{AllBehind, Ascend, FoundAt}
 
-abbrev no_line : Line
+abbrev pub no_line : Line
 no_line = (0, F10x 0)
 
-abbrev pc_at : List Line → ℕ → ℕ
+abbrev pub pc_at : List Line → ℕ → ℕ
 pc_at lines i = (get_or lines i no_line).0
 
 behind : (pc : ℕ) (lines : List Line) (j : ℕ) → AllBehind pc lines → j < length lines → pc < pc_at lines j
@@ -24,7 +22,7 @@ behind pc [] j all lt = absurd (omega arith)
 behind pc (line ∷ lines) zero all lt = all.0
 behind pc (line ∷ lines) (suc j) all lt = behind pc lines j all.1 (omega arith)
 
-rise : (lines : List Line) (i j : ℕ) → Ascend lines → i < j → j < length lines → pc_at lines i < pc_at lines j
+pub rise : (lines : List Line) (i j : ℕ) → Ascend lines → i < j → j < length lines → pc_at lines i < pc_at lines j
 unfolding Ascend
 rise [] i j up lt within = absurd (omega arith)
 rise (line ∷ lines) i zero up lt within = absurd (omega arith)
@@ -50,7 +48,7 @@ present (line ∷ lines) pc (suc at) within same none =
     let rest : found lines pc ≡ Some (get_or lines at no_line).1 = present lines pc at (omega arith) same (λ k lt. none (suc k) (omega arith)) in
     grind (arith, nat_tests)
 
-any_default : (lines : List Line) (at : ℕ) (d e : Line) → at < length lines → get_or lines at d ≡ get_or lines at e
+pub any_default : (lines : List Line) (at : ℕ) (d e : Line) → at < length lines → get_or lines at d ≡ get_or lines at e
 any_default [] at d e within = absurd (omega arith)
 any_default (line ∷ lines) zero d e within = refl
 any_default (line ∷ lines) (suc at) d e within = any_default lines at d e (omega arith)

@@ -1,8 +1,8 @@
 -- A sort without repetitions gives the numbers each once, ascending: both lists climb and have the same members.
-use Rattle.std.proofs.Common.{◌≡◌, ◌≢◌, ℕ, zero, suc, ◌+◌, ◌-◌, ◌<◌, ◌≤◌, Bool, true, false, cond, List, [], ◌∷◌, ◌++◌, length, refl, sym, ap, subst, ◌∙◌, arith, eqb, ltb}
+use Rattle.std.proofs.Common.{◌≡◌, ℕ, ◌<◌, ◌≤◌, Bool, true, false, cond, List, [], ◌∷◌, ◌++◌, refl, sym, ap, ◌∙◌, arith, eqb}
 use Rattle.std.specs.Prelude.{nat_lt, ◌==◌, ◌||◌, if◌then◌else◌}
 use Rattle.std.specs.List.{list_any, dedup, dedup_from, AllByRecursion}
-use Rattle.std.specs.List.Sorted.{IsStrictlySortedBy, IsSorted, IsPermutation, IsStrictlyIncreasing}
+use Rattle.std.specs.List.Sorted.{IsStrictlySortedBy, IsSorted, IsPermutation}
 use Rattle.std.specs.Ordering.{nat_cmp}
 use Rattle.std.specs.declared.cmp.Ordering.TheVariants.{Less}
 use Rattle.std.proofs.lemmas.Cmp.{ranked}
@@ -144,3 +144,36 @@ pub ordered : (xs ys : List ℕ) → IsPermutation xs ys → IsSorted nat_cmp ys
 ordered xs ys permutation sorted =
     let climbs : Climbs (dedup eqb ys) = climbs_from (dedup eqb ys) (sorted_from_strictly_increasing (dedup eqb ys) (IsStrictlyIncreasing-dedup ys sorted)) in
     same_climb (dedup eqb ys) (in_order xs) climbs (climbs_in_order xs) (λ n. mem_dedup n ys ∙ sym (list_any-IsPermutation (λ y. y == n) xs ys permutation) ∙ sym (mem_in_order n xs))
+
+-- in order, lists with the same members are the same, so that only members count
+mem_append : (n : ℕ) (xs ys : List ℕ) → mem n (xs ++ ys) ≡ (mem n xs || mem n ys)
+mem_append n [] ys = refl
+mem_append n (x ∷ xs) ys = by_cases (x == n) (mem_append n xs ys)
+  where
+    by_cases : (b : Bool) → mem n (xs ++ ys) ≡ (mem n xs || mem n ys) → (b || mem n (xs ++ ys)) ≡ ((b || mem n xs) || mem n ys)
+    by_cases true later = refl
+    by_cases false later = later
+
+either_way : (p q : Bool) → (p || q) ≡ (q || p)
+either_way true true = refl
+either_way true false = refl
+either_way false true = refl
+either_way false false = refl
+
+members_alone : (xs ys : List ℕ) → ((n : ℕ) → mem n xs ≡ mem n ys) → in_order xs ≡ in_order ys
+members_alone xs ys members = same_climb (in_order xs) (in_order ys) (climbs_in_order xs) (climbs_in_order ys) (λ n. mem_in_order n xs ∙ members n ∙ sym (mem_in_order n ys))
+
+same_members : (xs ys : List ℕ) → in_order xs ≡ in_order ys → (n : ℕ) → mem n xs ≡ mem n ys
+same_members xs ys e n = sym (mem_in_order n xs) ∙ ap (mem n) e ∙ mem_in_order n ys
+
+pub in_order-in_order : (xs : List ℕ) → in_order (in_order xs) ≡ in_order xs
+in_order-in_order xs = members_alone (in_order xs) xs (λ n. mem_in_order n xs)
+
+pub in_order-swap : (xs ys : List ℕ) → in_order (xs ++ ys) ≡ in_order (ys ++ xs)
+in_order-swap xs ys = members_alone (xs ++ ys) (ys ++ xs) (λ n. mem_append n xs ys ∙ either_way (mem n xs) (mem n ys) ∙ sym (mem_append n ys xs))
+
+pub in_order-before : (xs ys zs : List ℕ) → in_order xs ≡ in_order ys → in_order (xs ++ zs) ≡ in_order (ys ++ zs)
+in_order-before xs ys zs e = members_alone (xs ++ zs) (ys ++ zs) (λ n. mem_append n xs zs ∙ ap (λ b. b || mem n zs) (same_members xs ys e n) ∙ sym (mem_append n ys zs))
+
+pub in_order-behind : (zs xs ys : List ℕ) → in_order xs ≡ in_order ys → in_order (zs ++ xs) ≡ in_order (zs ++ ys)
+in_order-behind zs xs ys e = in_order-swap zs xs ∙ in_order-before xs ys zs e ∙ in_order-swap ys zs

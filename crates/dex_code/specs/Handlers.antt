@@ -1,18 +1,17 @@
--- How far the handlers that cover a pc stay the same.
-use Rattle.std.specs.Prelude.{◌≡◌, ◌≤◌, ◌<◌, ℕ, ◌+◌, List, [], ◌∷◌, nat_lt, if◌then◌else◌, min}
+-- Handlers of a range of lines: addresses that all of its lines share, and tries that may cover some of them.
+use Rattle.std.specs.Prelude.{◌≡◌, ◌≤◌, ℕ, List, ◌++◌, map}
 use Rattle.dex_reader.specs.declared.dex.RawTry.{RawTry}
-use Rattle.dex_code.specs.declared.handlers.Catches.{Catches}
-use Rattle.dex_code.specs.Next.{catches_of}
+use Rattle.dex_code.specs.Lines.{Line}
+use Rattle.dex_code.specs.Next.{covering, in_order}
 
--- where a try begins or ends behind a pc
-unfoldable pub edge_of : RawTry → ℕ → ℕ
-edge_of t pc = if nat_lt pc t.start then t.start else if nat_lt pc (t.start + t.count) then t.start + t.count else 4294967296
+-- these addresses and those of the tries that cover a pc
+unfoldable pub catches_beside : List ℕ → List RawTry → ℕ → List ℕ
+catches_beside shared tries pc = in_order (shared ++ covering tries pc)
 
--- the first of these
-unfoldable pub until_of : List RawTry → ℕ → ℕ
-until_of [] pc = 4294967296
-until_of (t ∷ ts) pc = min (edge_of t pc) (until_of ts pc)
+-- the lists of these lines stand behind those before
+abbrev pub AddsCatches : List ℕ → List RawTry → List Line → List (List ℕ) → List (List ℕ) → Type 0
+AddsCatches shared tries lines before after = after ≡ before ++ map (λ (line : Line). catches_beside shared tries line.0) lines
 
--- the handlers hold for each pc of the range
-pub record AreCatches (tries : List RawTry) (catches : Catches) : Type 0 where
-  pub hold : (pc : ℕ) → catches.from ≤ pc → pc < catches.until → catches.pcs ≡ catches_of tries pc
+-- from the first pc to the last, what is shared and what is left stand for the tries
+pub record IsParted (first last : ℕ) (tries : List RawTry) (shared : List ℕ) (left : List RawTry) : Type 0 where
+  pub same : (pc : ℕ) → first ≤ pc → pc ≤ last → catches_beside shared left pc ≡ in_order (covering tries pc)

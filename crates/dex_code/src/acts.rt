@@ -1,5 +1,5 @@
-ghost use Rattle.std.specs.Prelude.{◌≡◌, ◌<◌, [], ◌∷◌, IfOk, IsTrue};
-ghost use Rattle.dex_code.specs.Insns.{opcode_of};
+ghost use Rattle.std.specs.Prelude.{◌≡◌, ◌<◌, [], ◌∷◌, IfOk, IsTrue, length};
+ghost use Rattle.dex_code.specs.Insns.{kind_of, opcode_of};
 ghost use Rattle.dex_code.specs.Acts.{act_of, act_with, arguments_of, begins_wide, call_kind_of, class_act, field_act, naming_of, operands_of, plain_act, range_of, static_act, suits, wide_with, written};
 
 use crate::insn::Insn;
@@ -185,6 +185,27 @@ fn call_kind(kind: Kind) -> CallKind
         Kind::InvokeStatic => CallKind::Static,
         Kind::InvokeInterface => CallKind::Interface,
         _ => CallKind::Virtual,
+    }
+}
+
+impl Insn {
+    /// How many arguments a call has, or how many elements a new array.
+    #[tactic(auto, using(crate::proofs::Payloads::range_length))]
+    pub fn argument_count(&self) -> usize
+        ensures { result ≡ length (arguments_of self.now) }
+    {
+        match self {
+            Insn::F35c(_, _, registers) => registers.len(),
+            Insn::F3rc(_, _, _, count) => usize::from(*count),
+            _ => 0,
+        }
+    }
+
+    /// How a call finds its method.
+    pub fn call_kind(&self) -> CallKind
+        ensures { result ≡ call_kind_of (kind_of self.now) }
+    {
+        call_kind(self.kind())
     }
 }
 

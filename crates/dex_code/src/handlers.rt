@@ -1,54 +1,21 @@
-ghost use Rattle.std.specs.Prelude.{◌≡◌, ◌++◌, IfOk, OnOk, min};
-ghost use Rattle.dex_code.specs.Handlers.{AreCatches, edge_of, until_of};
-ghost use Rattle.dex_code.specs.Next.{addresses, catches_of, covered, covering, covers};
+ghost use Rattle.std.specs.Prelude.{◌≡◌, ◌↔◌, ◌+◌, ◌<◌, ◌≤◌, ◌++◌, ◌∷◌, [], IfOk, IsTrue, List, OnOk, map, true};
+ghost use Rattle.dex_reader.specs.declared.dex.RawTry.{RawTry};
+ghost use Rattle.dex_code.specs.Find.{Ascend};
+ghost use Rattle.dex_code.specs.Handlers.{AddsCatches, catches_beside, IsParted};
+ghost use Rattle.dex_code.specs.Lines.{Line};
+ghost use Rattle.dex_code.specs.Next.{addresses, catches_of, covered, covering, covers, in_order};
 
+use crate::insn::Insn;
 use crate::order::put_in_order;
 use dex_reader::RawTry;
 use std::alloc::{AllocError, Global};
 use vet_base::{Memory, Seq};
-
-/// The addresses of the handlers that cover each pc from `from` on and below `until`, each once, ascending.
-#[derive(Debug, Drop)]
-pub struct Catches {
-    pub from: u32,
-    pub until: u64,
-    pub pcs: Seq<u32>,
-}
-
-impl Catches {
-    /// Those of no pc.
-    pub fn new(alloc: Global) -> Catches
-        ensures { (tries : _) → AreCatches tries result }
-    {
-        Catches {
-            from: 0,
-            until: 0,
-            pcs: Seq::new(alloc),
-        }
-    }
-}
 
 /// Whether a try covers a pc.
 fn is_covered(item: &RawTry, pc: u32) -> bool
     ensures { result ≡ covers item.now pc }
 {
     item.start <= pc && u64::from(pc) < u64::from(item.start) + u64::from(item.count)
-}
-
-/// Where a try begins or ends behind a pc.
-#[tactic(auto, unfolding(crate::specs::Handlers::edge_of))]
-fn next_edge(item: &RawTry, pc: u32) -> u64
-    ensures { result ≡ edge_of item.now pc }
-{
-    let start = u64::from(item.start);
-    let end = start + u64::from(item.count);
-    if u64::from(pc) < start {
-        start
-    } else if u64::from(pc) < end {
-        end
-    } else {
-        0x1_0000_0000
-    }
 }
 
 /// Adds the addresses of a try's handlers, the catch-all included.
@@ -65,61 +32,179 @@ fn push_addresses(found: &mut Vec<u32>, item: &RawTry) -> Result<(), AllocError>
     Ok(())
 }
 
-/// Adds a try's addresses where it covers the pc, and gives the first edge of a try that is known behind the pc.
-fn scan_one(found: &mut Vec<u32>, until: u64, item: &RawTry, pc: u32) -> Result<u64, AllocError>
-    ensures found { OnOk result (found.new.items ≡ found.old.items ++ covered item.now pc) }
-    ensures until { IfOk result (λ u. u ≡ min until (edge_of item.now pc)) }
+/// Adds the addresses of a try where it covers the pc.
+fn push_covered(found: &mut Vec<u32>, item: &RawTry, pc: u32) -> Result<(), AllocError>
+    ensures { OnOk result (found.new.items ≡ found.old.items ++ covered item.now pc) }
 {
     if is_covered(item, pc) {
         push_addresses(found, item)?;
     }
-    let edge = next_edge(item, pc);
-    Ok(if edge < until { edge } else { until })
+    Ok(())
 }
 
-/// The addresses of the handlers that cover a pc, and the first pc behind where a try begins or ends.
-fn scan(alloc: Global, tries: &[RawTry], pc: u32) -> Result<(Vec<u32>, u64), AllocError>
-    ensures found { IfOk result (λ r. r.0.items ≡ covering tries.now pc) }
-    ensures until { IfOk result (λ r. r.1 ≡ until_of tries.now pc) }
+/// Adds the addresses of the tries that cover a pc.
+fn push_covering(found: &mut Vec<u32>, tries: &[&RawTry], pc: u32) -> Result<(), AllocError>
+    ensures { OnOk result (found.new.items ≡ found.old.items ++ covering (map (λ t. t.now) tries.now) pc) }
 {
-    let mut found = Vec::new(alloc);
-    let mut until = 0x1_0000_0000;
-    for item in tries {
-        until = scan_one(&mut found, until, item, pc)?;
+    for &item in tries {
+        push_covered(found, item, pc)?;
     }
-    Ok((found, until))
+    Ok(())
 }
 
-/// The addresses of the handlers that cover a pc, and how far they hold.
-#[tactic(auto, unfolding(crate::specs::Next::catches_of))]
-fn catches_from(alloc: Global, tries: &[RawTry], pc: u32) -> Result<Catches, AllocError>
-    ensures from { IfOk result (λ c. c.from ≡ pc) }
-    ensures here { IfOk result (λ c. c.pcs ≡ catches_of tries.now pc) }
-    ensures until { IfOk result (λ c. c.until ≡ until_of tries.now pc) }
+/// The handlers of one pc.
+#[tactic(auto, unfolding(crate::specs::Handlers::catches_beside))]
+fn catches_here(
+    alloc: Global,
+    shared: &[u32],
+    tries: &[&RawTry],
+    pc: u32,
+) -> Result<Seq<u32>, AllocError>
+    ensures { IfOk result (λ s. s ≡ catches_beside shared.now (map (λ t. t.now) tries.now) pc) }
 {
-    let (mut found, until) = scan(alloc, tries, pc)?;
+    let mut found = shared.to_vec(alloc)?;
+    push_covering(&mut found, tries, pc)?;
     put_in_order(&mut found);
-    Ok(Catches {
-        from: pc,
-        until,
-        pcs: Seq::from_vec(found),
-    })
+    Ok(Seq::from_vec(found))
 }
 
-/// The addresses of the handlers that cover a pc. Where the last answer still holds it is given back, so that pcs in
-/// ascending order cost a look at all tries only where one begins or ends.
-pub fn catches_at(
+/// Adds the handlers of each line, one line after the other.
+fn push_each(
+    alloc: Global,
+    shared: &[u32],
+    tries: &[&RawTry],
+    lines: &[(u32, Insn)],
+    found: &mut Vec<Seq<u32>>,
+) -> Result<(), AllocError>
+    ensures { OnOk result (AddsCatches shared.now (map (λ t. t.now) tries.now) lines.now found.old.items found.new.items) }
+{
+    for line in lines {
+        found.push(catches_here(alloc, shared, tries, line.0)?)?;
+    }
+    Ok(())
+}
+
+/// Adds the same addresses for each line.
+fn push_copies(
+    alloc: Global,
+    shared: &[u32],
+    lines: &[(u32, Insn)],
+    found: &mut Vec<Seq<u32>>,
+) -> Result<(), AllocError>
+    ensures { OnOk result (found.new.items ≡ found.old.items ++ map (λ (line : Line). shared.now) lines.now) }
+{
+    for _ in lines {
+        found.push(Seq::from_vec(shared.to_vec(alloc)?))?;
+    }
+    Ok(())
+}
+
+/// Whether a try covers two pcs, and so each between them.
+fn covers_both(item: &RawTry, first: u32, last: u32) -> bool
+    ensures { IsTrue result ↔ (covers item.now first ≡ true × covers item.now last ≡ true) }
+{
+    is_covered(item, first) && is_covered(item, last)
+}
+
+/// Whether a try begins up to the last pc and ends behind the first: any other covers none of them.
+fn meets(item: &RawTry, first: u32, last: u32) -> bool
+    ensures { IsTrue result ↔ (item.now.start ≤ last × first < item.now.start + item.now.count) }
+{
+    item.start <= last && u64::from(first) < u64::from(item.start) + u64::from(item.count)
+}
+
+/// Of the pcs from the first to the last: shares the addresses of a try that covers all, and leaves one that may cover some.
+fn part_one<'a>(
+    shared: &mut Vec<u32>,
+    left: &mut Vec<&'a RawTry>,
+    item: &'a RawTry,
+    first: u32,
+    last: u32,
+) -> Result<(), AllocError>
+    ensures { OnOk result ((tries : List RawTry) → IsParted first last tries shared.old.items (map (λ t. t.now) left.old.items) → IsParted first last (tries ++ item.now ∷ []) shared.new.items (map (λ t. t.now) left.new.items)) }
+{
+    if covers_both(item, first, last) {
+        push_addresses(shared, item)?;
+    } else if meets(item, first, last) {
+        left.push(item)?;
+    }
+    Ok(())
+}
+
+/// The addresses that the tries give all pcs from the first to the last, and the tries that may cover only some.
+fn parted<'a>(
+    alloc: Global,
+    tries: &[&'a RawTry],
+    first: u32,
+    last: u32,
+) -> Result<(Vec<u32>, Vec<&'a RawTry>), AllocError>
+    ensures { IfOk result (λ r. IsParted first last (map (λ t. t.now) tries.now) r.0.items (map (λ t. t.now) r.1.items)) }
+{
+    let mut shared = Vec::new(alloc);
+    let mut left = Vec::new(alloc);
+    for &item in tries {
+        part_one(&mut shared, &mut left, item, first, last)?;
+    }
+    Ok((shared, left))
+}
+
+/// More addresses beside these, in order.
+fn merged(shared: &[u32], mut more: Vec<u32>) -> Result<Vec<u32>, AllocError>
+    ensures { IfOk result (λ v. v.items ≡ in_order (more.items ++ shared.now)) }
+{
+    more.extend_from_slice(shared)?;
+    put_in_order(&mut more);
+    Ok(more)
+}
+
+/// Adds the handlers of each line, by halving the lines: what covers a whole part is shared, and only tries that begin
+/// or end within it are looked at again.
+fn fill(
+    alloc: Global,
+    shared: &[u32],
+    tries: &[&RawTry],
+    lines: &[(u32, Insn)],
+    found: &mut Vec<Seq<u32>>,
+) -> Result<(), AllocError>
+    requires rise { Ascend lines.now }
+    requires order { in_order shared.now ≡ shared.now }
+    ensures { OnOk result (AddsCatches shared.now (map (λ t. t.now) tries.now) lines.now found.old.items found.new.items) }
+{
+    if tries.is_empty() {
+        return push_copies(alloc, shared, lines, found);
+    }
+    if lines.len() < 2 {
+        return push_each(alloc, shared, tries, lines, found);
+    }
+    let (more, left) = parted(alloc, tries, lines[0].0, lines[lines.len() - 1].0)?;
+    let (lower, upper) = lines.split_at(lines.len() / 2);
+    if more.is_empty() {
+        fill(alloc, shared, &left, lower, found)?;
+        return fill(alloc, shared, &left, upper, found);
+    }
+    let all = merged(shared, more)?;
+    fill(alloc, &all, &left, lower, found)?;
+    fill(alloc, &all, &left, upper, found)
+}
+
+/// Each try by reference.
+fn references(alloc: Global, tries: &[RawTry]) -> Result<Vec<&RawTry>, AllocError>
+    ensures { IfOk result (λ v. map (λ t. t.now) v.items ≡ tries.now) }
+{
+    tries.iter().collect(alloc)
+}
+
+/// The addresses of the handlers that cover each line, each once, ascending.
+pub fn catches_of_lines(
     alloc: Global,
     tries: &[RawTry],
-    last: Catches,
-    pc: u32,
-) -> Result<Catches, Memory>
-    requires { AreCatches tries.now last }
-    ensures here { IfOk result (λ c. c.pcs ≡ catches_of tries.now pc) }
-    ensures are { IfOk result (AreCatches tries.now) }
+    lines: &[(u32, Insn)],
+) -> Result<Vec<Seq<u32>>, Memory>
+    requires { Ascend lines.now }
+    ensures { IfOk result (λ v. v.items ≡ map (λ (line : Line). catches_of tries.now line.0) lines.now) }
 {
-    if last.from <= pc && u64::from(pc) < last.until {
-        return Ok(last);
-    }
-    Ok(catches_from(alloc, tries, pc)?)
+    let all = references(alloc, tries)?;
+    let mut found = Vec::new(alloc);
+    fill(alloc, &[], &all, lines, &mut found)?;
+    Ok(found)
 }

@@ -23,7 +23,7 @@ mod units;
 pub use acts::act_for;
 pub use decoder::{Counts, Decoded, decode};
 pub use fault::CodeFault;
-pub use handlers::{Catches, catches_at};
+pub use handlers::catches_of_lines;
 pub use insn::Insn;
 pub use names::{Named, Naming};
 pub use next::next_of_line;

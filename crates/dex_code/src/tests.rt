@@ -168,30 +168,112 @@ fn next_lines_of_switches(rt: HostRuntime) -> Result<(), Fail> {
     Ok(())
 }
 
+/// A try over `count` units from `start` on.
+fn try_of(
+    alloc: Global,
+    start: u32,
+    count: u16,
+    addresses: &[u32],
+    catch_all: Option<u32>,
+) -> Result<RawTry, AllocError> {
+    let mut handlers = Vec::new(alloc);
+    for &address in addresses {
+        handlers.push((0, address))?;
+    }
+    Ok(RawTry {
+        start,
+        count,
+        handlers: Seq::from_vec(handlers),
+        catch_all,
+    })
+}
+
+/// The code of so many `nop`, a line each, and a `return-void`.
+fn nops(alloc: Global, count: usize) -> Result<RawCode, AllocError>
+    ensures { IfOk result (λ c. c.tries ≡ []) }
+{
+    let mut units = Vec::new(alloc);
+    for _ in 0..count {
+        units.push(0x0000)?;
+    }
+    units.push(0x000E)?;
+    code_of(alloc, &units)
+}
+
+fn are_catches(found: &[Seq<u32>], expected: &[&[u32]]) -> bool {
+    found.len() == expected.len()
+        && found
+            .iter()
+            .zip(expected)
+            .all(|(catches, addresses)| catches.as_slice() == *addresses)
+}
+
 #[test]
 fn handlers_of_two_tries(rt: HostRuntime) -> Result<(), Fail> {
     let alloc = rt.alloc();
-    let first = RawTry {
-        start: 0,
-        count: 4,
-        handlers: Seq::from_vec(vec![in alloc; (0, 9), (1, 7)]?),
-        catch_all: Some(8),
-    };
-    let second = RawTry {
-        start: 2,
-        count: 3,
-        handlers: Seq::from_vec(vec![in alloc; (0, 7)]?),
-        catch_all: None,
-    };
-    let tries = [first, second];
-    let before = catches_at(alloc, &tries, Catches::new(alloc), 1)?;
-    assert!(rt; before.pcs.as_slice() == [7, 8, 9].as_slice());
-    let both = catches_at(alloc, &tries, before, 3)?;
-    assert!(rt; both.pcs.as_slice() == [7, 8, 9].as_slice());
-    let one = catches_at(alloc, &tries, both, 4)?;
-    assert!(rt; one.pcs.as_slice() == [7].as_slice());
-    let none = catches_at(alloc, &tries, one, 5)?;
-    assert!(rt; none.pcs.is_empty());
+    let tries = [
+        try_of(alloc, 0, 4, &[9, 7], Some(8))?,
+        try_of(alloc, 2, 3, &[7], None)?,
+    ];
+    let code = nops(alloc, 5)?;
+    assert!(rt; code.units.len() == 6);
+    let decoded = decode(alloc, &code, &NONE)?;
+    let found = catches_of_lines(alloc, &tries, decoded.lines.as_slice())?;
+    let both: &[u32] = &[7, 8, 9];
+    assert!(rt; are_catches(&found, &[both, both, both, both, &[7], &[]]));
+    Ok(())
+}
+
+/// The first try covers 0 to 5, the second 2 and 3, the third 3 to 7, the fourth nothing and the fifth 7 and 8.
+#[test]
+fn handlers_of_overlapping_tries(rt: HostRuntime) -> Result<(), Fail> {
+    let alloc = rt.alloc();
+    let tries = [
+        try_of(alloc, 0, 6, &[20], Some(10))?,
+        try_of(alloc, 2, 2, &[30], None)?,
+        try_of(alloc, 3, 5, &[10, 40], None)?,
+        try_of(alloc, 5, 0, &[50], None)?,
+        try_of(alloc, 7, 2, &[], Some(20))?,
+    ];
+    let code = nops(alloc, 9)?;
+    assert!(rt; code.units.len() == 10);
+    let decoded = decode(alloc, &code, &NONE)?;
+    let found = catches_of_lines(alloc, &tries, decoded.lines.as_slice())?;
+    let first: &[u32] = &[10, 20];
+    let expected = [
+        first,
+        first,
+        &[10, 20, 30],
+        &[10, 20, 30, 40],
+        &[10, 20, 40],
+        &[10, 20, 40],
+        &[10, 40],
+        &[10, 20, 40],
+        &[20],
+        &[],
+    ];
+    assert!(rt; are_catches(&found, &expected));
+    Ok(())
+}
+
+/// 65,535 tries over 65,535 lines, of which each covers all lines from its own on.
+#[test]
+fn many_tries_are_quick(rt: HostRuntime) -> Result<(), Fail> {
+    let alloc = rt.alloc();
+    let mut tries = Vec::new(alloc);
+    for start in 0..65_535u32 {
+        tries.push(try_of(alloc, start, 65_535, &[3], None)?)?;
+    }
+    let code = nops(alloc, 65_534)?;
+    assert!(rt; code.units.len() == 65_535);
+    let decoded = decode(alloc, &code, &NONE)?;
+    let found = catches_of_lines(alloc, &tries, decoded.lines.as_slice())?;
+    assert!(rt; found.len() == 65_535);
+    assert!(rt;
+        found
+            .iter()
+            .all(|catches| catches.as_slice() == [3].as_slice())
+    );
     Ok(())
 }
 
