@@ -16,6 +16,7 @@ pub mod Linked
 pub mod Lookups
 pub mod Narrowed
 pub mod OneAnswer
+pub mod OneHierarchy
 pub mod Ordered
 pub mod Places
 pub mod Providers
