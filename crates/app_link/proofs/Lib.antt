@@ -1,3 +1,4 @@
+pub mod Asked
 pub mod Best
 pub mod Blamed
 pub mod Climbing
@@ -14,6 +15,7 @@ pub mod Keeps
 pub mod KeyOrder
 pub mod Linked
 pub mod Lookups
+pub mod Meeting
 pub mod Narrowed
 pub mod OneAnswer
 pub mod Ordered
@@ -22,7 +24,6 @@ pub mod Providers
 pub mod Ranges
 pub mod Rounds
 pub mod Search
-pub mod Searched
 pub mod Settling
 pub mod ShortCodes
 pub mod SoundCoded

@@ -45,8 +45,9 @@ fn add_new(
     Ok(())
 }
 
+/// Puts those of the names that are new behind the others.
 #[tactic(auto, using(crate::proofs::FoldsOn::onto_begins, crate::proofs::FoldsOn::onto_goes_on, crate::proofs::FoldsOn::onto_is_done))]
-fn add_all(
+pub fn add_all(
     alloc: Global,
     names: &[Name],
     seen: &mut BTreeSet<Name>,
