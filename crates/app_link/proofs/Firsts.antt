@@ -1,6 +1,6 @@
 -- Names of which each is kept where it first comes.
 use Rattle.std.proofs.Common.{◌≡◌, ◌+◌, Bool, true, false, cond, List, [], ◌∷◌, ◌++◌, append_assoc, length, length-append, refl, sym, ◌∙◌, ap, subst, ◌⊎◌, inl, inr, arith}
-use Rattle.std.specs.Prelude.{fold, flat_map, not, ◌||◌}
+use Rattle.std.specs.Prelude.{fold, not, ◌||◌}
 use Rattle.std.specs.BTreeMap.{is_at}
 use Rattle.std.proofs.lemmas.List.{append-nil}
 use Rattle.std.proofs.lemmas.List.Folds.{list_any-append}
@@ -9,6 +9,7 @@ use Rattle.app_model.specs.Names.{Name}
 use Rattle.app_model.specs.Sound.{name_order}
 use Rattle.app_model.proofs.Elements.{Apart, in_either, passes_if}
 use Rattle.app_link.specs.Hierarchy.{SameNames, add_once, is_among, firsts}
+use Rattle.app_link.proofs.FoldsOn.{fold_joined}
 use Rattle.app_link.proofs.Lookups.{eq_names, at_itself, cond_true, cond_false, split}
 
 pub at_either : (a b : Name) → is_at (name_order a) b ≡ is_at (name_order b) a
@@ -60,15 +61,6 @@ adds_new seen names name same fresh = sym (cond_false (is_among names name) name
 
 pub adds_none : (seen names : List Name) (name : Name) → SameNames seen names → is_among seen name ≡ true → names ≡ add_once names name
 adds_none seen names name same old = sym (cond_true (is_among names name) names (names ++ name ∷ []) (sym (same.each name) ∙ old))
-
-pub fold_joined : {A B : Type 0} (f : B → A → B) (value : B) (xs ys : List A) → fold f value (xs ++ ys) ≡ fold f (fold f value xs) ys
-fold_joined f value [] ys = refl
-fold_joined f value (x ∷ xs) ys = fold_joined f (f value x) xs ys
-
--- a list for each name, folded one after the other
-pub folded : (give : Name → List Name) (value : List Name) (names : List Name) → fold (λ (so_far : List Name) (name : Name). fold add_once so_far (give name)) value names ≡ fold add_once value (flat_map give names)
-folded give value [] = refl
-folded give value (name ∷ names) = folded give (fold add_once value (give name)) names ∙ sym (fold_joined add_once value (give name) (flat_map give names))
 
 pub firsts_joined : (xs ys : List Name) → firsts (xs ++ ys) ≡ fold add_once (firsts xs) ys
 unfolding firsts

@@ -10,6 +10,7 @@ pub mod Folds
 pub mod FoldsOn
 pub mod Frame
 pub mod FrameSound
+pub mod Inserted
 pub mod Joined
 pub mod Keeps
 pub mod KeyOrder

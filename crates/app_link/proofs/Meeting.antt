@@ -120,13 +120,16 @@ module _ (app : App) (class : Name) where
     none_beyond fixed zero = record { rest = names; is = refl }
     none_beyond fixed (suc n) = subst (λ (ns : List Name). Begins (turns (suc n)) ns) (sym fixed) (turn_begins (turns n) names (none_beyond fixed n))
 
+    pub meets_no_more : length names ≤ i → names ≡ turn names
+    meets_no_more past = meets.is ∙ ap turn (take_all i names past)
+
     pub meets_all : length names ≤ i → names ≡ met app class
     unfolding met
     meets_all past =
         let most : ℕ = length (all_named app) in
         let whole : take i names ≡ names = take_all i names past in
         let few : length names ≤ most = few_met in
-        let fixed : names ≡ turn names = meets.is ∙ ap turn whole in
+        let fixed : names ≡ turn names = meets_no_more past in
         let there : Begins names (turns i) = subst (λ (ns : List Name). Begins ns (turns i)) whole meets.reached in
         let within : i ≤ length names = meets.within in
         let left : most ≡ (most - i) + i = omega (arith, few, within) in

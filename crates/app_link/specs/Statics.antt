@@ -35,12 +35,12 @@ first_interfaces app class = flat_map own_interfaces (up app class)
 unfoldable pub interfaces_named : App → Name → List Name
 interfaces_named app name = elim (class_named app name) [ None ↦ [] | Some class ↦ class.interfaces ]
 
--- the interfaces met in so many turns: these first, and behind them the own interfaces of those met a turn earlier, each once
+-- the interfaces met in so many turns: in each these first, and behind them the own interfaces of all that were met before, each once
 unfoldable pub met_within : App → List Name → ℕ → List Name
 met_within app first zero = []
 met_within app first (suc n) = firsts (first ++ flat_map (interfaces_named app) (met_within app first n))
 
--- all interfaces met from a class on: after as many turns as classes of the app name interfaces there is no new one
+-- all interfaces met from a class upward: no more turns meet a new one than the classes of the app name interfaces
 unfoldable pub met : App → Name → List Name
 met app class = met_within app (first_interfaces app class) (length (flat_map own_interfaces app.classes))
 

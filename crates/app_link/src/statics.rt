@@ -1,12 +1,12 @@
 //! The fields that references to static fields stand for, and their numbers.
 
-ghost use Rattle.std.specs.Prelude.{◌≡◌, ◌++◌, IfOk, OnOk, filter_map, fold, unwrap_or};
+ghost use Rattle.std.specs.Prelude.{◌≡◌, ◌++◌, IfOk, OnOk, filter_map, flat_map, fold, unwrap_or};
 ghost use Rattle.std.specs.Option.{option_copied};
 ghost use Rattle.app_model.specs.Members.{first_given};
 ghost use Rattle.app_model.specs.Lookups.{class_named, up};
 ghost use Rattle.app_model.specs.Sound.{SoundApp, name_order};
 ghost use Rattle.app_link.specs.Orders.{named_triple};
-ghost use Rattle.app_link.specs.Hierarchy.{SameNames, add_once};
+ghost use Rattle.app_link.specs.Hierarchy.{SameNames, add_once, firsts};
 ghost use Rattle.app_link.specs.Statics.{class_of_static, classes_asked, defines, first_interfaces, interfaces_named, is_true, met, number_among, number_of, own_name, resolved};
 ghost use Rattle.app_link.specs.StaticsInOrder.{StaticsInOrder};
 ghost use Rattle.app_link.specs.Texts.{field_of};
@@ -166,7 +166,10 @@ fn add_interfaces(
 #[tactic(auto, using(crate::proofs::Firsts::none_same))]
 fn interfaces_met(alloc: Global, app: &App, class: &[u8]) -> Result<Vec<Name>, Memory>
     requires { SoundApp app.now }
-    ensures { IfOk result (λ v. v.items ≡ met app.now class.now) }
+    ensures met { IfOk result (λ v. v.items ≡ met app.now class.now) }
+
+    // One more turn meets no new one.
+    ensures no_more { IfOk result (λ v. firsts (first_interfaces app.now class.now ++ flat_map (interfaces_named app.now) v.items) ≡ v.items) }
 {
     let first = interfaces_upward(alloc, app, class)?;
     let mut seen = BTreeSet::new(alloc);

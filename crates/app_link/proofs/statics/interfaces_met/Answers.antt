@@ -1,7 +1,7 @@
-use Rattle.std.proofs.Common.{◌≡◌, ◌<◌, ◌≤◌, length, get_or, ◌∙◌, arith}
+use Rattle.std.proofs.Common.{◌≡◌, ◌<◌, ◌≤◌, length, get_or, sym, ◌∙◌, arith}
 use Rattle.std.specs.Prelude.{flat_map}
 use Rattle.app_link.specs.Statics.{own_interfaces}
-use Rattle.app_link.proofs.Meeting.{meets_first, meets_next, meets_all, few_met}
+use Rattle.app_link.proofs.Meeting.{meets_first, meets_next, meets_all, meets_no_more, few_met}
 use Rattle.app_link.proofs.statics.interfaces_met.Goals as goal
 
 pub loop-i-init : goal.loop-i-init
@@ -25,7 +25,12 @@ loop-i-preserved c =
       meets = meets_next c.args.app.now c.args.class.now c.loop-i.i c.loop-i.names.items c.loop-i.invariant.meets c.in_ok-name.name c.add_interfaces.new.names.items more item c.in_ok-add_interfaces.ensures.names;
     }
 
-pub returns : goal.returns
-returns c =
+pub returns-clause-met : goal.returns-clause-met
+returns-clause-met c =
     let past : length c.loop-i.names.items ≤ c.loop-i.i = omega (arith, c.len.ensures, c.loop-i-test.false) in
     meets_all c.args.app.now c.args.class.now c.loop-i.i c.loop-i.names.items c.loop-i.invariant.meets past
+
+pub returns-clause-no_more : goal.returns-clause-no_more
+returns-clause-no_more c =
+    let past : length c.loop-i.names.items ≤ c.loop-i.i = omega (arith, c.len.ensures, c.loop-i-test.false) in
+    sym (meets_no_more c.args.app.now c.args.class.now c.loop-i.i c.loop-i.names.items c.loop-i.invariant.meets past)
