@@ -1,7 +1,7 @@
 -- The methods of files are listed by the texts of their descriptors.
 use Rattle.std.proofs.Common.{◌≡◌, ℕ, Bool, true, false, not, Ok, List, [], ◌∷◌, refl, sym, ap, subst, ◌∙◌, inl, inr}
 use Rattle.std.specs.BTreeMap.{insert_entry}
-use Rattle.std.specs.Ordering.{match_ordering, ordering_then, is_eq}
+use Rattle.std.specs.Ordering.{match_ordering}
 use Rattle.std.specs.declared.cmp.Ordering.{Ordering}
 use Rattle.std.specs.declared.cmp.Ordering.TheVariants.{Less, Equal, Greater}
 use Rattle.vet_base.specs.Script.{Value, ◌>>=◌, run}
@@ -12,7 +12,6 @@ use Rattle.dex_code.proofs.Runs.{first_gave, passed}
 use Rattle.app_model.specs.declared.papers.Manifest.{Manifest}
 use Rattle.app_model.specs.Members.{In}
 use Rattle.app_model.specs.Names.{Name, descriptor_of}
-use Rattle.app_model.specs.Sound.{name_order}
 use Rattle.app_link.specs.declared.fault.Fault.{Fault}
 use Rattle.app_link.specs.declared.members.Listed.{Listed}
 use Rattle.app_link.specs.declared.members.Place.{Place}
