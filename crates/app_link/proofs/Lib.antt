@@ -1,3 +1,4 @@
+pub mod Asked
 pub mod Best
 pub mod Blamed
 pub mod Climbing
@@ -9,11 +10,13 @@ pub mod Folds
 pub mod FoldsOn
 pub mod Frame
 pub mod FrameSound
+pub mod Inserted
 pub mod Joined
 pub mod Keeps
 pub mod KeyOrder
 pub mod Linked
 pub mod Lookups
+pub mod Meeting
 pub mod Narrowed
 pub mod OneAnswer
 pub mod OneHierarchy
@@ -23,7 +26,6 @@ pub mod Providers
 pub mod Ranges
 pub mod Rounds
 pub mod Search
-pub mod Searched
 pub mod Settling
 pub mod ShortCodes
 pub mod SoundCoded

@@ -7,10 +7,10 @@ use Rattle.std.specs.Ordering.{ordering_then}
 use Rattle.std.specs.declared.cmp.Ordering.{Ordering}
 use Rattle.std.specs.declared.cmp.Ordering.TheVariants.{Less, Equal, Greater}
 use Rattle.std.proofs.lemmas.Cmp.{nat_list_cmp_total, then_total, on_total}
-use Rattle.app_model.specs.Names.{same_name}
+use Rattle.app_model.specs.Names.{Name, same_name}
 use Rattle.app_model.specs.Sound.{Ascends, name_order}
 use Rattle.app_model.proofs.Halving.{found_at, found_nowhere}
-use Rattle.app_model.proofs.NameOrder.{same_tie, tied_same}
+use Rattle.app_model.proofs.NameOrder.{same_tie, tied_same, same_equal}
 use Rattle.app_link.specs.Texts.{Triple}
 use Rattle.app_link.specs.Orders.{triple_order}
 use Rattle.app_link.specs.Statics.{same_triple, number_among}
@@ -45,6 +45,15 @@ tied_triples_same a b tie =
     let outer = equal_both (ordering_then (name_order a.0 b.0) (name_order a.1 b.1)) (name_order a.2 b.2) tie in
     let inner = equal_both (name_order a.0 b.0) (name_order a.1 b.1) outer.0 in
     joined_true (same_name a.0 b.0 && same_name a.1 b.1) (same_name a.2 b.2) (joined_true (same_name a.0 b.0) (same_name a.1 b.1) (tied_same a.0 b.0 inner.0) (tied_same a.1 b.1 inner.1)) (tied_same a.2 b.2 outer.1)
+
+pub tied_triples_equal : (a b : Triple) → triple_order a b ≡ Equal → a ≡ b
+tied_triples_equal a b tie =
+    let outer = equal_both (ordering_then (name_order a.0 b.0) (name_order a.1 b.1)) (name_order a.2 b.2) tie in
+    let inner = equal_both (name_order a.0 b.0) (name_order a.1 b.1) outer.0 in
+    let first : a.0 ≡ b.0 = same_equal a.0 b.0 (tied_same a.0 b.0 inner.0) in
+    let second : a.1 ≡ b.1 = same_equal a.1 b.1 (tied_same a.1 b.1 inner.1) in
+    let third : a.2 ≡ b.2 = same_equal a.2 b.2 (tied_same a.2 b.2 outer.1) in
+    ap (λ (n : Name). (n, a.1, a.2)) first ∙ (ap (λ (n : Name). (b.0, n, a.2)) second ∙ ap (λ (n : Name). (b.0, b.1, n)) third)
 
 module _ (statics : List Triple) (sorted : Ascends triple_order statics) (at : Triple) where
   pub place_there : (i : ℕ) → i < length statics → IsBinarySearchResult (λ y. triple_order y at) statics (Ok i) → i ≡ number_among statics at
