@@ -11,6 +11,7 @@ use Rattle.app_model.specs.declared.component.Component.{Component}
 use Rattle.app_model.specs.declared.method.Method.{Method}
 use Rattle.app_model.specs.declared.papers.Manifest.{Manifest}
 use Rattle.app_model.specs.declared.papers.Layouts.{Layouts}
+use Rattle.app_model.specs.Members.{In}
 use Rattle.app_model.specs.Names.{Name}
 use Rattle.app_model.specs.Sound.{name_order}
 use Rattle.app_link.specs.declared.fault.Fault.{Fault}
@@ -28,9 +29,10 @@ use Rattle.app_link.specs.Limits.{within_limits}
 use Rattle.app_link.specs.Methods.{all_methods}
 use Rattle.app_link.specs.OneAnswer.{OneAnswer, OnlyApp}
 use Rattle.app_link.specs.Settled.{Outers, AllSettled, filled_by}
-use Rattle.app_link.specs.StaticList.{all_statics}
+use Rattle.app_link.specs.StaticList.{statics_named}
 use Rattle.app_link.specs.Texts.{Triple}
 use Rattle.app_link.proofs.OneHierarchy.{classes_are, one_circle}
+use Rattle.app_link.proofs.Places.{ascending_alike}
 
 ok_or_err : {A F : Type 0} (r : Result A F) (x : A) (e : F) → r ≡ Ok x → r ≡ Err e → ⊥
 ok_or_err r x e is fails = let both : Ok x ≡ Err e = sym is ∙ fails in absurd cc
@@ -145,12 +147,15 @@ module _ (dexes : List Dex) (manifest : Manifest) (layouts : Layouts) (gathered 
     same_before : before_code a ≡ before_code b
     same_before = same_app (before_code a) (before_code b) same_classes refl same_keys refl same_components (one.clicks ∙ sym two.clicks) (one.providers ∙ sym two.providers) (one.layout_classes ∙ sym two.layout_classes)
 
+    same_named : statics_named (before_code a) one.gathered.fields dexes one.coding.0 ≡ statics_named (before_code b) two.gathered.fields dexes two.coding.0
+    same_named =
+        let first : statics_named (before_code a) one.gathered.fields dexes one.coding.0 ≡ statics_named (before_code b) one.gathered.fields dexes one.coding.0 = ap (λ (x : App). statics_named x one.gathered.fields dexes one.coding.0) same_before in
+        let second : statics_named (before_code b) one.gathered.fields dexes one.coding.0 ≡ statics_named (before_code b) two.gathered.fields dexes one.coding.0 = ap (λ (g : Gathered). statics_named (before_code b) g.fields dexes one.coding.0) same_gathered in
+        let third : statics_named (before_code b) two.gathered.fields dexes one.coding.0 ≡ statics_named (before_code b) two.gathered.fields dexes two.coding.0 = ap (λ (c : Coding). statics_named (before_code b) two.gathered.fields dexes c.0) same_coding in
+        first ∙ (second ∙ third)
+
     same_statics : a.statics ≡ b.statics
-    same_statics =
-        let first : all_statics (before_code a) one.gathered.fields dexes one.coding.0 ≡ all_statics (before_code b) one.gathered.fields dexes one.coding.0 = ap (λ (x : App). all_statics x one.gathered.fields dexes one.coding.0) same_before in
-        let second : all_statics (before_code b) one.gathered.fields dexes one.coding.0 ≡ all_statics (before_code b) two.gathered.fields dexes one.coding.0 = ap (λ (g : Gathered). all_statics (before_code b) g.fields dexes one.coding.0) same_gathered in
-        let third : all_statics (before_code b) two.gathered.fields dexes one.coding.0 ≡ all_statics (before_code b) two.gathered.fields dexes two.coding.0 = ap (λ (c : Coding). all_statics (before_code b) two.gathered.fields dexes c.0) same_coding in
-        one.statics ∙ (first ∙ (second ∙ (third ∙ sym two.statics)))
+    same_statics = ascending_alike a.statics b.statics one.statics.order two.statics.order (λ t. (λ k. (two.statics.each t).1 (subst (λ (ts : List Triple). In t ts) same_named ((one.statics.each t).0 k)), λ k. (one.statics.each t).1 (subst (λ (ts : List Triple). In t ts) (sym same_named) ((two.statics.each t).0 k))))
 
     same_methods : a.methods ≡ b.methods
     same_methods =
