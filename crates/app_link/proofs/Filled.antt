@@ -41,11 +41,11 @@ pub same_classes : (outers : Outers) (entries : Entries) → map without_outer (
 same_classes outers [] = refl
 same_classes outers (e ∷ es) = ap (λ (cs : List Class). renamed e ∷ cs) (same_classes outers es)
 
-abbrev outer_if : Outers → Name → Option Class → List Name
+abbrev pub outer_if : Outers → Name → Option Class → List Name
 outer_if outers name None = name ∷ []
 outer_if outers name (Some c) = listed (named outers name)
 
-test_same : (a b : Name) → same_name a b ≡ is_at (name_order b) a
+pub test_same : (a b : Name) → same_name a b ≡ is_at (name_order b) a
 test_same a b = texts_ties a b ∙ at_either a b
 
 -- what a name among the classes gives
@@ -65,7 +65,7 @@ gives_filled outers (e ∷ es) name = elim (split (same_name e.0 name)) [
       ap (λ (o : Option Class). elim o [ None ↦ name ∷ [] | Some c ↦ c.outer ]) one ∙ (gives_filled outers es name ∙ ap (outer_if outers name) (sym two)))
 ]
 
-gives_as : (classes : Entries) (outers : Outers) (name : Name) (o : Option Class) → named classes name ≡ o → outer_if outers name o ≡ gives classes outers name
+pub gives_as : (classes : Entries) (outers : Outers) (name : Name) (o : Option Class) → named classes name ≡ o → outer_if outers name o ≡ gives classes outers name
 unfolding gives
 gives_as classes outers name None e =
     let no : has_name classes name ≡ false = ap (λ (o : Option Class). is_some o) e in

@@ -43,12 +43,12 @@ pub classes_ascend : (list : List Class) (entries : List (Name × Class)) → ma
 classes_ascend list entries same sorted = ascend_by_name list (subst (λ (ns : List Name). IsStrictlySortedBy name_order ns) (sym (names_of list entries same)) sorted)
 
 -- what stands for a class among the entries
-record Entry (entries : List (Name × Class)) (c : Class) : Type 0 where
-  class : Class
-  there : In (c.name, class) entries
-  above : directly_above class ≡ directly_above c
+pub record Entry (entries : List (Name × Class)) (c : Class) : Type 0 where
+  pub class : Class
+  pub there : In (c.name, class) entries
+  pub above : directly_above class ≡ directly_above c
 
-entry_of : (list : List Class) (entries : List (Name × Class)) (c : Class) → map without_outer list ≡ map renamed entries → In c list → Entry entries c
+pub entry_of : (list : List Class) (entries : List (Name × Class)) (c : Class) → map without_outer list ≡ map renamed entries → In c list → Entry entries c
 entry_of [] entries c same k = absurd k
 entry_of (d ∷ ds) [] c same k = absurd cc
 entry_of (d ∷ ds) (e ∷ es) c same (inl k) =

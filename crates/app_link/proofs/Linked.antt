@@ -16,7 +16,7 @@ use Rattle.app_link.specs.Hierarchy.{HasOuters, without_outer, renamed}
 use Rattle.app_link.specs.IsApp.{IsApp}
 use Rattle.app_link.specs.Limits.{within_limits}
 use Rattle.app_link.specs.Methods.{all_methods}
-use Rattle.app_link.specs.StaticList.{all_statics}
+use Rattle.app_link.specs.StaticList.{AreStatics}
 
 within : (dexes : List Dex) (gathered : Gathered) (coding : Coding) (classes methods fields : ℕ) → classes ≡ length gathered.classes → methods ≡ length gathered.methods → fields ≡ length gathered.fields
     → run (within_limits classes methods fields coding.1) ≡ Ok tt → run (within_limits (length gathered.classes) (length gathered.methods) (length gathered.fields) coding.1) ≡ Ok tt
@@ -41,7 +41,7 @@ module _ (dexes : List Dex) (manifest : Manifest) (layouts : Layouts) (gathered 
   pub is_app : (classes methods fields : ℕ) → classes ≡ length gathered.classes → methods ≡ length gathered.methods → fields ≡ length gathered.fields
       → run (gathering dexes manifest) ≡ Ok gathered → run (all_codes dexes gathered.methods) ≡ Ok coding → run (within_limits classes methods fields coding.1) ≡ Ok tt
       → frame.components ≡ gathered.components → frame.clicks ≡ layouts.clicks → frame.providers ≡ providers_of manifest → frame.layout_classes ≡ layouts.classes
-      → app.statics ≡ all_statics frame gathered.fields dexes coding.0 → app.methods ≡ all_methods frame gathered.fields app.statics dexes coding.0
+      → AreStatics frame gathered.fields dexes coding.0 app.statics → app.methods ≡ all_methods frame gathered.fields app.statics dexes coding.0
       → IsApp dexes manifest layouts app
   is_app classes methods fields one two three gathers codes limits components clicks providers layout_classes statics lifted = record {
     gathered = gathered;
@@ -57,6 +57,6 @@ module _ (dexes : List Dex) (manifest : Manifest) (layouts : Layouts) (gathered 
     clicks = ap (λ (a : App). a.clicks) others ∙ clicks;
     providers = ap (λ (a : App). a.providers) others ∙ providers;
     layout_classes = ap (λ (a : App). a.layout_classes) others ∙ layout_classes;
-    statics = statics ∙ ap (λ (a : App). all_statics a gathered.fields dexes coding.0) (sym before);
+    statics = subst (λ (a : App). AreStatics a gathered.fields dexes coding.0 app.statics) (sym before) statics;
     methods = lifted ∙ ap (λ (a : App). all_methods a gathered.fields app.statics dexes coding.0) (sym before);
   }

@@ -1,18 +1,38 @@
--- Files that are an app have no fault.
-use Rattle.std.proofs.Common.{◌≡◌, Result, Ok, Err, List, length, sym, ◌∙◌, ap, subst}
+-- Files are one app or have one first fault, and not both.
+use Rattle.std.proofs.Common.{◌≡◌, Result, Ok, Err, List, [], map, length, refl, sym, ◌∙◌, ap, subst, ◌⊎◌, inl, inr}
+use Rattle.std.specs.List.Sorted.{IsStrictlySortedBy}
+use Rattle.std.specs.Map.{keys_of}
 use Rattle.vet_base.specs.Script.{run}
 use Rattle.dex_reader.specs.declared.dex.Dex.{Dex}
 use Rattle.app_model.specs.declared.app.App.{App}
+use Rattle.app_model.specs.declared.app.Class.{Class}
+use Rattle.app_model.specs.declared.app.Key.{Key}
+use Rattle.app_model.specs.declared.component.Component.{Component}
+use Rattle.app_model.specs.declared.method.Method.{Method}
 use Rattle.app_model.specs.declared.papers.Manifest.{Manifest}
 use Rattle.app_model.specs.declared.papers.Layouts.{Layouts}
+use Rattle.app_model.specs.Members.{In}
+use Rattle.app_model.specs.Names.{Name}
+use Rattle.app_model.specs.Sound.{name_order}
 use Rattle.app_link.specs.declared.fault.Fault.{Fault}
+use Rattle.app_link.specs.declared.fault.Fault.TheVariants.{Circle}
 use Rattle.app_link.specs.Code.{Coding, all_codes}
-use Rattle.app_link.specs.FirstLinkFault.{FirstFault, of_gathering, of_hierarchy, of_code, of_limits}
+use Rattle.app_link.specs.declared.linking.LinkFault.{LinkFault}
+use Rattle.app_link.specs.declared.linking.LinkFault.TheVariants.{Memory as want_of_memory}
+use Rattle.app_link.specs.FirstLinkFault.{FirstFault, FirstLinkFault, of_gathering, of_hierarchy, of_code, of_limits, shown}
+use Rattle.app_link.specs.Frame.{before_code}
 use Rattle.app_link.specs.Gathered.{Gathered, gathering}
-use Rattle.app_link.specs.Hierarchy.{Above}
+use Rattle.app_link.specs.Hierarchy.{Above, NoCircle, IsLeastCircle, without_outer, renamed}
 use Rattle.app_link.specs.IsApp.{IsApp}
+use Rattle.app_link.specs.Keys.{all_keys}
 use Rattle.app_link.specs.Limits.{within_limits}
-use Rattle.app_link.specs.OneAnswer.{OneAnswer}
+use Rattle.app_link.specs.Methods.{all_methods}
+use Rattle.app_link.specs.OneAnswer.{OneAnswer, OnlyApp}
+use Rattle.app_link.specs.Settled.{Outers, AllSettled, filled_by}
+use Rattle.app_link.specs.StaticList.{statics_named}
+use Rattle.app_link.specs.Texts.{Triple}
+use Rattle.app_link.proofs.OneHierarchy.{classes_are, one_circle}
+use Rattle.app_link.proofs.Places.{ascending_alike}
 
 ok_or_err : {A F : Type 0} (r : Result A F) (x : A) (e : F) → r ≡ Ok x → r ≡ Err e → ⊥
 ok_or_err r x e is fails = let both : Ok x ≡ Err e = sym is ∙ fails in absurd cc
@@ -40,3 +60,114 @@ module _ (dexes : List Dex) (manifest : Manifest) (layouts : Layouts) (app : App
 
 pub one_answer : (dexes : List Dex) (manifest : Manifest) (layouts : Layouts) → OneAnswer dexes manifest layouts
 one_answer dexes manifest layouts = record { not_both = λ app fault is f. none dexes manifest layouts app is f.found f.first }
+
+one_error : {A F : Type 0} (r : Result A F) (x y : F) → r ≡ Err x → r ≡ Err y → x ≡ y
+one_error {A = A} r x y a b = ap (λ (s : Result A _). elim s [ Ok _ ↦ x | Err z ↦ z ]) (sym a ∙ b)
+
+module _ (dexes : List Dex) (manifest : Manifest) where
+  -- where the hierarchy has a circle, it is not free of them
+  no_circle : (one two : Gathered) (name : Name) → run (gathering dexes manifest) ≡ Ok one → run (gathering dexes manifest) ≡ Ok two → IsLeastCircle one.classes name → NoCircle two.classes → ⊥
+  no_circle one two name a b circle none = none.none name (subst (λ (g : Gathered). Above g.classes name name) (one_value (run (gathering dexes manifest)) one two a b) circle.circle)
+
+  -- the code of files that were gathered is one result
+  codes_as : (one two : Gathered) (r : Result Coding Fault) → run (gathering dexes manifest) ≡ Ok one → run (gathering dexes manifest) ≡ Ok two → run (all_codes dexes one.methods) ≡ r → run (all_codes dexes two.methods) ≡ r
+  codes_as one two r a b e = subst (λ (g : Gathered). run (all_codes dexes g.methods) ≡ r) (one_value (run (gathering dexes manifest)) one two a b) e
+
+  limits_as : (one two : Gathered) (c d : Coding) (r : Result (Unit {0}) Fault) → run (gathering dexes manifest) ≡ Ok one → run (gathering dexes manifest) ≡ Ok two → c ≡ d
+      → run (within_limits (length one.classes) (length one.methods) (length one.fields) c.1) ≡ r → run (within_limits (length two.classes) (length two.methods) (length two.fields) d.1) ≡ r
+  limits_as one two c d r a b same e =
+      let k : run (within_limits (length two.classes) (length two.methods) (length two.fields) c.1) ≡ r = subst (λ (g : Gathered). run (within_limits (length g.classes) (length g.methods) (length g.fields) c.1) ≡ r) (one_value (run (gathering dexes manifest)) one two a b) e in
+      subst (λ (x : Coding). run (within_limits (length two.classes) (length two.methods) (length two.fields) x.1) ≡ r) same k
+
+  -- there is one first fault
+  pub one_fault : (f g : Fault) → FirstFault dexes manifest f → FirstFault dexes manifest g → f ≡ g
+  one_fault f g (of_gathering a) (of_gathering b) = one_error (run (gathering dexes manifest)) f g a b
+  one_fault f g (of_gathering a) (of_hierarchy two b circle) = absurd (ok_or_err (run (gathering dexes manifest)) two f b a)
+  one_fault f g (of_gathering a) (of_code two b none d) = absurd (ok_or_err (run (gathering dexes manifest)) two f b a)
+  one_fault f g (of_gathering a) (of_limits two y b none d k) = absurd (ok_or_err (run (gathering dexes manifest)) two f b a)
+  one_fault f g (of_hierarchy one a circle) (of_gathering b) = absurd (ok_or_err (run (gathering dexes manifest)) one g a b)
+  one_fault f g (of_hierarchy {name = x} one a circle) (of_hierarchy {name = y} two b other) =
+      ap Circle (one_circle two.classes x y (subst (λ (h : Gathered). IsLeastCircle h.classes x) (one_value (run (gathering dexes manifest)) one two a b) circle) other)
+  one_fault f g (of_hierarchy {name = x} one a circle) (of_code two b none d) = absurd (no_circle one two x a b circle none)
+  one_fault f g (of_hierarchy {name = x} one a circle) (of_limits two y b none d k) = absurd (no_circle one two x a b circle none)
+  one_fault f g (of_code one a none c) (of_gathering b) = absurd (ok_or_err (run (gathering dexes manifest)) one g a b)
+  one_fault f g (of_code one a none c) (of_hierarchy {name = x} two b circle) = absurd (no_circle two one x b a circle none)
+  one_fault f g (of_code one a none c) (of_code two b other d) = one_error (run (all_codes dexes two.methods)) f g (codes_as one two (Err f) a b c) d
+  one_fault f g (of_code one a none c) (of_limits two y b other d k) = absurd (ok_or_err (run (all_codes dexes two.methods)) y f d (codes_as one two (Err f) a b c))
+  one_fault f g (of_limits one x a none c h) (of_gathering b) = absurd (ok_or_err (run (gathering dexes manifest)) one g a b)
+  one_fault f g (of_limits one x a none c h) (of_hierarchy {name = n} two b circle) = absurd (no_circle two one n b a circle none)
+  one_fault f g (of_limits one x a none c h) (of_code two b other d) = absurd (ok_or_err (run (all_codes dexes two.methods)) x g (codes_as one two (Ok x) a b c) d)
+  one_fault f g (of_limits one x a none c h) (of_limits two y b other d k) =
+      let same : x ≡ y = one_value (run (all_codes dexes two.methods)) x y (codes_as one two (Ok x) a b c) d in
+      one_error (run (within_limits (length two.classes) (length two.methods) (length two.fields) y.1)) f g (limits_as one two x y (Err f) a b same h) k
+
+-- what is told of the first fault is told of no other
+pub told_alone : (dexes : List Dex) (manifest : Manifest) (layouts : Layouts) (fault : Fault) (told f : LinkFault) → FirstFault dexes manifest fault → (told ≡ want_of_memory) ⊎ (told ≡ shown fault) → FirstLinkFault dexes manifest layouts f
+    → (let r : Result App LinkFault = Err told in r ≡ Err f) ⊎ (let r : Result App LinkFault = Err told in r ≡ Err want_of_memory)
+told_alone dexes manifest layouts fault told f here (inl memory) first = inr (ap (λ (x : LinkFault). Err x) memory)
+told_alone dexes manifest layouts fault told f here (inr shows) first = inl (ap (λ (x : LinkFault). Err x) (shows ∙ (ap shown (one_fault dexes manifest fault first.found here first.first) ∙ sym first.shows)))
+
+app_of : List Class → List Method → List Key → List Triple → List Component → List Name → List Name → List Name → App
+app_of classes methods keys statics components clicks providers layout_classes = record { classes = classes; methods = methods; keys = keys; statics = statics; components = components; clicks = clicks; providers = providers; layout_classes = layout_classes }
+
+parts_of : (app : App) → app ≡ app_of app.classes app.methods app.keys app.statics app.components app.clicks app.providers app.layout_classes
+unfolding app_of
+parts_of app = refl
+
+-- two apps of the same parts
+same_app : (a b : App) → a.classes ≡ b.classes → a.methods ≡ b.methods → a.keys ≡ b.keys → a.statics ≡ b.statics → a.components ≡ b.components → a.clicks ≡ b.clicks → a.providers ≡ b.providers → a.layout_classes ≡ b.layout_classes → a ≡ b
+same_app a b one two three four five six seven eight =
+    let same : app_of a.classes a.methods a.keys a.statics a.components a.clicks a.providers a.layout_classes ≡ app_of b.classes b.methods b.keys b.statics b.components b.clicks b.providers b.layout_classes = cc in
+    parts_of a ∙ (same ∙ sym (parts_of b))
+
+module _ (dexes : List Dex) (manifest : Manifest) (layouts : Layouts) (gathered : Gathered) (outers : Outers) (gathers : run (gathering dexes manifest) ≡ Ok gathered) (sorted : IsStrictlySortedBy name_order (keys_of gathered.classes))
+    (settled : AllSettled gathered.classes outers) where
+  gathered_as : (app : App) (is : IsApp dexes manifest layouts app) → is.gathered ≡ gathered
+  gathered_as app is = one_value (run (gathering dexes manifest)) is.gathered gathered is.gathers gathers
+
+  classes_as : (app : App) (is : IsApp dexes manifest layouts app) → app.classes ≡ map (filled_by outers) gathered.classes
+  classes_as app is = classes_are gathered.classes outers sorted settled app.classes (subst (λ (g : Gathered). map without_outer app.classes ≡ map renamed g.classes) (gathered_as app is) is.classes) is.outers
+
+  module _ (a b : App) (one : IsApp dexes manifest layouts a) (two : IsApp dexes manifest layouts b) where
+    same_gathered : one.gathered ≡ two.gathered
+    same_gathered = gathered_as a one ∙ sym (gathered_as b two)
+
+    same_coding : one.coding ≡ two.coding
+    same_coding = one_value (run (all_codes dexes two.gathered.methods)) one.coding two.coding (subst (λ (g : Gathered). run (all_codes dexes g.methods) ≡ Ok one.coding) same_gathered one.codes) two.codes
+
+    same_classes : a.classes ≡ b.classes
+    same_classes = classes_as a one ∙ sym (classes_as b two)
+
+    same_keys : a.keys ≡ b.keys
+    same_keys = one.keys ∙ (ap (λ (g : Gathered). all_keys g.fields) same_gathered ∙ sym two.keys)
+
+    same_components : a.components ≡ b.components
+    same_components = one.components ∙ (ap (λ (g : Gathered). g.components) same_gathered ∙ sym two.components)
+
+    same_before : before_code a ≡ before_code b
+    same_before = same_app (before_code a) (before_code b) same_classes refl same_keys refl same_components (one.clicks ∙ sym two.clicks) (one.providers ∙ sym two.providers) (one.layout_classes ∙ sym two.layout_classes)
+
+    same_named : statics_named (before_code a) one.gathered.fields dexes one.coding.0 ≡ statics_named (before_code b) two.gathered.fields dexes two.coding.0
+    same_named =
+        let first : statics_named (before_code a) one.gathered.fields dexes one.coding.0 ≡ statics_named (before_code b) one.gathered.fields dexes one.coding.0 = ap (λ (x : App). statics_named x one.gathered.fields dexes one.coding.0) same_before in
+        let second : statics_named (before_code b) one.gathered.fields dexes one.coding.0 ≡ statics_named (before_code b) two.gathered.fields dexes one.coding.0 = ap (λ (g : Gathered). statics_named (before_code b) g.fields dexes one.coding.0) same_gathered in
+        let third : statics_named (before_code b) two.gathered.fields dexes one.coding.0 ≡ statics_named (before_code b) two.gathered.fields dexes two.coding.0 = ap (λ (c : Coding). statics_named (before_code b) two.gathered.fields dexes c.0) same_coding in
+        first ∙ (second ∙ third)
+
+    same_statics : a.statics ≡ b.statics
+    same_statics = ascending_alike a.statics b.statics one.statics.order two.statics.order (λ t. (λ k. (two.statics.each t).1 (subst (λ (ts : List Triple). In t ts) same_named ((one.statics.each t).0 k)), λ k. (one.statics.each t).1 (subst (λ (ts : List Triple). In t ts) (sym same_named) ((two.statics.each t).0 k))))
+
+    same_methods : a.methods ≡ b.methods
+    same_methods =
+        let first : all_methods (before_code a) one.gathered.fields a.statics dexes one.coding.0 ≡ all_methods (before_code b) one.gathered.fields a.statics dexes one.coding.0 = ap (λ (x : App). all_methods x one.gathered.fields a.statics dexes one.coding.0) same_before in
+        let second : all_methods (before_code b) one.gathered.fields a.statics dexes one.coding.0 ≡ all_methods (before_code b) two.gathered.fields a.statics dexes one.coding.0 = ap (λ (g : Gathered). all_methods (before_code b) g.fields a.statics dexes one.coding.0) same_gathered in
+        let third : all_methods (before_code b) two.gathered.fields a.statics dexes one.coding.0 ≡ all_methods (before_code b) two.gathered.fields b.statics dexes one.coding.0 = ap (λ (s : List Triple). all_methods (before_code b) two.gathered.fields s dexes one.coding.0) same_statics in
+        let fourth : all_methods (before_code b) two.gathered.fields b.statics dexes one.coding.0 ≡ all_methods (before_code b) two.gathered.fields b.statics dexes two.coding.0 = ap (λ (c : Coding). all_methods (before_code b) two.gathered.fields b.statics dexes c.0) same_coding in
+        one.methods ∙ (first ∙ (second ∙ (third ∙ (fourth ∙ sym two.methods))))
+
+    same_apps : a ≡ b
+    same_apps = same_app a b same_classes same_methods same_keys same_statics same_components (one.clicks ∙ sym two.clicks) (one.providers ∙ sym two.providers) (one.layout_classes ∙ sym two.layout_classes)
+
+  -- the files are no other app
+  pub only_app : (app : App) → IsApp dexes manifest layouts app → OnlyApp dexes manifest layouts app
+  only_app app is = record { only = λ other is_too. same_apps other app is_too is }

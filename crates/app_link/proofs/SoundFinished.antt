@@ -1,6 +1,5 @@
 -- The app with its statics and methods is sound.
 use Rattle.std.proofs.Common.{◌≡◌, ℕ, ◌<◌, ◌≤◌, List, [], ◌∷◌, map, length, refl, sym, ap, subst, ◌∙◌, arith, inl, inr}
-use Rattle.std.specs.List.Sorted.{IsStrictlySortedBy}
 use Rattle.dex_reader.specs.declared.dex.Dex.{Dex}
 use Rattle.app_model.specs.declared.app.App.{App}
 use Rattle.app_model.specs.declared.app.Key.{Key}
@@ -13,12 +12,11 @@ use Rattle.app_model.specs.Sound.{SoundApp, SoundMethod, Ascends, AreKeys, IsAbo
 use Rattle.app_link.specs.declared.coded.Coded.{Coded}
 use Rattle.app_link.specs.Texts.{Triple}
 use Rattle.app_link.specs.MemberRows.{Fields}
-use Rattle.app_link.specs.Orders.{triple_order}
-use Rattle.app_link.specs.StaticList.{all_statics}
+use Rattle.app_link.specs.StaticList.{AreStatics}
 use Rattle.app_link.specs.Methods.{lifted, all_methods, Narrow}
 use Rattle.app_link.specs.SoFar.{SoFar, lines_in}
 use Rattle.app_link.specs.Tested.{IsTested, coded_order, Tested}
-use Rattle.app_link.proofs.KeyOrder.{ascends_strictly, ascends_as_fields}
+use Rattle.app_link.proofs.KeyOrder.{ascends_as_fields}
 use Rattle.app_link.proofs.StaticsCount.{few_statics, within}
 use Rattle.app_link.proofs.SoundMethods.{sound_method}
 
@@ -44,7 +42,7 @@ module _ (app : App) (fields : Fields) (dexes : List Dex) (statics : List Triple
   lifted_from (c ∷ cs) m (inr k) = let found = lifted_from cs m k in (found.0, inr found.1, found.2)
 
 module _ (app : App) (fields : Fields) (dexes : List Dex) (statics : List Triple) (methods : List Method) (coded : List Coded)
-    (sound : SoundApp app) (are : statics ≡ all_statics app fields dexes coded) (made : methods ≡ all_methods app fields statics dexes coded) where
+    (sound : SoundApp app) (are : AreStatics app fields dexes coded statics) (made : methods ≡ all_methods app fields statics dexes coded) where
   abbrev done : App
   done = record app { statics = statics; methods = methods }
 
@@ -74,17 +72,16 @@ module _ (app : App) (fields : Fields) (dexes : List Dex) (statics : List Triple
   unfolding all_methods
   count = ap length made ∙ lifted_length app fields dexes statics coded
 
-  done_sound : (units : ℕ) → SoFar (coded, units) → units ≤ 33554432 → length coded < 4294967296 → Ascends triple_order statics → Tested dexes coded → Narrow methods → SoundApp done
-  done_sound units so_far few short up tested narrow =
+  done_sound : (units : ℕ) → SoFar (coded, units) → units ≤ 33554432 → length coded < 4294967296 → Tested dexes coded → Narrow methods → SoundApp done
+  done_sound units so_far few short tested narrow =
       let lines : lines_in coded ≤ 33554432 = within app fields (lines_in coded) units 18446744073709551615 so_far.few few (omega arith) in
-      let most : length (all_statics app fields dexes coded) ≤ lines_in coded = few_statics app fields dexes coded in
-      let same : length statics ≡ length (all_statics app fields dexes coded) = ap length are in
+      let most : length statics ≤ lines_in coded = few_statics app fields dexes coded statics are in
       record {
         short = record {
           classes = sound.short.classes;
           methods = rw count short;
           keys = sound.short.keys;
-          statics = omega (arith, lines, most, same);
+          statics = omega (arith, lines, most);
           components = sound.short.components;
           clicks = sound.short.clicks;
           providers = sound.short.providers;
@@ -95,7 +92,7 @@ module _ (app : App) (fields : Fields) (dexes : List Dex) (statics : List Triple
         fields = sound.fields;
         keys = sound.keys;
         fields_order = sound.fields_order;
-        statics = ascends_as_fields statics up;
+        statics = ascends_as_fields statics are.order;
         no_circle = λ class above. sound.no_circle class (above_back class class above);
         component_classes = sound.component_classes;
         application_first = λ c is. sound.application_first c (application_back c is);
@@ -105,12 +102,11 @@ module _ (app : App) (fields : Fields) (dexes : List Dex) (statics : List Triple
 -- the app with lists of statics and methods that were made from those that were read is sound
 pub finished_sound : (app : App) (fields : Fields) (dexes : List Dex) (coded read read_again : List Coded) (units : ℕ) (listed named statics : List Triple) (made methods : List Method)
     → SoundApp app → SoFar (coded, units) → Tested dexes coded → units ≤ 33554432 → length coded < 4294967296
-    → read ≡ coded → listed ≡ all_statics app fields dexes read → IsStrictlySortedBy triple_order listed → named ≡ listed → statics ≡ listed
+    → read ≡ coded → AreStatics app fields dexes read listed → named ≡ listed → statics ≡ listed
     → read_again ≡ coded → made ≡ all_methods app fields named dexes read_again → Narrow made → methods ≡ made
     → SoundApp (record app { statics = statics; methods = methods })
-finished_sound app fields dexes coded read read_again units listed named statics made methods sound so_far tested few short is_read are sorted is_named is_put is_read_again are_made narrow are_put =
-    let all : statics ≡ all_statics app fields dexes coded = is_put ∙ (are ∙ ap (all_statics app fields dexes) is_read) in
+finished_sound app fields dexes coded read read_again units listed named statics made methods sound so_far tested few short is_read are is_named is_put is_read_again are_made narrow are_put =
+    let all : AreStatics app fields dexes coded statics = subst (AreStatics app fields dexes coded) (sym is_put) (subst (λ (cs : List Coded). AreStatics app fields dexes cs listed) is_read are) in
     let these : named ≡ statics = is_named ∙ sym is_put in
     let whole : methods ≡ all_methods app fields statics dexes coded = are_put ∙ (are_made ∙ (ap (λ (ss : List Triple). all_methods app fields ss dexes read_again) these ∙ ap (all_methods app fields statics dexes) is_read_again)) in
-    let order : Ascends triple_order statics = subst (Ascends triple_order) (sym is_put) (ascends_strictly listed sorted) in
-    done_sound app fields dexes statics methods coded sound all whole units so_far few short order tested (subst Narrow (sym are_put) narrow)
+    done_sound app fields dexes statics methods coded sound all whole units so_far few short tested (subst Narrow (sym are_put) narrow)

@@ -1,7 +1,7 @@
 -- The methods of files are listed by the texts of their descriptors.
 use Rattle.std.proofs.Common.{◌≡◌, ℕ, Bool, true, false, not, Ok, List, [], ◌∷◌, refl, sym, ap, subst, ◌∙◌, inl, inr}
 use Rattle.std.specs.BTreeMap.{insert_entry}
-use Rattle.std.specs.Ordering.{match_ordering, ordering_then, is_eq}
+use Rattle.std.specs.Ordering.{match_ordering}
 use Rattle.std.specs.declared.cmp.Ordering.{Ordering}
 use Rattle.std.specs.declared.cmp.Ordering.TheVariants.{Less, Equal, Greater}
 use Rattle.vet_base.specs.Script.{Value, ◌>>=◌, run}
@@ -12,7 +12,6 @@ use Rattle.dex_code.proofs.Runs.{first_gave, passed}
 use Rattle.app_model.specs.declared.papers.Manifest.{Manifest}
 use Rattle.app_model.specs.Members.{In}
 use Rattle.app_model.specs.Names.{Name, descriptor_of}
-use Rattle.app_model.specs.Sound.{name_order}
 use Rattle.app_link.specs.declared.fault.Fault.{Fault}
 use Rattle.app_link.specs.declared.members.Listed.{Listed}
 use Rattle.app_link.specs.declared.members.Place.{Place}
@@ -24,20 +23,10 @@ use Rattle.app_link.specs.Components.{all_components}
 use Rattle.app_link.specs.Gathered.{Gathered, gathering}
 use Rattle.app_link.specs.Described.{Described}
 use Rattle.app_link.proofs.Keeps.{same_value, through_keeps}
-use Rattle.app_link.proofs.Lookups.{eq_names}
+use Rattle.app_link.proofs.Places.{tied_triples_equal}
 
 abbrev Told : Triple → Listed → Type 0
 Told triple listed = triple.2 ≡ descriptor_of listed.proto
-
-third_equal : (a b c : Ordering) → ordering_then (ordering_then a b) c ≡ Equal → c ≡ Equal
-third_equal Less b c e = absurd cc
-third_equal Equal Less c e = absurd cc
-third_equal Equal Equal c e = e
-third_equal Equal Greater c e = absurd cc
-third_equal Greater b c e = absurd cc
-
-same_third : (a b : Triple) → triple_order a b ≡ Equal → a.2 ≡ b.2
-same_third a b e = eq_names a.2 b.2 (ap is_eq (third_equal (name_order a.0 b.0) (name_order a.1 b.1) (name_order a.2 b.2) e))
 
 told_more : (es : Methods) (k : Triple) (x : Listed) → Told k x → ((e : Triple × Listed) → In e es → Told e.0 e.1) → (e : Triple × Listed) → In e (insert_entry triple_order es k x) → Told e.0 e.1
 told_more [] k x one all e (inl same) = subst (λ (p : Triple × Listed). Told p.0 p.1) (sym same) one
@@ -47,7 +36,7 @@ told_more (d ∷ ds) k x one all e j = by_order (triple_order k d.0) refl (told_
     by_order : (o : Ordering) → triple_order k d.0 ≡ o → (In e (insert_entry triple_order ds k x) → Told e.0 e.1) → In e (match_ordering o ((k, x) ∷ d ∷ ds) ((d.0, x) ∷ ds) (d ∷ insert_entry triple_order ds k x)) → Told e.0 e.1
     by_order Less o later (inl same) = subst (λ (p : Triple × Listed). Told p.0 p.1) (sym same) one
     by_order Less o later (inr i) = all e i
-    by_order Equal o later (inl same) = subst (λ (p : Triple × Listed). Told p.0 p.1) (sym same) (sym (same_third k d.0 o) ∙ one)
+    by_order Equal o later (inl same) = subst (λ (p : Triple × Listed). Told p.0 p.1) (sym same) (ap (λ (t : Triple). t.2) (sym (tied_triples_equal k d.0 o)) ∙ one)
     by_order Equal o later (inr i) = all e (inr i)
     by_order Greater o later (inl same) = all e (inl same)
     by_order Greater o later (inr i) = later i

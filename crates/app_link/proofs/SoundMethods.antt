@@ -28,7 +28,7 @@ use Rattle.app_link.specs.declared.coded.Coded.{Coded}
 use Rattle.app_link.specs.Texts.{Triple}
 use Rattle.app_link.specs.MemberRows.{Fields}
 use Rattle.app_link.specs.Code.{counts_of}
-use Rattle.app_link.specs.StaticList.{static_index, all_statics}
+use Rattle.app_link.specs.StaticList.{AreStatics, static_index}
 use Rattle.app_link.specs.Lift.{step_of, step_if, steps_of}
 use Rattle.app_link.specs.Named.{named_of}
 use Rattle.app_link.specs.Methods.{steps_in, lifted}
@@ -89,7 +89,7 @@ module _ (app : App) (fields : Fields) (statics : List Triple) (dex : Dex) (trie
   no_steps rest e = ap (λ (ls : List Line). steps_of app fields statics dex tries lines ls) e
 
 module _ (app : App) (fields : Fields) (statics : List Triple) (methods : List Method) (dexes : List Dex) (coded : List Coded)
-    (some_key : 0 < length app.keys) (are : statics ≡ all_statics app fields dexes coded) where
+    (some_key : 0 < length app.keys) (are : AreStatics app fields dexes coded statics) where
   abbrev done : App
   done = record app { statics = statics; methods = methods }
 
@@ -129,7 +129,7 @@ module _ (app : App) (fields : Fields) (statics : List Triple) (methods : List M
         let is : IsLine has.code (counts_of has.dex) line = line_in has.code (counts_of has.dex) 0 c.decoded.lines line has.is.lines stem.of_lines in
         let name : Named = named_of app fields statics has.dex (naming_of line.1) in
         let act : step.act ≡ act_of line.1 name = act_is app fields statics has.dex c.decoded.tries c.decoded.lines step stem in
-        let some : (j : ℕ) → static_index line.1 ≡ Some j → 0 < length statics = λ j e. subst (λ (s : List Triple). 0 < length s) (sym are) (some_statics app fields dexes coded c has.dex line j k has.file stem.of_lines e) in
+        let some : (j : ℕ) → static_index line.1 ≡ Some j → 0 < length statics = λ j e. some_statics app fields dexes coded statics are c has.dex line j k has.file stem.of_lines e in
         record {
           next = λ pc j. pcs_there pc (step_goes_on app fields statics has.dex c.decoded.tries c.decoded.lines step stem pc j);
           catches = λ pc j. pcs_there pc (step_catches app fields statics has.dex c.decoded.tries c.decoded.lines (length has.code.units) has.is.handlers step stem pc j);

@@ -13,7 +13,7 @@ use Rattle.app_link.specs.Hierarchy.{NoCircle, HasOuters, without_outer, renamed
 use Rattle.app_link.specs.Keys.{all_keys}
 use Rattle.app_link.specs.Limits.{within_limits}
 use Rattle.app_link.specs.Methods.{all_methods}
-use Rattle.app_link.specs.StaticList.{all_statics}
+use Rattle.app_link.specs.StaticList.{AreStatics}
 
 pub record IsApp (dexes : List Dex) (manifest : Manifest) (layouts : Layouts) (app : App) : Type 0 where
   -- classes, members and components stand in the files, each once, and each component has a class
@@ -33,5 +33,5 @@ pub record IsApp (dexes : List Dex) (manifest : Manifest) (layouts : Layouts) (a
   pub clicks : app.clicks ≡ layouts.clicks
   pub providers : app.providers ≡ providers_of manifest
   pub layout_classes : app.layout_classes ≡ layouts.classes
-  pub statics : app.statics ≡ all_statics (before_code app) gathered.fields dexes coding.0
+  pub statics : AreStatics (before_code app) gathered.fields dexes coding.0 app.statics
   pub methods : app.methods ≡ all_methods (before_code app) gathered.fields app.statics dexes coding.0

@@ -1,5 +1,5 @@
--- Files that are an app have no fault.
-use Rattle.std.specs.Prelude.{List}
+-- Files are one app, or they have one first fault.
+use Rattle.std.specs.Prelude.{◌≡◌, List}
 use Rattle.dex_reader.specs.declared.dex.Dex.{Dex}
 use Rattle.app_model.specs.declared.app.App.{App}
 use Rattle.app_model.specs.declared.papers.Manifest.{Manifest}
@@ -8,5 +8,10 @@ use Rattle.app_link.specs.declared.linking.LinkFault.{LinkFault}
 use Rattle.app_link.specs.FirstLinkFault.{FirstLinkFault}
 use Rattle.app_link.specs.IsApp.{IsApp}
 
+-- files that are an app have no fault
 pub record OneAnswer (dexes : List Dex) (manifest : Manifest) (layouts : Layouts) : Type 0 where
   pub not_both : (app : App) (fault : LinkFault) → IsApp dexes manifest layouts app → FirstLinkFault dexes manifest layouts fault → ⊥
+
+-- the files are no other app
+pub record OnlyApp (dexes : List Dex) (manifest : Manifest) (layouts : Layouts) (app : App) : Type 0 where
+  pub only : (other : App) → IsApp dexes manifest layouts other → other ≡ app

@@ -1,6 +1,5 @@
 -- Each static field that an instruction names, as the field that it stands for, once and in order.
-use Rattle.std.specs.Prelude.{ℕ, List, [], fold, Option, Some, None, slice_get}
-use Rattle.std.specs.BTreeSet.{insert_key}
+use Rattle.std.specs.Prelude.{◌↔◌, ℕ, List, [], ◌∷◌, flat_map, Option, Some, None, slice_get}
 use Rattle.dex_reader.specs.declared.dex.Dex.{Dex}
 use Rattle.dex_code.specs.declared.insn.Insn.{Insn}
 use Rattle.dex_code.specs.declared.names.Naming.{Naming}
@@ -8,6 +7,8 @@ use Rattle.dex_code.specs.declared.names.Naming.TheVariants as naming
 use Rattle.dex_code.specs.Acts.{naming_of}
 use Rattle.dex_code.specs.Lines.{Line}
 use Rattle.app_model.specs.declared.app.App.{App}
+use Rattle.app_model.specs.Members.{In}
+use Rattle.app_model.specs.Sound.{Ascends}
 use Rattle.app_link.specs.declared.coded.Coded.{Coded}
 use Rattle.app_link.specs.Texts.{Triple, field_of}
 use Rattle.app_link.specs.MemberRows.{Fields}
@@ -22,14 +23,18 @@ static_among needed = None
 unfoldable pub static_index : Insn → Option ℕ
 static_index insn = static_among (naming_of insn)
 
-unfoldable pub put_line : App → Fields → Dex → List Triple → Line → List Triple
-put_line app fields dex statics line = elim (static_index line.1) [ None ↦ statics | Some i ↦ insert_key triple_order statics (resolved app fields (field_of dex i)) ]
+-- the field for which the static stands that the line names
+unfoldable pub static_in_line : App → Fields → Dex → Line → List Triple
+static_in_line app fields dex line = elim (static_index line.1) [ None ↦ [] | Some i ↦ resolved app fields (field_of dex i) ∷ [] ]
 
-unfoldable pub put_lines : App → Fields → Dex → List Triple → List Line → List Triple
-put_lines app fields dex statics lines = fold (put_line app fields dex) statics lines
+unfoldable pub statics_in_method : App → Fields → List Dex → Coded → List Triple
+statics_in_method app fields dexes method = elim (slice_get dexes method.dex) [ None ↦ [] | Some dex ↦ flat_map (static_in_line app fields dex) method.decoded.lines ]
 
-unfoldable pub put_method : App → Fields → List Dex → List Triple → Coded → List Triple
-put_method app fields dexes statics coded = elim (slice_get dexes coded.dex) [ None ↦ statics | Some dex ↦ put_lines app fields dex statics coded.decoded.lines ]
+-- the fields of all lines of all methods, each as often as it is named
+unfoldable pub statics_named : App → Fields → List Dex → List Coded → List Triple
+statics_named app fields dexes coded = flat_map (statics_in_method app fields dexes) coded
 
-unfoldable pub all_statics : App → Fields → List Dex → List Coded → List Triple
-all_statics app fields dexes coded = fold (put_method app fields dexes) [] coded
+-- the same fields, each once and in order
+pub record AreStatics (app : App) (fields : Fields) (dexes : List Dex) (coded : List Coded) (statics : List Triple) : Type 0 where
+  pub order : Ascends triple_order statics
+  pub each : (field : Triple) → In field statics ↔ In field (statics_named app fields dexes coded)

@@ -10,7 +10,7 @@ ghost use Rattle.app_link.specs.Settled.{AllSettled};
 ghost use Rattle.app_link.specs.Components.{providers_of};
 ghost use Rattle.app_link.specs.Orders.{triple_order};
 ghost use Rattle.app_link.specs.Methods.{all_methods};
-ghost use Rattle.app_link.specs.StaticList.{all_statics};
+ghost use Rattle.app_link.specs.StaticList.{AreStatics};
 ghost use Rattle.app_link.specs.SoFar.{SoFar};
 ghost use Rattle.app_link.specs.Tested.{Tested};
 
@@ -109,7 +109,7 @@ pub fn finished(
     requires few { coding.now.units ≤ 33554432 }
     requires few_methods { length coding.now.methods.items < 2 ^ 32 }
     ensures sound { IfOk result SoundApp }
-    ensures statics { IfOk result (λ a. a.statics ≡ all_statics app fields.now.entries dexes.now coding.now.methods.items) }
+    ensures statics { IfOk result (λ a. AreStatics app fields.now.entries dexes.now coding.now.methods.items a.statics) }
     ensures methods { IfOk result (λ a. a.methods ≡ all_methods app fields.now.entries a.statics dexes.now coding.now.methods.items) }
     ensures others { IfOk result (λ a. a ≡ record app { statics = a.statics; methods = a.methods }) }
 {

@@ -8,7 +8,7 @@ ghost use Rattle.app_link.specs.Code.{ShortCodes, all_codes};
 ghost use Rattle.app_link.specs.Described.{Described};
 ghost use Rattle.app_link.specs.FirstLinkFault.{FirstLinkFault, StopsAtFirst, limit_word, shown};
 ghost use Rattle.app_link.specs.IsApp.{IsApp};
-ghost use Rattle.app_link.specs.OneAnswer.{OneAnswer};
+ghost use Rattle.app_link.specs.OneAnswer.{OneAnswer, OnlyApp};
 ghost use Rattle.app_link.specs.Limits.{within_limits};
 ghost use Rattle.app_link.specs.SoFar.{SoFar};
 ghost use Rattle.app_link.specs.Tested.{Tested};
@@ -98,6 +98,7 @@ fn linked(alloc: Global, dexes: &[Dex], manifest: &Manifest, layouts: &Layouts) 
     requires clicks { length layouts.now.clicks < 2 ^ 32 }
     requires classes { length layouts.now.classes < 2 ^ 32 }
     ensures app { IfOk result (λ app. IsApp dexes.now manifest.now layouts.now app) }
+    ensures only { IfOk result (λ app. OnlyApp dexes.now manifest.now layouts.now app) }
     ensures sound { IfOk result SoundApp }
     ensures fault { IfErr result (λ halt. StopsAtFirst dexes.now manifest.now halt) }
 {
@@ -169,6 +170,8 @@ pub fn link(
     ensures app { IfOk result (λ app. IsApp dexes.now manifest.now layouts.now app) }
     ensures sound { IfOk result SoundApp }
     ensures fault { IfErr result (λ f. f ≢ LinkFault.Memory → FirstLinkFault dexes.now manifest.now layouts.now f) }
+    ensures one { (app : App) → IsApp dexes.now manifest.now layouts.now app → (result ≡ Ok app) ⊎ (result ≡ Err LinkFault.Memory) }
+    ensures first { (f : LinkFault) → FirstLinkFault dexes.now manifest.now layouts.now f → (result ≡ Err f) ⊎ (result ≡ Err LinkFault.Memory) }
 
     // Files that are an app have no fault.
     ensures law { OneAnswer dexes.now manifest.now layouts.now }

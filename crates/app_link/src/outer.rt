@@ -45,8 +45,9 @@ fn add_new(
     Ok(())
 }
 
+/// Puts those of the names that are new behind the others.
 #[tactic(auto, using(crate::proofs::FoldsOn::onto_begins, crate::proofs::FoldsOn::onto_goes_on, crate::proofs::FoldsOn::onto_is_done))]
-fn add_all(
+pub fn add_all(
     alloc: Global,
     names: &[Name],
     seen: &mut BTreeSet<Name>,
@@ -92,7 +93,7 @@ fn add_given(
     add_new(alloc, above, seen, outer)
 }
 
-#[tactic(auto, using(crate::proofs::FoldsOn::onto_begins, crate::proofs::FoldsOn::onto_goes_on, crate::proofs::FoldsOn::onto_is_done, crate::proofs::Firsts::folded))]
+#[tactic(auto, using(crate::proofs::FoldsOn::each_begins, crate::proofs::FoldsOn::each_goes_on, crate::proofs::FoldsOn::each_is_done))]
 fn add_each(
     alloc: Global,
     classes: &Classes,
@@ -111,7 +112,7 @@ fn add_each(
 }
 
 /// The library classes above a class: what its superclass gives, and then what each interface gives.
-#[tactic(auto, unfolding(crate::specs::Hierarchy::firsts), using(crate::proofs::Firsts::none_same, crate::proofs::Firsts::fold_joined))]
+#[tactic(auto, unfolding(crate::specs::Hierarchy::firsts), using(crate::proofs::Firsts::none_same, crate::proofs::FoldsOn::fold_joined))]
 pub fn outer_at(
     alloc: Global,
     classes: &Classes,

@@ -1,11 +1,11 @@
 //! The static fields that instructions name.
 
-ghost use Rattle.std.specs.Prelude.{◌≡◌, IfOk, fold};
+ghost use Rattle.std.specs.Prelude.{◌≡◌, [], IfOk, flat_map, fold};
 ghost use Rattle.std.specs.BTreeSet.{insert_key};
 ghost use Rattle.std.specs.List.Sorted.{IsStrictlySortedBy};
 ghost use Rattle.app_model.specs.Sound.{SoundApp};
 ghost use Rattle.app_link.specs.Orders.{triple_order};
-ghost use Rattle.app_link.specs.StaticList.{all_statics, put_line, put_lines, put_method, static_index};
+ghost use Rattle.app_link.specs.StaticList.{AreStatics, static_in_line, static_index, statics_in_method, statics_named};
 
 use crate::coded::Coded;
 use crate::members::{Fields, Triple};
@@ -37,7 +37,7 @@ fn with_static(mut statics: Statics, at: Triple) -> Result<Statics, Memory>
     Ok(statics)
 }
 
-#[tactic(auto, unfolding(crate::specs::StaticList::put_line))]
+#[tactic(auto, unfolding(crate::specs::StaticList::static_in_line))]
 fn add_line(
     alloc: Global,
     app: &App,
@@ -47,7 +47,7 @@ fn add_line(
     statics: Statics,
 ) -> Result<Statics, Memory>
     requires { SoundApp app.now }
-    ensures { IfOk result (λ s. s.keys ≡ put_line app.now fields.now.entries dex.now statics.keys line.now) }
+    ensures { IfOk result (λ s. s.keys ≡ fold (insert_key triple_order) statics.keys (static_in_line app.now fields.now.entries dex.now line.now)) }
 {
     match static_index_at(&line.1) {
         Some(i) => with_static(statics, static_at(alloc, app, fields, dex, i)?),
@@ -55,7 +55,7 @@ fn add_line(
     }
 }
 
-#[tactic(auto, unfolding(crate::specs::StaticList::put_lines), using(crate::proofs::FoldsOn::onto_begins, crate::proofs::FoldsOn::onto_goes_on, crate::proofs::FoldsOn::onto_is_done))]
+#[tactic(auto, using(crate::proofs::FoldsOn::each_begins, crate::proofs::FoldsOn::each_goes_on, crate::proofs::FoldsOn::each_is_done))]
 fn add_lines(
     alloc: Global,
     app: &App,
@@ -65,7 +65,7 @@ fn add_lines(
     mut statics: Statics,
 ) -> Result<Statics, Memory>
     requires { SoundApp app.now }
-    ensures { IfOk result (λ s. s.keys ≡ put_lines app.now fields.now.entries dex.now statics.keys lines.now) }
+    ensures { IfOk result (λ s. s.keys ≡ fold (insert_key triple_order) statics.keys (flat_map (static_in_line app.now fields.now.entries dex.now) lines.now)) }
 {
     for line in lines {
         statics = add_line(alloc, app, fields, dex, line, statics)?;
@@ -73,7 +73,7 @@ fn add_lines(
     Ok(statics)
 }
 
-#[tactic(auto, unfolding(crate::specs::StaticList::put_method))]
+#[tactic(auto, unfolding(crate::specs::StaticList::statics_in_method))]
 fn add_method(
     alloc: Global,
     app: &App,
@@ -83,7 +83,7 @@ fn add_method(
     statics: Statics,
 ) -> Result<Statics, Memory>
     requires { SoundApp app.now }
-    ensures { IfOk result (λ s. s.keys ≡ put_method app.now fields.now.entries dexes.now statics.keys coded.now) }
+    ensures { IfOk result (λ s. s.keys ≡ fold (insert_key triple_order) statics.keys (statics_in_method app.now fields.now.entries dexes.now coded.now)) }
 {
     match dexes.get(coded.dex) {
         Some(dex) => add_lines(
@@ -98,7 +98,7 @@ fn add_method(
     }
 }
 
-#[tactic(auto, unfolding(crate::specs::StaticList::all_statics), using(crate::proofs::FoldsOn::onto_begins, crate::proofs::FoldsOn::onto_goes_on, crate::proofs::FoldsOn::onto_is_done))]
+#[tactic(auto, unfolding(crate::specs::StaticList::statics_named), using(crate::proofs::FoldsOn::each_begins, crate::proofs::FoldsOn::each_goes_on, crate::proofs::FoldsOn::each_is_done))]
 fn set_of(
     alloc: Global,
     app: &App,
@@ -107,7 +107,7 @@ fn set_of(
     coded: &[Coded],
 ) -> Result<Statics, Memory>
     requires { SoundApp app.now }
-    ensures { IfOk result (λ s. s.keys ≡ all_statics app.now fields.now.entries dexes.now coded.now) }
+    ensures { IfOk result (λ s. s.keys ≡ fold (insert_key triple_order) [] (statics_named app.now fields.now.entries dexes.now coded.now)) }
 {
     let mut statics = BTreeSet::new(alloc);
     for method in coded {
@@ -125,6 +125,7 @@ fn listed(alloc: Global, statics: Statics) -> Result<Vec<Triple>, Memory>
 }
 
 /// Each static field that an instruction names, as the field that it stands for, once and in order.
+#[tactic(auto, using(crate::proofs::Inserted::are_statics))]
 pub fn statics_of(
     alloc: Global,
     app: &App,
@@ -133,8 +134,7 @@ pub fn statics_of(
     coded: &[Coded],
 ) -> Result<Vec<Triple>, Memory>
     requires { SoundApp app.now }
-    ensures list { IfOk result (λ v. v.items ≡ all_statics app.now fields.now.entries dexes.now coded.now) }
-    ensures order { IfOk result (λ v. IsStrictlySortedBy triple_order v.items) }
+    ensures { IfOk result (λ v. AreStatics app.now fields.now.entries dexes.now coded.now v.items) }
 {
     listed(alloc, set_of(alloc, app, fields, dexes, coded)?)
 }

@@ -1,17 +1,18 @@
 //! The fields that references to static fields stand for, and their numbers.
 
-ghost use Rattle.std.specs.Prelude.{◌≡◌, ◌<◌, ◌++◌, ◌^◌, [], length, IfOk, OnOk, sum_by, take};
-ghost use Rattle.std.specs.BTreeSet.{insert_key};
+ghost use Rattle.std.specs.Prelude.{◌≡◌, ◌++◌, IfOk, OnOk, filter_map, flat_map, fold, unwrap_or};
 ghost use Rattle.std.specs.Option.{option_copied};
 ghost use Rattle.app_model.specs.Members.{first_given};
 ghost use Rattle.app_model.specs.Lookups.{class_named, up};
 ghost use Rattle.app_model.specs.Sound.{SoundApp, name_order};
 ghost use Rattle.app_link.specs.Orders.{named_triple};
-ghost use Rattle.app_link.specs.Statics.{among, behind, class_among_interfaces, class_of_static, class_or, defines, first_interfaces, found_at, is_true, meetings, number_among, number_of, own_name, resolved};
+ghost use Rattle.app_link.specs.Hierarchy.{SameNames, add_once, firsts};
+ghost use Rattle.app_link.specs.Statics.{class_of_static, classes_asked, defines, first_interfaces, interfaces_named, is_true, met, number_among, number_of, own_name, resolved};
 ghost use Rattle.app_link.specs.StaticsInOrder.{StaticsInOrder};
 ghost use Rattle.app_link.specs.Texts.{field_of};
 
 use crate::members::{Fields, Triple};
+use crate::outer::add_all;
 use crate::texts::field_at;
 use app_model::{App, Class};
 use dex_reader::Dex;
@@ -141,78 +142,72 @@ fn interfaces_upward(alloc: Global, app: &App, class: &[u8]) -> Result<Vec<Name>
     Ok(queue)
 }
 
-/// Visits an interface that may define the static field.
-#[tactic(auto, unfolding(crate::specs::Statics::found_at, crate::specs::Statics::behind))]
-fn visit(
+/// Puts the interfaces of the app class of that name behind the others, those that are new.
+#[tactic(auto, unfolding(crate::specs::Statics::interfaces_named))]
+fn add_interfaces(
     alloc: Global,
     app: &App,
-    fields: &Fields,
     name: &Name,
-    kind: &Name,
-    interface: &Name,
-    seen: &BTreeSet<Name>,
-    queue: &mut Vec<Name>,
-) -> Result<Option<Name>, Memory>
-    requires { SoundApp app.now }
-    ensures found { IfOk result (λ o. o ≡ found_at app.now fields.now.entries name.now kind.now seen.now.keys interface.now) }
-    ensures queue { IfOk result (λ o. o ≡ None → queue.new.items ≡ queue.old.items ++ behind app.now seen.now.keys interface.now) }
+    seen: &mut BTreeSet<Name>,
+    names: &mut Vec<Name>,
+) -> Result<(), Memory>
+    requires app { SoundApp app.now }
+    requires same { SameNames seen.old.keys names.old.items }
+    ensures names { OnOk result (names.new.items ≡ fold add_once names.old.items (interfaces_named app.now name.now)) }
+    ensures same { OnOk result (SameNames seen.new.keys names.new.items) }
 {
-    if seen.contains(interface) {
-        return Ok(None);
-    }
-    match class_of(app, interface.as_bytes()) {
-        Some(class) => {
-            add_copies(alloc, queue, class.interfaces.as_slice())?;
-            own_class(alloc, fields, name, kind, class)
-        }
-        None => Ok(None),
+    match class_of(app, name.as_bytes()) {
+        Some(class) => add_all(alloc, class.interfaces.as_slice(), seen, names),
+        None => Ok(()),
     }
 }
 
-#[tactic(auto, unfolding(crate::specs::Statics::meetings))]
-fn most_meetings(app: &App) -> usize
-    ensures { result ≡ meetings app.now }
-{
-    let mut count: usize = 0;
-    for class in app.classes.as_slice() {
-        count = count.saturating_add(class.interfaces.len());
-    }
-    count.saturating_mul(2)
-}
-
-/// The class of the first interface in the queue, or behind it, that defines the static field.
-#[tactic(auto, using(crate::proofs::Searched::search_begins, crate::proofs::Searched::search_finds, crate::proofs::Searched::search_goes_on, crate::proofs::Searched::search_ends, crate::proofs::Searched::search_tires))]
-fn class_behind(
-    alloc: Global,
-    app: &App,
-    fields: &Fields,
-    name: &Name,
-    kind: &Name,
-    mut queue: Vec<Name>,
-) -> Result<Option<Name>, Memory>
+/// The interfaces of the classes upward, and behind them those interfaces' own interfaces, each once.
+#[tactic(auto, using(crate::proofs::Firsts::none_same))]
+fn interfaces_met(alloc: Global, app: &App, class: &[u8]) -> Result<Vec<Name>, Memory>
     requires { SoundApp app.now }
-    ensures { IfOk result (λ o. o ≡ among app.now fields.now.entries name.now kind.now (meetings app.now) [] queue.items) }
+    ensures met { IfOk result (λ v. v.items ≡ met app.now class.now) }
+
+    // One more turn meets no new one.
+    ensures no_more { IfOk result (λ v. firsts (first_interfaces app.now class.now ++ flat_map (interfaces_named app.now) v.items) ≡ v.items) }
 {
+    let first = interfaces_upward(alloc, app, class)?;
     let mut seen = BTreeSet::new(alloc);
-    let most = most_meetings(app);
-    for i in 0..most {
-        if i >= queue.len() {
-            return Ok(None);
+    let mut names = Vec::new(alloc);
+    add_all(alloc, &first, &mut seen, &mut names)?;
+    let mut i = 0;
+    while i < names.len() {
+        let name = names[i].copy(alloc)?;
+        add_interfaces(alloc, app, &name, &mut seen, &mut names)?;
+        i += 1;
+    }
+    Ok(names)
+}
+
+/// The first of these interfaces that itself defines the static field.
+#[tactic(auto, using(crate::proofs::Asked::none_asked, crate::proofs::Asked::asked_outside, crate::proofs::Asked::asked_in_vain, crate::proofs::Asked::asked_finds, crate::proofs::Asked::all_asked))]
+fn class_among(
+    alloc: Global,
+    app: &App,
+    fields: &Fields,
+    name: &Name,
+    kind: &Name,
+    interfaces: &[Name],
+) -> Result<Option<Name>, Memory>
+    requires { SoundApp app.now }
+    ensures { IfOk result (λ o. o ≡ first_given (own_name fields.now.entries name.now kind.now) (filter_map (class_named app.now) interfaces.now)) }
+{
+    for interface in interfaces {
+        if let Some(class) = class_of(app, interface.as_bytes()) {
+            if let Some(found) = own_class(alloc, fields, name, kind, class)? {
+                return Ok(Some(found));
+            }
         }
-        let interface = queue[i].copy(alloc)?;
-        let outcome = visit(
-            alloc, app, fields, name, kind, &interface, &seen, &mut queue,
-        )?;
-        match outcome {
-            Some(found) => return Ok(Some(found)),
-            None => {}
-        }
-        seen.insert(interface)?;
     }
     Ok(None)
 }
 
-#[tactic(auto, unfolding(crate::specs::Statics::class_among_interfaces), using(crate::proofs::Searched::none_queued))]
+/// The class of the first interface met that defines the field of the reference, and otherwise the reference's own.
 fn class_of_interfaces(
     alloc: Global,
     app: &App,
@@ -220,19 +215,16 @@ fn class_of_interfaces(
     at: &Triple,
 ) -> Result<Name, Memory>
     requires { SoundApp app.now }
-    ensures { IfOk result (λ n. n ≡ class_among_interfaces app.now fields.now.entries at.now) }
+    ensures { IfOk result (λ n. n ≡ unwrap_or (first_given (own_name fields.now.entries at.now.1 at.now.2) (filter_map (class_named app.now) (met app.now at.now.0))) at.now.0) }
 {
-    let queue = interfaces_upward(alloc, app, at.0.as_bytes())?;
-    if queue.is_empty() {
-        return at.0.copy(alloc);
-    }
-    match class_behind(alloc, app, fields, &at.1, &at.2, queue)? {
+    let interfaces = interfaces_met(alloc, app, at.0.as_bytes())?;
+    match class_among(alloc, app, fields, &at.1, &at.2, &interfaces)? {
         Some(found) => Ok(found),
         None => at.0.copy(alloc),
     }
 }
 
-#[tactic(auto, unfolding(crate::specs::Statics::class_of_static))]
+#[tactic(auto, unfolding(crate::specs::Statics::class_of_static, crate::specs::Statics::classes_asked), using(crate::proofs::Asked::given_first, crate::proofs::Asked::given_behind))]
 fn class_at(alloc: Global, app: &App, fields: &Fields, at: &Triple) -> Result<Name, Memory>
     requires { SoundApp app.now }
     ensures { IfOk result (λ n. n ≡ class_of_static app.now fields.now.entries at.now) }

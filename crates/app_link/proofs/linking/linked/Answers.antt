@@ -3,6 +3,7 @@ use Rattle.app_link.specs.FirstLinkFault.{StopsAtFirst}
 use Rattle.app_link.proofs.FirstFaults.{at_hierarchy, at_code, at_limits}
 use Rattle.app_link.proofs.FrameSound.{frame_sound}
 use Rattle.app_link.proofs.Linked.{is_app}
+use Rattle.app_link.proofs.OneAnswer.{only_app}
 use Rattle.app_link.proofs.SoundMembers.{gathered_described}
 use Rattle.app_link.proofs.Stuck.{no_circle}
 use Rattle.app_link.proofs.linking.linked.Goals as goal
@@ -29,6 +30,14 @@ returns-clause-app c = is_app c.args.dexes.now c.args.manifest.now c.args.layout
     c.in_ok-parts.ensures.value c.in_ok-coding.ensures.value c.in_ok-check_limits.ensures.value
     c.in_ok-frame.ensures.components c.in_ok-frame.ensures.clicks c.in_ok-frame.ensures.providers c.in_ok-frame.ensures.layout_classes
     c.in_ok-app.ensures.statics c.in_ok-app.ensures.methods
+
+pub returns-clause-only : goal.returns-clause-only
+returns-clause-only c = only_app c.args.dexes.now c.args.manifest.now c.args.layouts.now (record {
+  classes = c.in_ok-parts.parts.classes.entries;
+  fields = c.in_ok-parts.parts.fields.entries;
+  methods = c.in_ok-parts.parts.methods.entries;
+  components = c.in_ok-parts.parts.components.items;
+}) c.in_ok-outers.outers.entries c.in_ok-parts.ensures.value c.in_ok-frame.ensures.frame.sorted c.in_ok-outers.ensures.ok c.in_ok-app.app (returns-clause-app c)
 
 pub returns-in_err-outers-clause-fault : goal.returns-in_err-outers-clause-fault
 returns-in_err-outers-clause-fault c =

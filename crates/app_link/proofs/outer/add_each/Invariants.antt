@@ -1,14 +1,11 @@
-use Rattle.std.proofs.Common.{List}
-use Rattle.std.specs.Prelude.{fold}
-use Rattle.app_model.specs.Names.{Name}
+use Rattle.std.specs.Prelude.{fold, flat_map}
 use Rattle.app_link.specs.Hierarchy.{SameNames, add_once}
 use Rattle.app_link.specs.Settled.{gives}
-use Rattle.app_link.proofs.FoldsOn.{FoldsOnto}
+use Rattle.app_link.proofs.FoldsOn.{FoldsEach}
 use Rattle.app_link.proofs.outer.add_each.Given as goal
 
 abbrev pub invariant-loop-interface : goal.invariant-loop-interface
 invariant-loop-interface l = record {
   same : SameNames l.seen.keys l.outer.items;
-  folds : FoldsOnto (λ (so_far : List Name) (name : Name). fold add_once so_far (gives l.classes.entries l.outers.entries name)) l.interfaces l.interface-index l.outer.items
-      (fold (λ (so_far : List Name) (name : Name). fold add_once so_far (gives l.classes.entries l.outers.entries name)) l.initial.outer.items l.interfaces);
+  folds : FoldsEach add_once (gives l.classes.entries l.outers.entries) l.interfaces l.interface-index l.outer.items (fold add_once l.initial.outer.items (flat_map (gives l.classes.entries l.outers.entries) l.interfaces));
 }

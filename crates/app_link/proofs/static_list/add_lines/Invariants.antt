@@ -1,7 +1,10 @@
-use Rattle.app_link.specs.StaticList.{put_line}
-use Rattle.app_link.proofs.FoldsOn.{FoldsOnto}
-use Rattle.std.specs.Prelude.{fold}
+use Rattle.std.specs.Prelude.{fold, flat_map}
+use Rattle.std.specs.BTreeSet.{insert_key}
+use Rattle.app_link.specs.Orders.{triple_order}
+use Rattle.app_link.specs.StaticList.{static_in_line}
+use Rattle.app_link.proofs.FoldsOn.{FoldsEach}
 use Rattle.app_link.proofs.static_list.add_lines.Given as goal
 
 abbrev pub invariant-loop-line : goal.invariant-loop-line
-invariant-loop-line l = FoldsOnto (put_line l.app l.fields.entries l.dex) l.lines l.line-index l.statics.keys (fold (put_line l.app l.fields.entries l.dex) l.fn.statics.keys l.lines)
+invariant-loop-line l = FoldsEach (insert_key triple_order) (static_in_line l.app l.fields.entries l.dex) l.lines l.line-index l.statics.keys
+    (fold (insert_key triple_order) l.fn.statics.keys (flat_map (static_in_line l.app l.fields.entries l.dex) l.lines))

@@ -1,0 +1,11 @@
+use Rattle.std.proofs.Common.{Ok, sym, ap, inl}
+use Rattle.app_model.specs.declared.app.App.{App}
+use Rattle.app_link.proofs.OneAnswer.{told_alone}
+use Rattle.app_link.proofs.linking.link.Goals as goal
+
+pub returns-in-Ok-clause-one : goal.returns-in-Ok-clause-one
+returns-in-Ok-clause-one c other is = inl (ap (λ (a : App). Ok a) (sym (c.in-Ok.ensures.only.only other is)))
+
+pub returns-in-Err-Fault-clause-first : goal.returns-in-Err-Fault-clause-first
+returns-in-Err-Fault-clause-first c f first =
+    told_alone c.args.dexes.now c.args.manifest.now c.args.layouts.now c.in-Err-Fault.fault c.told_of.result f (rw c.in-Err-Fault.field-0-is at c.in-Err-Fault.ensures.fault) c.told_of.ensures first
