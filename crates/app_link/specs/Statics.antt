@@ -1,6 +1,6 @@
 -- The field that a reference to a static field stands for: the one of the first class that defines it, upward along superclasses,
 -- and then through the interfaces of these classes in the order met, and behind them those interfaces' own interfaces, each once.
--- Android documentation, Dalvik bytecode: `sstaticop`; Java Virtual Machine field resolution.
+-- Android documentation, Dalvik bytecode: `sstaticop`. All superclasses come before the interfaces.
 use Rattle.std.specs.Prelude.{ℕ, zero, suc, Bool, false, List, [], ◌++◌, length, Option, Some, None, filter_map, flat_map, unwrap_or, ◌&&◌, if◌then◌else◌}
 use Rattle.app_model.specs.declared.app.App.{App}
 use Rattle.app_model.specs.declared.app.Class.{Class}
