@@ -1,18 +1,17 @@
 -- One sweep over the units gives the lines that stand end to end, and gives them wherever they stand so.
-use Rattle.std.proofs.Common.{◌≡◌, ℕ, zero, suc, ◌+◌, ◌*◌, ◌/◌, ◌<◌, ◌≤◌, Bool, true, false, Result, Ok, Err, List, [], ◌∷◌, length, refl, sym, ap, subst, ◌∙◌, arith}
-use Rattle.std.specs.Prelude.{IsTrue, nat_lt, nat_le, slice_index}
+use Rattle.std.proofs.Common.{◌≡◌, ℕ, zero, suc, ◌+◌, ◌<◌, ◌≤◌, Bool, true, false, Result, Ok, List, [], ◌∷◌, length, refl, sym, ap, subst, ◌∙◌, arith}
+use Rattle.std.specs.Prelude.{IsTrue, nat_lt, nat_le}
 use Rattle.std.proofs.lemmas.Bool.Decides.{nat_tests}
 use Rattle.dalvik_formats.specs.declared.format.Format.{Format}
 use Rattle.dalvik_formats.specs.declared.format.Format.TheVariants as formats
 use Rattle.dalvik_formats.specs.Layouts.{units_of}
 use Rattle.dex_reader.specs.declared.dex.RawCode.{RawCode}
-use Rattle.vet_base.specs.Script.{Script, Value, Test, ◌>>=◌, run, then_run, sweep}
+use Rattle.vet_base.specs.Script.{Script, Value, ◌>>=◌, run, sweep}
 use Rattle.vet_base.proofs.Scripts.{run_bind}
 use Rattle.dex_code.specs.declared.decoder.Counts.{Counts}
 use Rattle.dex_code.specs.declared.shape.Shape.{Shape}
 use Rattle.dex_code.specs.declared.shape.Shape.TheVariants as shapes
 use Rattle.dex_code.specs.declared.fault.CodeFault.{CodeFault}
-use Rattle.dex_code.specs.Units.{long_at}
 use Rattle.dex_code.specs.Insns.{shape_at, width_of, width_at, insn_at}
 use Rattle.dex_code.specs.Lines.{Line, line_at, lines_at, IsLine, StandFrom}
 use Rattle.dex_code.specs.Find.{AllBehind, Ascend}
