@@ -1,5 +1,5 @@
 -- What running a script to its end says of its tests, and what its first failing test makes of it.
-use Rattle.std.proofs.Common.{◌≡◌, Bool, true, false, Result, Ok, Err, List, [], ◌∷◌, ◌++◌, refl, sym, ap, ◌∙◌}
+use Rattle.std.proofs.Common.{◌≡◌, Bool, true, false, Result, Ok, Err, List, [], ◌∷◌, ◌++◌, refl, ap}
 use Rattle.std.specs.Prelude.{IsTrue}
 use Rattle.vet_base.specs.Script.{Script, Value, Test, ◌>>=◌, run, tests, AllHold, IsFirst}
 

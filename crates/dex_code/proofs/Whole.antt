@@ -1,18 +1,18 @@
 -- The tests of a method's code all hold exactly where the relation in words does.
-use Rattle.std.proofs.Common.{◌≡◌, ℕ, ◌+◌, ◌<◌, ◌≤◌, Bool, true, false, Result, Ok, Err, List, [], ◌∷◌, length, refl, sym, ap, subst, ◌∙◌, arith, ◌⊎◌, inl, inr}
+use Rattle.std.proofs.Common.{◌≡◌, ℕ, ◌+◌, ◌<◌, Bool, Result, Ok, Err, List, [], ◌∷◌, length, refl, sym, ap, subst, ◌∙◌, arith, ◌⊎◌, inl}
 use Rattle.std.specs.Prelude.{IsTrue, nat_lt, nat_le, ◌||◌}
 use Rattle.std.proofs.lemmas.Bool.Decides.{nat_tests}
 use Rattle.dex_reader.specs.declared.dex.RawCode.{RawCode}
 use Rattle.dex_reader.specs.declared.dex.RawTry.{RawTry}
-use Rattle.vet_base.specs.Script.{Script, Value, Test, ◌>>=◌, test, run, then_run}
+use Rattle.vet_base.specs.Script.{Script, Value, ◌>>=◌, test, run}
 use Rattle.vet_base.proofs.Scripts.{run_bind, is_first}
 use Rattle.dex_code.specs.declared.decoder.Counts.{Counts}
 use Rattle.dex_code.specs.declared.decoder.Decoded.{Decoded}
 use Rattle.dex_code.specs.declared.fault.CodeFault.{CodeFault}
 use Rattle.dex_code.specs.declared.fault.CodeFault.TheVariants as faults
-use Rattle.dex_code.specs.Lines.{Line, lines_at, StandFrom}
+use Rattle.dex_code.specs.Lines.{Line, lines_at}
 use Rattle.dex_code.specs.Flow.{flow_at, flows_at, Flows, AllFlow}
-use Rattle.dex_code.specs.Tries.{try_stands, tries_at, AllTriesStand}
+use Rattle.dex_code.specs.Tries.{tries_at, AllTriesStand}
 use Rattle.dex_code.specs.Code.{decoding, IsCode, FirstFault}
 use Rattle.dex_code.proofs.Runs.{passed, passes, first_gave, fails_first}
 use Rattle.dex_code.proofs.Standing.{lines_stand, lines_run}

@@ -9,7 +9,6 @@ use Rattle.dalvik_formats.specs.declared.pairs.Pairs.TheVariants as pairs
 use Rattle.dalvik_formats.specs.Layouts.{pairing_of}
 use Rattle.app_model.specs.declared.call.CallKind.{CallKind}
 use Rattle.app_model.specs.declared.call.CallKind.TheVariants as calls
-use Rattle.app_model.specs.declared.call.MethodRef.{MethodRef}
 use Rattle.app_model.specs.declared.method.Act.{Act}
 use Rattle.app_model.specs.declared.method.Act.TheVariants.{Skip, Join, Move, Blank, New, Fill, Get, Put, GetStatic, PutStatic, Call, Return, Throw, TakeResult, TakeException, Go}
 use Rattle.dex_code.specs.declared.insn.Insn.{Insn}

@@ -1,5 +1,5 @@
 -- The code of a method as a list of lines, and the first fault of its units.
-use Rattle.std.specs.Prelude.{◌≡◌, ◌≤◌, ◌<◌, ℕ, Bool, List, length, nat_lt, nat_le, ◌||◌}
+use Rattle.std.specs.Prelude.{◌≡◌, ◌<◌, length, nat_lt, nat_le, ◌||◌}
 use Rattle.dex_reader.specs.declared.dex.RawCode.{RawCode}
 use Rattle.dex_code.specs.declared.decoder.Counts.{Counts}
 use Rattle.dex_code.specs.declared.decoder.Decoded.{Decoded}
@@ -8,7 +8,7 @@ use Rattle.dex_code.specs.declared.fault.CodeFault.TheVariants as faults
 use Rattle.dex_code.specs.Lines.{lines_at, StandFrom}
 use Rattle.dex_code.specs.Flow.{flows_at, AllFlow}
 use Rattle.dex_code.specs.Tries.{tries_at, AllTriesStand}
-use Rattle.vet_base.specs.Script.{Script, Value, Test, ◌>>=◌, test, tests, IsFirst}
+use Rattle.vet_base.specs.Script.{Script, Value, ◌>>=◌, test, tests, IsFirst}
 
 -- The tests in their order: one sweep, then where control goes from each line, then the tries. Behind them stand the lines and the
 -- tries.

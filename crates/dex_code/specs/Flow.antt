@@ -1,5 +1,5 @@
 -- Where control goes from each line: to starts of instructions, and never off the end or into a payload.
-use Rattle.std.specs.Prelude.{◌≡◌, ℕ, ℤ, ◌==◌, Bool, true, false, not, List, [], ◌∷◌, map, nat_lt, ◌&&◌, ◌||◌, IsTrue, Option, Some, None, if◌then◌else◌}
+use Rattle.std.specs.Prelude.{ℕ, ℤ, ◌==◌, Bool, true, false, not, List, [], ◌∷◌, map, nat_lt, ◌||◌, IsTrue, Option, Some, None, if◌then◌else◌}
 use Rattle.std.specs.List.{list_all}
 use Rattle.dalvik_formats.specs.declared.kind.Kind.{Kind}
 use Rattle.dalvik_formats.specs.declared.kind.Kind.TheVariants.{Nop, PackedSwitch, SparseSwitch, FillArrayData}
@@ -11,7 +11,7 @@ use Rattle.dex_code.specs.declared.fault.CodeFault.TheVariants.{Target, Payload,
 use Rattle.dex_code.specs.Units.{target_of}
 use Rattle.dex_code.specs.Insns.{is_payload, kind_of}
 use Rattle.dex_code.specs.Lines.{Line}
-use Rattle.vet_base.specs.Script.{Script, Value, Test, ◌>>=◌, test}
+use Rattle.vet_base.specs.Script.{Script, Value, ◌>>=◌, test}
 
 -- what begins at a pc, by the lines
 unfoldable pub found : List Line → ℕ → Option Insn

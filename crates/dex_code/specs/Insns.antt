@@ -1,6 +1,6 @@
 -- What begins at a unit of code, how many units it takes, and what it says ("Dalvik executable instruction formats", and
 -- "Dalvik bytecode", the formats of the three payloads).
-use Rattle.std.specs.Prelude.{ℕ, ℤ, pos, ◌+◌, ◌*◌, ◌/◌, ◌%◌, ◌==◌, Bool, true, false, List, [], ◌∷◌, slice_index, take, if◌then◌else◌, zero, suc, Option, Some, None}
+use Rattle.std.specs.Prelude.{ℕ, ℤ, ◌+◌, ◌*◌, ◌/◌, ◌%◌, ◌==◌, Bool, true, false, List, [], ◌∷◌, slice_index, take, if◌then◌else◌, zero, suc, Option, Some, None}
 use Rattle.dalvik_formats.specs.declared.format.Format.{Format}
 use Rattle.dalvik_formats.specs.declared.format.Format.TheVariants as formats
 use Rattle.dalvik_formats.specs.declared.kind.Kind.{Kind}

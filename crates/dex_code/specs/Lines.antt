@@ -1,5 +1,5 @@
 -- The lines of a method's code: one sweep over its units.
-use Rattle.std.specs.Prelude.{◌≡◌, ◌≤◌, ℕ, ◌+◌, Bool, true, false, List, [], ◌∷◌, length, slice_index, nat_lt, nat_le, ◌&&◌, ◌||◌, IsTrue}
+use Rattle.std.specs.Prelude.{◌≡◌, ◌≤◌, ℕ, ◌+◌, Bool, List, [], ◌∷◌, length, slice_index, nat_lt, nat_le, ◌&&◌, ◌||◌, IsTrue}
 use Rattle.dex_reader.specs.declared.dex.RawCode.{RawCode}
 use Rattle.dex_code.specs.declared.decoder.Counts.{Counts}
 use Rattle.dex_code.specs.declared.insn.Insn.{Insn}
@@ -7,7 +7,7 @@ use Rattle.dex_code.specs.declared.fault.CodeFault.{CodeFault}
 use Rattle.dex_code.specs.declared.fault.CodeFault.TheVariants.{Opcode, Cut, Register, Index}
 use Rattle.dex_code.specs.Insns.{shape_at, width_at, insn_at, is_used}
 use Rattle.dex_code.specs.Registers.{registers_fit, count_fits, index_fits}
-use Rattle.vet_base.specs.Script.{Script, Value, Test, ◌>>=◌, test, sweep}
+use Rattle.vet_base.specs.Script.{Script, Value, ◌>>=◌, test, sweep}
 
 abbrev pub Line : Type 0
 Line = ℕ × Insn

@@ -1,5 +1,5 @@
 -- Where control goes from a line, and which handlers cover it: pcs, each once and ascending.
-use Rattle.std.specs.Prelude.{ℕ, ℤ, ◌+◌, ◌==◌, Bool, true, false, List, [], ◌∷◌, ◌++◌, map, nat_lt, nat_le, ◌&&◌, if◌then◌else◌, option_to_list}
+use Rattle.std.specs.Prelude.{ℕ, ℤ, ◌+◌, ◌==◌, Bool, List, [], ◌∷◌, ◌++◌, map, nat_lt, nat_le, ◌&&◌, if◌then◌else◌, option_to_list}
 use Rattle.dalvik_formats.specs.declared.kind.Kind.{Kind}
 use Rattle.dalvik_formats.specs.Layouts.{group_of, may_go_on}
 use Rattle.dex_reader.specs.declared.dex.RawTry.{RawTry}

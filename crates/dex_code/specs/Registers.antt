@@ -1,7 +1,6 @@
 -- The registers, pairs and indices that an instruction names must be there.
-use Rattle.std.specs.Prelude.{ℕ, ◌+◌, ◌==◌, Bool, true, false, List, [], ◌∷◌, slice_index, nat_lt, nat_le, ◌&&◌, ◌||◌, if◌then◌else◌}
+use Rattle.std.specs.Prelude.{ℕ, ◌+◌, ◌==◌, Bool, true, List, slice_index, nat_lt, nat_le, ◌&&◌, ◌||◌}
 use Rattle.std.specs.List.{list_all}
-use Rattle.dalvik_formats.specs.declared.format.Format.{Format}
 use Rattle.dalvik_formats.specs.declared.format.Format.TheVariants as formats
 use Rattle.dalvik_formats.specs.declared.format.Pool.{Pool}
 use Rattle.dalvik_formats.specs.declared.format.Pool.TheVariants.{Strings, Types, Fields, Methods}

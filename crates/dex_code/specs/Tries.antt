@@ -1,12 +1,12 @@
 -- The try items of a method: each covers units of it, and its handlers start instructions.
-use Rattle.std.specs.Prelude.{◌≡◌, ℕ, ◌+◌, Bool, true, false, List, [], ◌∷◌, nat_le, ◌&&◌, IsTrue, Option, Some, None}
+use Rattle.std.specs.Prelude.{ℕ, ◌+◌, Bool, true, List, [], ◌∷◌, nat_le, ◌&&◌, IsTrue, Option, Some, None}
 use Rattle.std.specs.List.{list_all}
 use Rattle.dex_reader.specs.declared.dex.RawTry.{RawTry}
 use Rattle.dex_code.specs.declared.fault.CodeFault.{CodeFault}
 use Rattle.dex_code.specs.declared.fault.CodeFault.TheVariants.{Tries}
 use Rattle.dex_code.specs.Lines.{Line}
 use Rattle.dex_code.specs.Flow.{starts}
-use Rattle.vet_base.specs.Script.{Script, Value, Test, ◌>>=◌, test}
+use Rattle.vet_base.specs.Script.{Script, Value, ◌>>=◌, test}
 
 unfoldable pub handlers_start : List Line → List (ℕ × ℕ) → Bool
 handlers_start lines handlers = list_all (λ handler. starts lines handler.1) handlers

@@ -1,4 +1,4 @@
-use Rattle.std.proofs.Common.{inl, inr, refl}
+use Rattle.std.proofs.Common.{inr}
 use Rattle.dex_code.proofs.Whole.{is_code, code_answered, fault_answered, first_fault}
 use Rattle.dex_code.proofs.Standing.{ascend}
 use Rattle.dex_code.proofs.decoder.decode.Goals as goal
