@@ -1,5 +1,5 @@
 -- Reading numbers from units one after the other.
-use Rattle.std.proofs.Common.{◌≡◌, ℕ, ℤ, suc, ◌+◌, ◌-◌, ◌*◌, ◌<◌, ◌≤◌, List, [], ◌∷◌, ◌++◌, append_assoc, refl, sym, ◌∙◌, arith}
+use Rattle.std.proofs.Common.{◌≡◌, ℕ, ℤ, zero, suc, ◌+◌, ◌-◌, ◌*◌, ◌<◌, ◌≤◌, List, [], ◌∷◌, ◌++◌, append_assoc, length, refl, sym, ◌∙◌, arith}
 use Rattle.std.proofs.lemmas.List.{append-nil}
 use Rattle.dex_code.specs.Units.{int_at}
 use Rattle.dex_code.specs.Insns.{ints_at, int_pairs_at}
@@ -71,3 +71,8 @@ range_done first i count front whole le so_far =
     let n : count - i ≡ 0 = omega arith in
     let step : front ++ range_of (first + i) (count - i) ≡ front = rw n (append-nil front) in
     sym step ∙ so_far.is
+
+pub range_length : (first count : ℕ) → length (range_of first count) ≡ count
+unfolding range_of
+range_length first zero = refl
+range_length first (suc n) = let h : length (range_of (first + 1) n) ≡ n = range_length (first + 1) n in omega (arith, h)
