@@ -9,6 +9,7 @@ pub mod Firsts
 pub mod FoldsOn
 pub mod Frame
 pub mod FrameSound
+pub mod InFiles
 pub mod Inserted
 pub mod Joined
 pub mod Keeps
@@ -21,8 +22,10 @@ pub mod Narrowed
 pub mod OneAnswer
 pub mod OneHierarchy
 pub mod Ordered
+pub mod Passes
 pub mod Places
 pub mod Providers
+pub mod PutIn
 pub mod Rounds
 pub mod Search
 pub mod Settling

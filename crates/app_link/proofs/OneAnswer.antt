@@ -31,6 +31,7 @@ use Rattle.app_link.specs.OneAnswer.{OneAnswer, OnlyApp}
 use Rattle.app_link.specs.Settled.{Outers, AllSettled, filled_by}
 use Rattle.app_link.specs.StaticList.{statics_named}
 use Rattle.app_link.specs.Texts.{Triple}
+use Rattle.app_link.proofs.InFiles.{gathering_runs}
 use Rattle.app_link.proofs.OneHierarchy.{classes_are, one_circle}
 use Rattle.app_link.proofs.Places.{ascending_alike}
 
@@ -42,13 +43,13 @@ one_value {F = F} r x y a b = ap (λ (s : Result _ F). elim s [ Ok z ↦ z | Err
 
 module _ (dexes : List Dex) (manifest : Manifest) (layouts : Layouts) (app : App) (is : IsApp dexes manifest layouts app) where
   same : (gathered : Gathered) → run (gathering dexes manifest) ≡ Ok gathered → is.gathered ≡ gathered
-  same gathered e = one_value (run (gathering dexes manifest)) is.gathered gathered is.gathers e
+  same gathered e = one_value (run (gathering dexes manifest)) is.gathered gathered (gathering_runs dexes manifest is.gathered is.gathers) e
 
   codes_of : (gathered : Gathered) → run (gathering dexes manifest) ≡ Ok gathered → run (all_codes dexes gathered.methods) ≡ Ok is.coding
   codes_of gathered e = subst (λ (g : Gathered). run (all_codes dexes g.methods) ≡ Ok is.coding) (same gathered e) is.codes
 
   none : (fault : Fault) → FirstFault dexes manifest fault → ⊥
-  none fault (of_gathering e) = ok_or_err (run (gathering dexes manifest)) is.gathered fault is.gathers e
+  none fault (of_gathering e) = ok_or_err (run (gathering dexes manifest)) is.gathered fault (gathering_runs dexes manifest is.gathered is.gathers) e
   none fault (of_hierarchy {name = name} gathered e circle) = is.no_circle.none name (subst (λ (g : Gathered). Above g.classes name name) (sym (same gathered e)) circle.circle)
   none fault (of_code gathered e circles fails) = ok_or_err (run (all_codes dexes gathered.methods)) is.coding fault (codes_of gathered e) fails
   none fault (of_limits gathered coding e circles codes fails) =
@@ -107,6 +108,12 @@ pub told_alone : (dexes : List Dex) (manifest : Manifest) (layouts : Layouts) (f
 told_alone dexes manifest layouts fault told f here (inl memory) first = inr (ap (λ (x : LinkFault). Err x) memory)
 told_alone dexes manifest layouts fault told f here (inr shows) first = inl (ap (λ (x : LinkFault). Err x) (shows ∙ (ap shown (one_fault dexes manifest fault first.found here first.first) ∙ sym first.shows)))
 
+-- where the first fault is told there is no app
+pub no_app : (dexes : List Dex) (manifest : Manifest) (layouts : Layouts) (fault : Fault) (told : LinkFault) (app : App) → FirstFault dexes manifest fault → (told ≡ want_of_memory) ⊎ (told ≡ shown fault) → IsApp dexes manifest layouts app
+    → (let r : Result App LinkFault = Err told in r ≡ Ok app) ⊎ (let r : Result App LinkFault = Err told in r ≡ Err want_of_memory)
+no_app dexes manifest layouts fault told app here (inl memory) is = inr (ap (λ (x : LinkFault). Err x) memory)
+no_app dexes manifest layouts fault told app here (inr shows) is = absurd (none dexes manifest layouts app is fault here)
+
 app_of : List Class → List Method → List Key → List Triple → List Component → List Name → List Name → List Name → App
 app_of classes methods keys statics components clicks providers layout_classes = record { classes = classes; methods = methods; keys = keys; statics = statics; components = components; clicks = clicks; providers = providers; layout_classes = layout_classes }
 
@@ -123,7 +130,7 @@ same_app a b one two three four five six seven eight =
 module _ (dexes : List Dex) (manifest : Manifest) (layouts : Layouts) (gathered : Gathered) (outers : Outers) (gathers : run (gathering dexes manifest) ≡ Ok gathered) (sorted : IsStrictlySortedBy name_order (keys_of gathered.classes))
     (settled : AllSettled gathered.classes outers) where
   gathered_as : (app : App) (is : IsApp dexes manifest layouts app) → is.gathered ≡ gathered
-  gathered_as app is = one_value (run (gathering dexes manifest)) is.gathered gathered is.gathers gathers
+  gathered_as app is = one_value (run (gathering dexes manifest)) is.gathered gathered (gathering_runs dexes manifest is.gathered is.gathers) gathers
 
   classes_as : (app : App) (is : IsApp dexes manifest layouts app) → app.classes ≡ map (filled_by outers) gathered.classes
   classes_as app is = classes_are gathered.classes outers sorted settled app.classes (subst (λ (g : Gathered). map without_outer app.classes ≡ map renamed g.classes) (gathered_as app is) is.classes) is.outers

@@ -8,7 +8,7 @@ use Rattle.app_model.specs.declared.papers.Layouts.{Layouts}
 use Rattle.app_link.specs.Code.{Coding, all_codes}
 use Rattle.app_link.specs.Components.{providers_of}
 use Rattle.app_link.specs.Frame.{before_code}
-use Rattle.app_link.specs.Gathered.{Gathered, gathering}
+use Rattle.app_link.specs.Gathered.{Gathered, AreGathered}
 use Rattle.app_link.specs.Hierarchy.{NoCircle, HasOuters, without_outer, renamed}
 use Rattle.app_link.specs.Keys.{all_keys}
 use Rattle.app_link.specs.Limits.{within_limits}
@@ -16,9 +16,9 @@ use Rattle.app_link.specs.Methods.{all_methods}
 use Rattle.app_link.specs.StaticList.{AreStatics}
 
 pub record IsApp (dexes : List Dex) (manifest : Manifest) (layouts : Layouts) (app : App) : Type 0 where
-  -- classes, members and components stand in the files, each once, and each component has a class
+  -- classes, members and components are those that stand in the files and the manifest, each once, and each component has a class
   pub gathered : Gathered
-  pub gathers : run (gathering dexes manifest) ≡ Ok gathered
+  pub gathers : AreGathered dexes manifest gathered
   -- no class is above itself
   pub no_circle : NoCircle gathered.classes
   -- all code is decoded and tested, and there is not too much of anything

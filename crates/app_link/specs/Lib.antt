@@ -8,6 +8,7 @@ pub mod Flags
 pub mod Frame
 pub mod Gathered
 pub mod Hierarchy
+pub mod InFiles
 pub mod IsApp
 pub mod Keys
 pub mod Lift
