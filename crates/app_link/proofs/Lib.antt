@@ -1,3 +1,4 @@
+pub mod AreCoded
 pub mod Asked
 pub mod Best
 pub mod Blamed

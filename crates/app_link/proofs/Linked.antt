@@ -17,6 +17,7 @@ use Rattle.app_link.specs.IsApp.{IsApp}
 use Rattle.app_link.specs.Limits.{within_limits}
 use Rattle.app_link.specs.Methods.{all_methods}
 use Rattle.app_link.specs.StaticList.{AreStatics}
+use Rattle.app_link.proofs.AreCoded.{coding_stands}
 use Rattle.app_link.proofs.InFiles.{gathering_stands}
 
 within : (dexes : List Dex) (gathered : Gathered) (coding : Coding) (classes methods fields : ℕ) → classes ≡ length gathered.classes → methods ≡ length gathered.methods → fields ≡ length gathered.fields
@@ -49,7 +50,7 @@ module _ (dexes : List Dex) (manifest : Manifest) (layouts : Layouts) (gathered 
     gathers = gathering_stands dexes manifest gathered gathers;
     no_circle = is.no_circle;
     coding = coding;
-    codes = codes;
+    codes = coding_stands dexes gathered.methods coding codes;
     limits = within dexes gathered coding classes methods fields one two three limits;
     classes = subst (λ (cs : List Class). map without_outer cs ≡ map renamed gathered.classes) (sym same_classes) is.classes;
     outers = subst HasOuters (sym same_classes) is.outers;

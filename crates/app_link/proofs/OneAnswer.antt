@@ -31,6 +31,7 @@ use Rattle.app_link.specs.OneAnswer.{OneAnswer, OnlyApp}
 use Rattle.app_link.specs.Settled.{Outers, AllSettled, filled_by}
 use Rattle.app_link.specs.StaticList.{statics_named}
 use Rattle.app_link.specs.Texts.{Triple}
+use Rattle.app_link.proofs.AreCoded.{coding_runs}
 use Rattle.app_link.proofs.InFiles.{gathering_runs}
 use Rattle.app_link.proofs.OneHierarchy.{classes_are, one_circle}
 use Rattle.app_link.proofs.Places.{ascending_alike}
@@ -46,7 +47,7 @@ module _ (dexes : List Dex) (manifest : Manifest) (layouts : Layouts) (app : App
   same gathered e = one_value (run (gathering dexes manifest)) is.gathered gathered (gathering_runs dexes manifest is.gathered is.gathers) e
 
   codes_of : (gathered : Gathered) → run (gathering dexes manifest) ≡ Ok gathered → run (all_codes dexes gathered.methods) ≡ Ok is.coding
-  codes_of gathered e = subst (λ (g : Gathered). run (all_codes dexes g.methods) ≡ Ok is.coding) (same gathered e) is.codes
+  codes_of gathered e = subst (λ (g : Gathered). run (all_codes dexes g.methods) ≡ Ok is.coding) (same gathered e) (coding_runs dexes is.gathered.methods is.coding is.codes)
 
   none : (fault : Fault) → FirstFault dexes manifest fault → ⊥
   none fault (of_gathering e) = ok_or_err (run (gathering dexes manifest)) is.gathered fault (gathering_runs dexes manifest is.gathered is.gathers) e
@@ -140,7 +141,7 @@ module _ (dexes : List Dex) (manifest : Manifest) (layouts : Layouts) (gathered 
     same_gathered = gathered_as a one ∙ sym (gathered_as b two)
 
     same_coding : one.coding ≡ two.coding
-    same_coding = one_value (run (all_codes dexes two.gathered.methods)) one.coding two.coding (subst (λ (g : Gathered). run (all_codes dexes g.methods) ≡ Ok one.coding) same_gathered one.codes) two.codes
+    same_coding = one_value (run (all_codes dexes two.gathered.methods)) one.coding two.coding (subst (λ (g : Gathered). run (all_codes dexes g.methods) ≡ Ok one.coding) same_gathered (coding_runs dexes one.gathered.methods one.coding one.codes)) (coding_runs dexes two.gathered.methods two.coding two.codes)
 
     same_classes : a.classes ≡ b.classes
     same_classes = classes_as a one ∙ sym (classes_as b two)

@@ -5,7 +5,8 @@ use Rattle.dex_reader.specs.declared.dex.Dex.{Dex}
 use Rattle.app_model.specs.declared.app.App.{App}
 use Rattle.app_model.specs.declared.papers.Manifest.{Manifest}
 use Rattle.app_model.specs.declared.papers.Layouts.{Layouts}
-use Rattle.app_link.specs.Code.{Coding, all_codes}
+use Rattle.app_link.specs.AreCoded.{AreCoded}
+use Rattle.app_link.specs.Code.{Coding}
 use Rattle.app_link.specs.Components.{providers_of}
 use Rattle.app_link.specs.Frame.{before_code}
 use Rattle.app_link.specs.Gathered.{Gathered, AreGathered}
@@ -23,7 +24,7 @@ pub record IsApp (dexes : List Dex) (manifest : Manifest) (layouts : Layouts) (a
   pub no_circle : NoCircle gathered.classes
   -- all code is decoded and tested, and there is not too much of anything
   pub coding : Coding
-  pub codes : run (all_codes dexes gathered.methods) ≡ Ok coding
+  pub codes : AreCoded dexes gathered.methods coding
   pub limits : run (within_limits (length gathered.classes) (length gathered.methods) (length gathered.fields) coding.1) ≡ Ok tt
   -- the classes stand by name, and each lists the library classes above it
   pub classes : map without_outer app.classes ≡ map renamed gathered.classes

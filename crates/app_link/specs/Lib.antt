@@ -1,3 +1,4 @@
+pub mod AreCoded
 pub mod Circle
 pub mod Classes
 pub mod Code
