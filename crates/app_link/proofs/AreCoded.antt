@@ -2,7 +2,7 @@
 use Rattle.std.proofs.Common.{◌≡◌, ℕ, ◌+◌, min, Bool, true, false, Ok, Option, Some, None, List, [], ◌∷◌, ◌++◌, append_assoc, append-nil, length, eq-eqb, refl, sym, ap, subst, ◌∙◌, arith, inl, inr}
 use Rattle.std.specs.Prelude.{IsTrue, ◌==◌, fold}
 use Rattle.std.specs.List.{AllZip, filter}
-use Rattle.vet_base.specs.Script.{Script, Value, ◌>>=◌, test, run}
+use Rattle.vet_base.specs.Script.{Value, ◌>>=◌, test, run}
 use Rattle.dex_reader.specs.declared.dex.Dex.{Dex}
 use Rattle.dex_reader.specs.declared.dex.RawCode.{RawCode}
 use Rattle.dex_reader.proofs.Readings.{bind_runs}
@@ -19,7 +19,7 @@ use Rattle.app_link.specs.declared.fault.Fault.{Fault}
 use Rattle.app_link.specs.declared.fault.Fault.TheVariants as faults
 use Rattle.app_link.specs.declared.members.Listed.{Listed}
 use Rattle.app_link.specs.Texts.{Triple}
-use Rattle.app_link.specs.AreCoded.{IsTestedCode, IsCoded, of_native, of_code, has_body, units_of, units_found, AreCoded}
+use Rattle.app_link.specs.AreCoded.{IsTestedCode, IsCoded, of_native, of_code, has_body, units_of, AreCoded}
 use Rattle.app_link.specs.Code.{Coding, blamed, counts_of, call_fits, call_row, calls_fit, tested, with_code, native_coded, reference, one_code, code_row, code_at, all_codes, more_units}
 use Rattle.app_link.specs.MemberRows.{Methods}
 use Rattle.app_link.specs.SoFar.{most_units}

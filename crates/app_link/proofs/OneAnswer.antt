@@ -1,5 +1,5 @@
 -- Files are one app or have one first fault, and not both.
-use Rattle.std.proofs.Common.{◌≡◌, Result, Ok, Err, List, [], map, length, refl, sym, ◌∙◌, ap, subst, ◌⊎◌, inl, inr}
+use Rattle.std.proofs.Common.{◌≡◌, Result, Ok, Err, List, map, length, refl, sym, ◌∙◌, ap, subst, ◌⊎◌, inl, inr}
 use Rattle.std.specs.List.Sorted.{IsStrictlySortedBy}
 use Rattle.std.specs.Map.{keys_of}
 use Rattle.vet_base.specs.Script.{run}
