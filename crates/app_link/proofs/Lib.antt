@@ -1,4 +1,5 @@
 pub mod AreCoded
+pub mod Ascending
 pub mod Asked
 pub mod Best
 pub mod Blamed

@@ -28,13 +28,15 @@ use Rattle.app_link.specs.Keys.{all_keys}
 use Rattle.app_link.specs.Limits.{within_limits}
 use Rattle.app_link.specs.Methods.{all_methods}
 use Rattle.app_link.specs.OneAnswer.{OneAnswer, OnlyApp}
+use Rattle.app_link.specs.Orders.{triple_order}
 use Rattle.app_link.specs.Settled.{Outers, AllSettled, filled_by}
 use Rattle.app_link.specs.StaticList.{statics_named}
 use Rattle.app_link.specs.Texts.{Triple}
 use Rattle.app_link.proofs.AreCoded.{coding_runs}
+use Rattle.app_link.proofs.Ascending.{ascending_alike}
 use Rattle.app_link.proofs.InFiles.{gathering_runs}
 use Rattle.app_link.proofs.OneHierarchy.{classes_are, one_circle}
-use Rattle.app_link.proofs.Places.{ascending_alike}
+use Rattle.app_link.proofs.Places.{triple_total}
 
 ok_or_err : {A F : Type 0} (r : Result A F) (x : A) (e : F) → r ≡ Ok x → r ≡ Err e → ⊥
 ok_or_err r x e is fails = let both : Ok x ≡ Err e = sym is ∙ fails in absurd cc
@@ -163,7 +165,7 @@ module _ (dexes : List Dex) (manifest : Manifest) (layouts : Layouts) (gathered 
         first ∙ (second ∙ third)
 
     same_statics : a.statics ≡ b.statics
-    same_statics = ascending_alike a.statics b.statics one.statics.order two.statics.order (λ t. (λ k. (two.statics.each t).1 (subst (λ (ts : List Triple). In t ts) same_named ((one.statics.each t).0 k)), λ k. (one.statics.each t).1 (subst (λ (ts : List Triple). In t ts) (sym same_named) ((two.statics.each t).0 k))))
+    same_statics = ascending_alike triple_order triple_total a.statics b.statics one.statics.order two.statics.order (λ t. (λ k. (two.statics.each t).1 (subst (λ (ts : List Triple). In t ts) same_named ((one.statics.each t).0 k)), λ k. (one.statics.each t).1 (subst (λ (ts : List Triple). In t ts) (sym same_named) ((two.statics.each t).0 k))))
 
     same_methods : a.methods ≡ b.methods
     same_methods =

@@ -6,16 +6,18 @@ use Rattle.std.specs.Cmp.{IsTotalOrder}
 use Rattle.std.specs.List.{AllByRecursion, IsDistinct}
 use Rattle.std.specs.List.Sorted.{IsStrictlySortedBy}
 use Rattle.std.specs.Map.{lookup, keys_of}
-use Rattle.std.specs.Ordering.{match_ordering, eq_by_cmp, is_eq}
+use Rattle.std.specs.Ordering.{match_ordering, eq_by_cmp, is_eq, on}
 use Rattle.std.specs.declared.cmp.Ordering.{Ordering}
 use Rattle.std.specs.declared.cmp.Ordering.TheVariants.{Less, Equal, Greater}
-use Rattle.std.proofs.lemmas.Cmp.{tied_itself, eq_by_cmp_equiv}
+use Rattle.std.proofs.lemmas.Cmp.{eq_by_cmp_equiv, on_total}
 use Rattle.std.proofs.lemmas.Map.{NonePasses, lookup-none, none_passes_from_lookup}
 use Rattle.std.proofs.lemmas.Map.Keys.{sorted_head, sorted_tail, IsDistinct-head, IsDistinct-tail, IsDistinct-cons}
 use Rattle.vet_base.specs.Script.{Script, Value, Test, ◌>>=◌, run}
 use Rattle.dex_code.proofs.Runs.{passed, passes}
 use Rattle.app_model.specs.Members.{In}
+use Rattle.app_model.specs.Sound.{Ascends}
 use Rattle.app_link.specs.Orders.{AreOrdered}
+use Rattle.app_link.proofs.Ascending.{ascending_alike}
 use Rattle.app_link.proofs.Keeps.{same_value}
 
 missed : {X : Type 0} (o : Option X) → IsTrue (not (is_some o)) → o ≡ None
@@ -26,12 +28,6 @@ misses : {X : Type 0} (o : Option X) → o ≡ None → IsTrue (not (is_some o))
 misses o e = rw e refl
 
 module _ {A : Type 0} (order : A → A → Ordering) (total : IsTotalOrder order) where
-  not_below_itself : (x y : A) → x ≡ y → order x y ≡ Less → ⊥
-  not_below_itself x y e less = let tie : order x y ≡ Equal = ap (order x) (sym e) ∙ tied_itself total x in absurd cc
-
-  not_both_below : (x y : A) → order x y ≡ Less → order y x ≡ Less → ⊥
-  not_both_below x y one other = not_below_itself x x refl (total.trans x y x one other)
-
   reversed : (x y : A) → order x y ≡ Greater → order y x ≡ Less
   reversed x y greater = rw (total.antisymm y x, greater) refl
 
@@ -51,41 +47,15 @@ module _ {K X : Type 0} (order : K → K → Ordering) (total : IsTotalOrder ord
   all_from P [] each = tt
   all_from P (d ∷ ds) each = (each d (inl refl), all_from P ds (λ e k. each e (inr k)))
 
+  by_key : (es : List (K × X)) → IsStrictlySortedBy order (keys_of es) → Ascends (on (λ (e : K × X). e.0) order) es
+  unfolding IsStrictlySortedBy
+  by_key [] sorted = tt
+  by_key (x ∷ []) sorted = tt
+  by_key (x ∷ y ∷ ys) sorted = (sorted.0.0, by_key (y ∷ ys) sorted.1)
+
   -- entries in order that have the same members are one list
-  pub entries_alike : (xs ys : List (K × X)) → IsStrictlySortedBy order (keys_of xs) → IsStrictlySortedBy order (keys_of ys) → ((e : K × X) → In e xs ↔ In e ys) → xs ≡ ys
-  entries_alike [] [] one two same = refl
-  entries_alike [] (y ∷ ys) one two same = absurd ((same y).1 (inl refl))
-  entries_alike (x ∷ xs) [] one two same = absurd ((same x).0 (inl refl))
-  entries_alike (x ∷ xs) (y ∷ ys) one two same =
-      ap (λ (e : K × X). e ∷ xs) first ∙ ap (λ (es : List (K × X)). y ∷ es) (entries_alike xs ys (sorted_tail order x.0 (keys_of xs) one) (sorted_tail order y.0 (keys_of ys) two) (λ e. (there e, back e)))
-    where
-      above_x : (e : K × X) → In e xs → order x.0 e.0 ≡ Less
-      above_x e k = all_above (λ q. order x.0 q ≡ Less) xs e (sorted_head order x.0 (keys_of xs) one) k
-
-      above_y : (e : K × X) → In e ys → order y.0 e.0 ≡ Less
-      above_y e k = all_above (λ q. order y.0 q ≡ Less) ys e (sorted_head order y.0 (keys_of ys) two) k
-
-      by_place : In x (y ∷ ys) → In y (x ∷ xs) → x ≡ y
-      by_place (inl e) k = e
-      by_place (inr j) (inl e) = sym e
-      by_place (inr j) (inr k) = absurd (not_both_below order total x.0 y.0 (above_x y k) (above_y x j))
-
-      first : x ≡ y
-      first = by_place ((same x).0 (inl refl)) ((same y).1 (inl refl))
-
-      behind : (e : K × X) → In e xs → In e (y ∷ ys) → In e ys
-      behind e k (inl s) = absurd (not_below_itself order total x.0 e.0 (ap (λ (d : K × X). d.0) (first ∙ sym s)) (above_x e k))
-      behind e k (inr j) = j
-
-      there : (e : K × X) → In e xs → In e ys
-      there e k = behind e k ((same e).0 (inr k))
-
-      before : (e : K × X) → In e ys → In e (x ∷ xs) → In e xs
-      before e k (inl s) = absurd (not_below_itself order total y.0 e.0 (ap (λ (d : K × X). d.0) (sym first ∙ sym s)) (above_y e k))
-      before e k (inr j) = j
-
-      back : (e : K × X) → In e ys → In e xs
-      back e k = before e k ((same e).1 (inr k))
+  entries_alike : (xs ys : List (K × X)) → IsStrictlySortedBy order (keys_of xs) → IsStrictlySortedBy order (keys_of ys) → ((e : K × X) → In e xs ↔ In e ys) → xs ≡ ys
+  entries_alike xs ys one two same = ascending_alike (on (λ (e : K × X). e.0) order) (on_total (λ (e : K × X). e.0) total) xs ys (by_key xs one) (by_key ys two) same
 
   -- no entry has the key
   abbrev Lacks : List (K × X) → K → Type 0
