@@ -16,6 +16,7 @@ pub mod Inserted
 pub mod Joined
 pub mod Keeps
 pub mod KeyOrder
+pub mod Limits
 pub mod Linked
 pub mod Lookups
 pub mod Meeting

@@ -35,6 +35,7 @@ use Rattle.app_link.specs.Texts.{Triple}
 use Rattle.app_link.proofs.AreCoded.{coding_runs}
 use Rattle.app_link.proofs.Ascending.{ascending_alike}
 use Rattle.app_link.proofs.InFiles.{gathering_runs}
+use Rattle.app_link.proofs.Limits.{limits_run}
 use Rattle.app_link.proofs.OneHierarchy.{classes_are, one_circle}
 use Rattle.app_link.proofs.Places.{triple_total}
 
@@ -58,7 +59,7 @@ module _ (dexes : List Dex) (manifest : Manifest) (layouts : Layouts) (app : App
   none fault (of_limits gathered coding e circles codes fails) =
       let k : is.gathered ≡ gathered = same gathered e in
       let c : is.coding ≡ coding = one_value (run (all_codes dexes gathered.methods)) is.coding coding (codes_of gathered e) codes in
-      let one : run (within_limits (length gathered.classes) (length gathered.methods) (length gathered.fields) is.coding.1) ≡ Ok tt = subst (λ (g : Gathered). run (within_limits (length g.classes) (length g.methods) (length g.fields) is.coding.1) ≡ Ok tt) k is.limits in
+      let one : run (within_limits (length gathered.classes) (length gathered.methods) (length gathered.fields) is.coding.1) ≡ Ok tt = subst (λ (g : Gathered). run (within_limits (length g.classes) (length g.methods) (length g.fields) is.coding.1) ≡ Ok tt) k (limits_run (length is.gathered.classes) (length is.gathered.methods) (length is.gathered.fields) is.coding.1 is.limits) in
       let two : run (within_limits (length gathered.classes) (length gathered.methods) (length gathered.fields) coding.1) ≡ Ok tt = subst (λ (x : Coding). run (within_limits (length gathered.classes) (length gathered.methods) (length gathered.fields) x.1) ≡ Ok tt) c one in
       ok_or_err (run (within_limits (length gathered.classes) (length gathered.methods) (length gathered.fields) coding.1)) tt fault two fails
 

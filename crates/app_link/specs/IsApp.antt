@@ -1,6 +1,5 @@
 -- The app of DEX files, a manifest and layouts.
-use Rattle.std.specs.Prelude.{◌≡◌, List, map, length, Ok}
-use Rattle.vet_base.specs.Script.{run}
+use Rattle.std.specs.Prelude.{◌≡◌, List, map, length}
 use Rattle.dex_reader.specs.declared.dex.Dex.{Dex}
 use Rattle.app_model.specs.declared.app.App.{App}
 use Rattle.app_model.specs.declared.papers.Manifest.{Manifest}
@@ -12,7 +11,7 @@ use Rattle.app_link.specs.Frame.{before_code}
 use Rattle.app_link.specs.Gathered.{Gathered, AreGathered}
 use Rattle.app_link.specs.Hierarchy.{NoCircle, HasOuters, without_outer, renamed}
 use Rattle.app_link.specs.Keys.{all_keys}
-use Rattle.app_link.specs.Limits.{within_limits}
+use Rattle.app_link.specs.Limits.{WithinLimits}
 use Rattle.app_link.specs.Methods.{all_methods}
 use Rattle.app_link.specs.StaticList.{AreStatics}
 
@@ -25,7 +24,7 @@ pub record IsApp (dexes : List Dex) (manifest : Manifest) (layouts : Layouts) (a
   -- all code is decoded and tested, and there is not too much of anything
   pub coding : Coding
   pub codes : AreCoded dexes gathered.methods coding
-  pub limits : run (within_limits (length gathered.classes) (length gathered.methods) (length gathered.fields) coding.1) ≡ Ok tt
+  pub limits : WithinLimits (length gathered.classes) (length gathered.methods) (length gathered.fields) coding.1
   -- the classes stand by name, and each lists the library classes above it
   pub classes : map without_outer app.classes ≡ map renamed gathered.classes
   pub outers : HasOuters app.classes
