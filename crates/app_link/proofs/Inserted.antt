@@ -17,6 +17,7 @@ use Rattle.app_link.specs.Texts.{Triple}
 use Rattle.app_link.specs.MemberRows.{Fields}
 use Rattle.app_link.specs.Orders.{triple_order}
 use Rattle.app_link.specs.StaticList.{AreStatics, statics_named}
+use Rattle.app_link.proofs.Ascending.{below_later}
 use Rattle.app_link.proofs.KeyOrder.{ascends_strictly}
 use Rattle.app_link.proofs.Places.{triple_total, tied_triples_equal}
 
@@ -83,16 +84,11 @@ are_statics app fields dexes coded keys statics made listed sorted =
     from_none field (inl k) = absurd k
     from_none field (inr k) = k
 
-below : (x : Triple) (xs : List Triple) → Ascends triple_order (x ∷ xs) → (y : Triple) → In y xs → triple_order x y ≡ Less
-below x [] up y k = absurd k
-below x (z ∷ zs) up y (inl same) = subst (λ (t : Triple). triple_order x t ≡ Less) (sym same) up.0
-below x (z ∷ zs) up y (inr k) = triple_total.trans x z y up.0 (below z zs up.1 y k)
-
 -- in order none stands twice
 pub ascend_apart : (xs : List Triple) → Ascends triple_order xs → Apart xs
 ascend_apart [] up = tt
 ascend_apart (x ∷ []) up = (λ k. k, tt)
-ascend_apart (x ∷ y ∷ ys) up = (λ k. not_below (below x (y ∷ ys) up x k) (tied_itself triple_total x), ascend_apart (y ∷ ys) up.1)
+ascend_apart (x ∷ y ∷ ys) up = (λ k. not_below (below_later triple_order triple_total x (y ∷ ys) up x k) (tied_itself triple_total x), ascend_apart (y ∷ ys) up.1)
   where
     not_below : triple_order x x ≡ Less → triple_order x x ≡ Equal → ⊥
     not_below less tie = absurd cc

@@ -1,3 +1,5 @@
+pub mod AreCoded
+pub mod Ascending
 pub mod Asked
 pub mod Best
 pub mod Blamed
@@ -9,10 +11,12 @@ pub mod Firsts
 pub mod FoldsOn
 pub mod Frame
 pub mod FrameSound
+pub mod InFiles
 pub mod Inserted
 pub mod Joined
 pub mod Keeps
 pub mod KeyOrder
+pub mod Limits
 pub mod Linked
 pub mod Lookups
 pub mod Meeting
@@ -21,8 +25,10 @@ pub mod Narrowed
 pub mod OneAnswer
 pub mod OneHierarchy
 pub mod Ordered
+pub mod Passes
 pub mod Places
 pub mod Providers
+pub mod PutIn
 pub mod Rounds
 pub mod Search
 pub mod Settling

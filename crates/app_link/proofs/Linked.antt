@@ -17,6 +17,9 @@ use Rattle.app_link.specs.IsApp.{IsApp}
 use Rattle.app_link.specs.Limits.{within_limits}
 use Rattle.app_link.specs.Methods.{all_methods}
 use Rattle.app_link.specs.StaticList.{AreStatics}
+use Rattle.app_link.proofs.AreCoded.{coding_stands}
+use Rattle.app_link.proofs.InFiles.{gathering_stands}
+use Rattle.app_link.proofs.Limits.{limits_stand}
 
 within : (dexes : List Dex) (gathered : Gathered) (coding : Coding) (classes methods fields : ℕ) → classes ≡ length gathered.classes → methods ≡ length gathered.methods → fields ≡ length gathered.fields
     → run (within_limits classes methods fields coding.1) ≡ Ok tt → run (within_limits (length gathered.classes) (length gathered.methods) (length gathered.fields) coding.1) ≡ Ok tt
@@ -45,11 +48,11 @@ module _ (dexes : List Dex) (manifest : Manifest) (layouts : Layouts) (gathered 
       → IsApp dexes manifest layouts app
   is_app classes methods fields one two three gathers codes limits components clicks providers layout_classes statics lifted = record {
     gathered = gathered;
-    gathers = gathers;
+    gathers = gathering_stands dexes manifest gathered gathers;
     no_circle = is.no_circle;
     coding = coding;
-    codes = codes;
-    limits = within dexes gathered coding classes methods fields one two three limits;
+    codes = coding_stands dexes gathered.methods coding codes;
+    limits = limits_stand (length gathered.classes) (length gathered.methods) (length gathered.fields) coding.1 (within dexes gathered coding classes methods fields one two three limits);
     classes = subst (λ (cs : List Class). map without_outer cs ≡ map renamed gathered.classes) (sym same_classes) is.classes;
     outers = subst HasOuters (sym same_classes) is.outers;
     keys = ap (λ (a : App). a.keys) others ∙ is.keys;

@@ -28,11 +28,16 @@ use Rattle.app_link.specs.Keys.{all_keys}
 use Rattle.app_link.specs.Limits.{within_limits}
 use Rattle.app_link.specs.Methods.{all_methods}
 use Rattle.app_link.specs.OneAnswer.{OneAnswer, OnlyApp}
+use Rattle.app_link.specs.Orders.{triple_order}
 use Rattle.app_link.specs.Settled.{Outers, AllSettled, filled_by}
 use Rattle.app_link.specs.StaticList.{statics_named}
 use Rattle.app_link.specs.Texts.{Triple}
+use Rattle.app_link.proofs.AreCoded.{coding_runs}
+use Rattle.app_link.proofs.Ascending.{ascending_alike}
+use Rattle.app_link.proofs.InFiles.{gathering_runs}
+use Rattle.app_link.proofs.Limits.{limits_run}
 use Rattle.app_link.proofs.OneHierarchy.{classes_are, one_circle}
-use Rattle.app_link.proofs.Places.{ascending_alike}
+use Rattle.app_link.proofs.Places.{triple_total}
 
 ok_or_err : {A F : Type 0} (r : Result A F) (x : A) (e : F) → r ≡ Ok x → r ≡ Err e → ⊥
 ok_or_err r x e is fails = let both : Ok x ≡ Err e = sym is ∙ fails in absurd cc
@@ -42,19 +47,19 @@ one_value {F = F} r x y a b = ap (λ (s : Result _ F). elim s [ Ok z ↦ z | Err
 
 module _ (dexes : List Dex) (manifest : Manifest) (layouts : Layouts) (app : App) (is : IsApp dexes manifest layouts app) where
   same : (gathered : Gathered) → run (gathering dexes manifest) ≡ Ok gathered → is.gathered ≡ gathered
-  same gathered e = one_value (run (gathering dexes manifest)) is.gathered gathered is.gathers e
+  same gathered e = one_value (run (gathering dexes manifest)) is.gathered gathered (gathering_runs dexes manifest is.gathered is.gathers) e
 
   codes_of : (gathered : Gathered) → run (gathering dexes manifest) ≡ Ok gathered → run (all_codes dexes gathered.methods) ≡ Ok is.coding
-  codes_of gathered e = subst (λ (g : Gathered). run (all_codes dexes g.methods) ≡ Ok is.coding) (same gathered e) is.codes
+  codes_of gathered e = subst (λ (g : Gathered). run (all_codes dexes g.methods) ≡ Ok is.coding) (same gathered e) (coding_runs dexes is.gathered.methods is.coding is.codes)
 
   none : (fault : Fault) → FirstFault dexes manifest fault → ⊥
-  none fault (of_gathering e) = ok_or_err (run (gathering dexes manifest)) is.gathered fault is.gathers e
+  none fault (of_gathering e) = ok_or_err (run (gathering dexes manifest)) is.gathered fault (gathering_runs dexes manifest is.gathered is.gathers) e
   none fault (of_hierarchy {name = name} gathered e circle) = is.no_circle.none name (subst (λ (g : Gathered). Above g.classes name name) (sym (same gathered e)) circle.circle)
   none fault (of_code gathered e circles fails) = ok_or_err (run (all_codes dexes gathered.methods)) is.coding fault (codes_of gathered e) fails
   none fault (of_limits gathered coding e circles codes fails) =
       let k : is.gathered ≡ gathered = same gathered e in
       let c : is.coding ≡ coding = one_value (run (all_codes dexes gathered.methods)) is.coding coding (codes_of gathered e) codes in
-      let one : run (within_limits (length gathered.classes) (length gathered.methods) (length gathered.fields) is.coding.1) ≡ Ok tt = subst (λ (g : Gathered). run (within_limits (length g.classes) (length g.methods) (length g.fields) is.coding.1) ≡ Ok tt) k is.limits in
+      let one : run (within_limits (length gathered.classes) (length gathered.methods) (length gathered.fields) is.coding.1) ≡ Ok tt = subst (λ (g : Gathered). run (within_limits (length g.classes) (length g.methods) (length g.fields) is.coding.1) ≡ Ok tt) k (limits_run (length is.gathered.classes) (length is.gathered.methods) (length is.gathered.fields) is.coding.1 is.limits) in
       let two : run (within_limits (length gathered.classes) (length gathered.methods) (length gathered.fields) coding.1) ≡ Ok tt = subst (λ (x : Coding). run (within_limits (length gathered.classes) (length gathered.methods) (length gathered.fields) x.1) ≡ Ok tt) c one in
       ok_or_err (run (within_limits (length gathered.classes) (length gathered.methods) (length gathered.fields) coding.1)) tt fault two fails
 
@@ -107,6 +112,12 @@ pub told_alone : (dexes : List Dex) (manifest : Manifest) (layouts : Layouts) (f
 told_alone dexes manifest layouts fault told f here (inl memory) first = inr (ap (λ (x : LinkFault). Err x) memory)
 told_alone dexes manifest layouts fault told f here (inr shows) first = inl (ap (λ (x : LinkFault). Err x) (shows ∙ (ap shown (one_fault dexes manifest fault first.found here first.first) ∙ sym first.shows)))
 
+-- where the first fault is told there is no app
+pub no_app : (dexes : List Dex) (manifest : Manifest) (layouts : Layouts) (fault : Fault) (told : LinkFault) (app : App) → FirstFault dexes manifest fault → (told ≡ want_of_memory) ⊎ (told ≡ shown fault) → IsApp dexes manifest layouts app
+    → (let r : Result App LinkFault = Err told in r ≡ Ok app) ⊎ (let r : Result App LinkFault = Err told in r ≡ Err want_of_memory)
+no_app dexes manifest layouts fault told app here (inl memory) is = inr (ap (λ (x : LinkFault). Err x) memory)
+no_app dexes manifest layouts fault told app here (inr shows) is = absurd (none dexes manifest layouts app is fault here)
+
 app_of : List Class → List Method → List Key → List Triple → List Component → List Name → List Name → List Name → App
 app_of classes methods keys statics components clicks providers layout_classes = record { classes = classes; methods = methods; keys = keys; statics = statics; components = components; clicks = clicks; providers = providers; layout_classes = layout_classes }
 
@@ -123,7 +134,7 @@ same_app a b one two three four five six seven eight =
 module _ (dexes : List Dex) (manifest : Manifest) (layouts : Layouts) (gathered : Gathered) (outers : Outers) (gathers : run (gathering dexes manifest) ≡ Ok gathered) (sorted : IsStrictlySortedBy name_order (keys_of gathered.classes))
     (settled : AllSettled gathered.classes outers) where
   gathered_as : (app : App) (is : IsApp dexes manifest layouts app) → is.gathered ≡ gathered
-  gathered_as app is = one_value (run (gathering dexes manifest)) is.gathered gathered is.gathers gathers
+  gathered_as app is = one_value (run (gathering dexes manifest)) is.gathered gathered (gathering_runs dexes manifest is.gathered is.gathers) gathers
 
   classes_as : (app : App) (is : IsApp dexes manifest layouts app) → app.classes ≡ map (filled_by outers) gathered.classes
   classes_as app is = classes_are gathered.classes outers sorted settled app.classes (subst (λ (g : Gathered). map without_outer app.classes ≡ map renamed g.classes) (gathered_as app is) is.classes) is.outers
@@ -133,7 +144,7 @@ module _ (dexes : List Dex) (manifest : Manifest) (layouts : Layouts) (gathered 
     same_gathered = gathered_as a one ∙ sym (gathered_as b two)
 
     same_coding : one.coding ≡ two.coding
-    same_coding = one_value (run (all_codes dexes two.gathered.methods)) one.coding two.coding (subst (λ (g : Gathered). run (all_codes dexes g.methods) ≡ Ok one.coding) same_gathered one.codes) two.codes
+    same_coding = one_value (run (all_codes dexes two.gathered.methods)) one.coding two.coding (subst (λ (g : Gathered). run (all_codes dexes g.methods) ≡ Ok one.coding) same_gathered (coding_runs dexes one.gathered.methods one.coding one.codes)) (coding_runs dexes two.gathered.methods two.coding two.codes)
 
     same_classes : a.classes ≡ b.classes
     same_classes = classes_as a one ∙ sym (classes_as b two)
@@ -155,7 +166,7 @@ module _ (dexes : List Dex) (manifest : Manifest) (layouts : Layouts) (gathered 
         first ∙ (second ∙ third)
 
     same_statics : a.statics ≡ b.statics
-    same_statics = ascending_alike a.statics b.statics one.statics.order two.statics.order (λ t. (λ k. (two.statics.each t).1 (subst (λ (ts : List Triple). In t ts) same_named ((one.statics.each t).0 k)), λ k. (one.statics.each t).1 (subst (λ (ts : List Triple). In t ts) (sym same_named) ((two.statics.each t).0 k))))
+    same_statics = ascending_alike triple_order triple_total a.statics b.statics one.statics.order two.statics.order (λ t. (λ k. (two.statics.each t).1 (subst (λ (ts : List Triple). In t ts) same_named ((one.statics.each t).0 k)), λ k. (one.statics.each t).1 (subst (λ (ts : List Triple). In t ts) (sym same_named) ((two.statics.each t).0 k))))
 
     same_methods : a.methods ≡ b.methods
     same_methods =

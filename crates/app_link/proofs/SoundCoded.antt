@@ -29,6 +29,7 @@ use Rattle.app_link.specs.MemberRows.{Methods}
 use Rattle.app_link.specs.Orders.{triple_order}
 use Rattle.app_link.specs.Through.{through}
 use Rattle.app_link.specs.Code.{blamed, counts_of, bodies_of, call_fits, call_row, calls_fit, tested, with_code, native_coded, reference, Coding, one_code, code_row, code_at, all_codes, more_units}
+use Rattle.app_link.specs.AreCoded.{IsTestedCode}
 use Rattle.app_link.specs.Described.{Described}
 use Rattle.app_link.specs.Tested.{HasCode, IsTested, coded_order, Tested}
 use Rattle.app_link.proofs.Keeps.{same_value}
@@ -46,12 +47,8 @@ calls_each dex at i (l ∷ ls) u v e line k =
       | inr j ↦ calls_each dex at (i + 1) ls first.0 v first.2 line j
     ]
 
--- what a test of code says
-record Facts (at : MethodRef) (is_static : Bool) (dex : Dex) (code : RawCode) (decoded : Decoded) : Type 0 where
-  takes : code.ins ≡ taken is_static at.proto
-  calls : (line : Line) → In line decoded.lines → IsTrue (call_fits dex line.1)
-
-tested_facts : (at : MethodRef) (is_static : Bool) (dex : Dex) (code : RawCode) (decoded : Decoded) → run (tested at is_static dex code) ≡ Ok decoded → Facts at is_static dex code decoded
+-- what was tested is the code, with the registers that descriptors tell
+pub tested_facts : (at : MethodRef) (is_static : Bool) (dex : Dex) (code : RawCode) (decoded : Decoded) → run (tested at is_static dex code) ≡ Ok decoded → IsTestedCode at is_static dex code decoded
 unfolding tested calls_fit
 tested_facts at is_static dex code decoded e =
     let read = first_gave (blamed (faults.Code at) (decoding code (counts_of dex))) (λ d. test (taken is_static at.proto == code.ins) (faults.Code at (Register 0)) >>= (λ _. calls_fit dex at d.lines >>= (λ _. Value d))) decoded e in
@@ -59,7 +56,11 @@ tested_facts at is_static dex code decoded e =
     let calls = first_gave (calls_fit dex at read.0.lines) (λ _. Value read.0) decoded ins.1 in
     let same : read.0 ≡ decoded = same_value {F = Fault} read.0 decoded calls.2 in
     let each : (line : Line) → In line read.0.lines → IsTrue (call_fits dex line.1) = calls_each dex at 0 read.0.lines tt calls.0 calls.1 in
-    record { takes = sym (same_number (taken is_static at.proto) code.ins ins.0); calls = subst (λ (d : Decoded). (line : Line) → In line d.lines → IsTrue (call_fits dex line.1)) same each }
+    record {
+      is = tested_code at is_static dex code decoded e;
+      takes = sym (same_number (taken is_static at.proto) code.ins ins.0);
+      calls = subst (λ (d : Decoded). (line : Line) → In line d.lines → IsTrue (call_fits dex line.1)) same each;
+    }
 
 -- the file of a place where there is code
 file_at : (dexes : List Dex) (place : Place) (dex : Dex) (code : RawCode) → code_at dexes place ≡ Some (dex, code) → slice_get dexes place.dex ≡ Some dex
@@ -99,7 +100,7 @@ code_tested dexes at listed dex code decoded file e =
       dex = dex;
       code = code;
       file = file;
-      is = tested_code at listed.is_static dex code decoded e;
+      is = facts.is;
       registers = refl;
       ins = refl;
       takes = facts.takes;

@@ -1,5 +1,5 @@
 -- The components of the manifest: the application first, where there is one, and then activities, services and receivers.
-use Rattle.std.specs.Prelude.{ℕ, List, [], ◌∷◌, ◌++◌, Option, Some, None, filter_map}
+use Rattle.std.specs.Prelude.{ℕ, List, [], ◌∷◌, ◌++◌, map, Option, Some, None, filter_map, option_to_list}
 use Rattle.vet_base.specs.Script.{Script, Value, ◌>>=◌, test}
 use Rattle.app_model.specs.declared.app.Class.{Class}
 use Rattle.app_model.specs.declared.component.Kind.{Kind}
@@ -40,6 +40,21 @@ unfoldable pub all_components : List (Name × Class) → Manifest → Script Fau
 all_components classes manifest = do
   first ← application_row classes manifest.application
   component_rows classes manifest.components first
+
+-- the component that a row of the manifest tells
+abbrev pub of_kind : Option Kind → Name → Option Component
+of_kind None class = None
+of_kind (Some kind) class = Some (record { kind = kind; class = class })
+
+unfoldable pub component_of : Word × Name → Option Component
+component_of row = of_kind (kind_of row.0) row.1
+
+unfoldable pub application_of : Name → Component
+application_of class = record { kind = kinds.Application; class = class }
+
+-- the components that the manifest tells: the application first, and then the others in their order
+unfoldable pub components_of : Manifest → List Component
+components_of manifest = map application_of (option_to_list manifest.application) ++ filter_map component_of manifest.components
 
 abbrev pub named_provider : Word → Name → Option Name
 named_provider words.Provider name = Some name

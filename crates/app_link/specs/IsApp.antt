@@ -1,30 +1,30 @@
 -- The app of DEX files, a manifest and layouts.
-use Rattle.std.specs.Prelude.{◌≡◌, List, map, length, Ok}
-use Rattle.vet_base.specs.Script.{run}
+use Rattle.std.specs.Prelude.{◌≡◌, List, map, length}
 use Rattle.dex_reader.specs.declared.dex.Dex.{Dex}
 use Rattle.app_model.specs.declared.app.App.{App}
 use Rattle.app_model.specs.declared.papers.Manifest.{Manifest}
 use Rattle.app_model.specs.declared.papers.Layouts.{Layouts}
-use Rattle.app_link.specs.Code.{Coding, all_codes}
+use Rattle.app_link.specs.AreCoded.{AreCoded}
+use Rattle.app_link.specs.Code.{Coding}
 use Rattle.app_link.specs.Components.{providers_of}
 use Rattle.app_link.specs.Frame.{before_code}
-use Rattle.app_link.specs.Gathered.{Gathered, gathering}
+use Rattle.app_link.specs.Gathered.{Gathered, AreGathered}
 use Rattle.app_link.specs.Hierarchy.{NoCircle, HasOuters, without_outer, renamed}
 use Rattle.app_link.specs.Keys.{all_keys}
-use Rattle.app_link.specs.Limits.{within_limits}
+use Rattle.app_link.specs.Limits.{WithinLimits}
 use Rattle.app_link.specs.Methods.{all_methods}
 use Rattle.app_link.specs.StaticList.{AreStatics}
 
 pub record IsApp (dexes : List Dex) (manifest : Manifest) (layouts : Layouts) (app : App) : Type 0 where
-  -- classes, members and components stand in the files, each once, and each component has a class
+  -- classes, members and components are those that stand in the files and the manifest, each once, and each component has a class
   pub gathered : Gathered
-  pub gathers : run (gathering dexes manifest) ≡ Ok gathered
+  pub gathers : AreGathered dexes manifest gathered
   -- no class is above itself
   pub no_circle : NoCircle gathered.classes
   -- all code is decoded and tested, and there is not too much of anything
   pub coding : Coding
-  pub codes : run (all_codes dexes gathered.methods) ≡ Ok coding
-  pub limits : run (within_limits (length gathered.classes) (length gathered.methods) (length gathered.fields) coding.1) ≡ Ok tt
+  pub codes : AreCoded dexes gathered.methods coding
+  pub limits : WithinLimits (length gathered.classes) (length gathered.methods) (length gathered.fields) coding.1
   -- the classes stand by name, and each lists the library classes above it
   pub classes : map without_outer app.classes ≡ map renamed gathered.classes
   pub outers : HasOuters app.classes

@@ -1,3 +1,4 @@
+pub mod AreCoded
 pub mod Circle
 pub mod Classes
 pub mod Code
@@ -8,6 +9,7 @@ pub mod Flags
 pub mod Frame
 pub mod Gathered
 pub mod Hierarchy
+pub mod InFiles
 pub mod IsApp
 pub mod Keys
 pub mod Lift

@@ -1,5 +1,5 @@
 -- How large an app may be: the largest numbers of classes, of methods, of fields, and of units of code.
-use Rattle.std.specs.Prelude.{ℕ, nat_le}
+use Rattle.std.specs.Prelude.{ℕ, ◌≤◌, nat_le}
 use Rattle.vet_base.specs.Script.{Script, ◌>>=◌, test}
 use Rattle.app_link.specs.declared.fault.Fault.{Fault}
 use Rattle.app_link.specs.declared.fault.Fault.TheVariants.{TooMany}
@@ -11,3 +11,10 @@ within_limits classes methods fields units = do
   _ ← test (nat_le methods 400000) (TooMany limits.Methods)
   _ ← test (nat_le fields 400000) (TooMany limits.Fields)
   test (nat_le units 33554432) (TooMany limits.Units)
+
+-- there are no more than that of anything
+pub record WithinLimits (classes methods fields units : ℕ) : Type 0 where
+  pub few_classes : classes ≤ 100000
+  pub few_methods : methods ≤ 400000
+  pub few_fields : fields ≤ 400000
+  pub few_units : units ≤ 33554432

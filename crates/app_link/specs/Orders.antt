@@ -1,9 +1,12 @@
 -- Ordered lists of entries, by a name or by three names.
-use Rattle.std.specs.Prelude.{Bool, List, Option, is_some}
+use Rattle.std.specs.Prelude.{◌↔◌, Bool, List, Option, is_some}
+use Rattle.std.specs.List.{IsDistinct}
+use Rattle.std.specs.List.Sorted.{IsStrictlySortedBy}
 use Rattle.std.specs.declared.cmp.Ordering.{Ordering}
-use Rattle.std.specs.Ordering.{ordering_then}
+use Rattle.std.specs.Ordering.{ordering_then, eq_by_cmp}
 use Rattle.std.specs.BTreeMap.{insert_entry, is_at}
-use Rattle.std.specs.Map.{lookup}
+use Rattle.std.specs.Map.{lookup, keys_of}
+use Rattle.app_model.specs.Members.{In}
 use Rattle.app_model.specs.Names.{Name}
 use Rattle.app_model.specs.Sound.{name_order}
 use Rattle.app_link.specs.Texts.{Triple}
@@ -30,3 +33,9 @@ has_triple entries triple = is_some (named_triple entries triple)
 
 unfoldable pub with_triple : {X : Type 0} → List (Triple × X) → Triple → X → List (Triple × X)
 with_triple entries triple x = insert_entry triple_order entries triple x
+
+-- the entries are those of the whole list, which has no key twice, in strictly ascending order of their keys
+pub record AreOrdered {K X : Type 0} (order : K → K → Ordering) (whole entries : List (K × X)) : Type 0 where
+  pub once : IsDistinct (eq_by_cmp order) (keys_of whole)
+  pub sorted : IsStrictlySortedBy order (keys_of entries)
+  pub each : (entry : K × X) → In entry entries ↔ In entry whole
