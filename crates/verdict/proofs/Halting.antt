@@ -1,5 +1,5 @@
 -- The refusals of the parts.
-use Rattle.std.proofs.Common.{◌≡◌, ◌≢◌, ℕ, ◌+◌, ◌^◌, ◌<◌, ◌≤◌, zero, suc, List, [], ◌∷◌, ◌++◌, length, take, get_or, Some, refl, sym, subst, arith, add-one, inl, inr}
+use Rattle.std.proofs.Common.{◌≡◌, ◌≢◌, ◌⊎◌, Result, Ok, Err, ℕ, ◌+◌, ◌^◌, ◌<◌, ◌≤◌, zero, suc, List, [], ◌∷◌, ◌++◌, length, take, get_or, Some, refl, sym, subst, arith, add-one, inl, inr}
 use Rattle.std.proofs.lemmas.Option.{slice_get_read}
 use Rattle.std.specs.Prelude.{false, codes, slice_get}
 use Rattle.vet_base.specs.declared.stop.Stop.{Stop}
@@ -13,6 +13,7 @@ use Rattle.app_link.specs.declared.linking.LinkFault.{LinkFault}
 use Rattle.app_link.specs.declared.linking.LinkFault.TheVariants as link_fault
 use Rattle.app_link.specs.FirstLinkFault.{FirstLinkFault}
 use Rattle.app_link.specs.IsApp.{IsApp}
+use Rattle.app_link.specs.OneAnswer.{OnlyApp}
 use Rattle.app_model.specs.declared.app.App.{App}
 use Rattle.app_model.specs.declared.lists.Lists.{Lists}
 use Rattle.app_model.specs.declared.papers.Manifest.{Manifest}
@@ -34,7 +35,9 @@ use Rattle.verdict.specs.declared.papers.Papers.{Papers}
 use Rattle.verdict.specs.declared.papers.Refusal.{Refusal}
 use Rattle.verdict.specs.declared.parts.Parts.{Parts}
 use Rattle.verdict.specs.Halts.{Halts, HaltsForm, HaltsFault, HaltsLink}
-use Rattle.verdict.specs.Refuses.{HasManifest, HasPapers, AreDex, Refuses, bad_manifest, other_count, bad_layouts, bad_declaration, bad_lists, bad_dex, bad_app, unbuilt}
+use Rattle.verdict.specs.OneVerdict.{RefusesOnly}
+use Rattle.verdict.specs.Refuses.{HasManifest, HasPapers, AreDex, Refuses, bad_manifest, other_count, bad_layouts, bad_declaration, bad_lists, bad_dex, bad_app}
+use Rattle.verdict.proofs.OneVerdict.{fault_only, unbuilt_only}
 
 -- lists that were read are short enough to be numbered
 pub numbered : (lists : Lists) → SoundLists lists → NumberedLists lists
@@ -44,29 +47,31 @@ numbered lists sound = record { classes = below_all (length lists.classes) sound
     below_all n few = omega arith
 
 -- a refusal that is this one
-is_this : (parts : Parts) (r this : Refusal) → r ≡ this → Refuses parts this.part this.reason → Refuses parts r.part r.reason
-is_this parts r this same refuses = let P : Refusal → Type 0 = λ x. Refuses parts x.part x.reason in subst P (sym same) refuses
+is_this : (parts : Parts) (r this : Refusal) → r ≡ this → RefusesOnly parts this.part this.reason → RefusesOnly parts r.part r.reason
+is_this parts r this same refuses = let P : Refusal → Type 0 = λ x. RefusesOnly parts x.part x.reason in subst P (sym same) refuses
 
-pub of_manifest : (parts : Parts) (e : FormFault) (h : Stop Refusal) → (e ≢ told.Memory → FirstFormFault manifest_form parts.manifest e) → HaltsForm part.Manifest e h → Halts (Refuses parts) h
+pub of_manifest : (parts : Parts) (e : FormFault) (h : Stop Refusal) → (e ≢ told.Memory → FirstFormFault manifest_form parts.manifest e) → HaltsForm part.Manifest e h → Halts (RefusesOnly parts) h
 of_manifest parts e stops.Memory first halts = tt
-of_manifest parts e (stops.Fault r) first halts = is_this parts r _ halts.1 (bad_manifest e (first halts.0))
+of_manifest parts e (stops.Fault r) first halts = is_this parts r _ halts.1 (fault_only parts part.Manifest (reason.Form e) tt (bad_manifest e (first halts.0)))
 
-pub of_count : (parts : Parts) (m : Manifest) (key : List ℕ) → IsForm manifest_form parts.manifest m → m.dex_files ≢ length parts.dex → key ≡ codes "dex_files" → Refuses parts part.Manifest (reason.Form (told.Range key))
-of_count parts m key form other is = let P : List ℕ → Type 0 = λ k. Refuses parts part.Manifest (reason.Form (told.Range k)) in subst P (sym is) (other_count m form other)
+pub of_count : (parts : Parts) (m : Manifest) (key : List ℕ) → IsForm manifest_form parts.manifest m → m.dex_files ≢ length parts.dex → key ≡ codes "dex_files" → RefusesOnly parts part.Manifest (reason.Form (told.Range key))
+of_count parts m key form other is =
+    let P : List ℕ → Type 0 = λ k. RefusesOnly parts part.Manifest (reason.Form (told.Range k)) in
+    subst P (sym is) (fault_only parts part.Manifest (reason.Form (told.Range (codes "dex_files"))) tt (other_count m form other))
 
-pub of_layouts : (parts : Parts) (m : Manifest) (e : FormFault) (h : Stop Refusal) → HasManifest parts m → (e ≢ told.Memory → FirstFormFault layouts_form parts.layouts e) → HaltsForm part.Layouts e h → Halts (Refuses parts) h
+pub of_layouts : (parts : Parts) (m : Manifest) (e : FormFault) (h : Stop Refusal) → HasManifest parts m → (e ≢ told.Memory → FirstFormFault layouts_form parts.layouts e) → HaltsForm part.Layouts e h → Halts (RefusesOnly parts) h
 of_layouts parts m e stops.Memory manifest first halts = tt
-of_layouts parts m e (stops.Fault r) manifest first halts = is_this parts r _ halts.1 (bad_layouts m e manifest (first halts.0))
+of_layouts parts m e (stops.Fault r) manifest first halts = is_this parts r _ halts.1 (fault_only parts part.Layouts (reason.Form e) tt (bad_layouts m e manifest (first halts.0)))
 
 pub of_declaration : (parts : Parts) (m : Manifest) (l : Layouts) (e : FormFault) (h : Stop Refusal) → HasManifest parts m → IsForm layouts_form parts.layouts l
-    → (e ≢ told.Memory → FirstFormFault declaration_form parts.declaration e) → HaltsForm part.Declaration e h → Halts (Refuses parts) h
+    → (e ≢ told.Memory → FirstFormFault declaration_form parts.declaration e) → HaltsForm part.Declaration e h → Halts (RefusesOnly parts) h
 of_declaration parts m l e stops.Memory manifest layouts first halts = tt
-of_declaration parts m l e (stops.Fault r) manifest layouts first halts = is_this parts r _ halts.1 (bad_declaration m l e manifest layouts (first halts.0))
+of_declaration parts m l e (stops.Fault r) manifest layouts first halts = is_this parts r _ halts.1 (fault_only parts part.Declaration (reason.Form e) tt (bad_declaration m l e manifest layouts (first halts.0)))
 
 pub of_lists : (parts : Parts) (m : Manifest) (l : Layouts) (d : Declaration) (e : FormFault) (h : Stop Refusal) → HasManifest parts m → IsForm layouts_form parts.layouts l → IsForm declaration_form parts.declaration d
-    → (e ≢ told.Memory → FirstFormFault lists_form parts.lists e) → HaltsForm part.Lists e h → Halts (Refuses parts) h
+    → (e ≢ told.Memory → FirstFormFault lists_form parts.lists e) → HaltsForm part.Lists e h → Halts (RefusesOnly parts) h
 of_lists parts m l d e stops.Memory manifest layouts declaration first halts = tt
-of_lists parts m l d e (stops.Fault r) manifest layouts declaration first halts = is_this parts r _ halts.1 (bad_lists m l d e manifest layouts declaration (first halts.0))
+of_lists parts m l d e (stops.Fault r) manifest layouts declaration first halts = is_this parts r _ halts.1 (fault_only parts part.Lists (reason.Form e) tt (bad_lists m l d e manifest layouts declaration (first halts.0)))
 
 -- one DEX file more
 pub one_more : (files : List (List ℕ)) (i : ℕ) (file : List ℕ) (dexes : List Dex) (dex : Dex) → AreDex (take i files) dexes → i < length files → file ≡ get_or files i file → IsDex file dex
@@ -90,19 +95,28 @@ told_of parts papers dexes i file fault has stand there other (inr first) =
     subst P (sym first.1) (bad_dex papers i first.0 has (record { before = dexes; stand = stand; file = file; there = there; fails = first.2 }))
 
 pub of_dex : (parts : Parts) (papers : Papers) (dexes : List Dex) (i : ℕ) (file : List ℕ) (fault : DexFault) (h : Stop Refusal) → HasPapers parts papers → AreDex (take i parts.dex) dexes → i < length parts.dex
-    → file ≡ get_or parts.dex i file → IsToldOf file fault → HaltsFault i fault h → Halts (Refuses parts) h
+    → file ≡ get_or parts.dex i file → IsToldOf file fault → HaltsFault i fault h → Halts (RefusesOnly parts) h
 of_dex parts papers dexes i file fault stops.Memory has stand lt is told halts = tt
 of_dex parts papers dexes i file fault (stops.Fault r) has stand lt is told halts =
-    is_this parts r _ halts.1 (told_of parts papers dexes i file fault has stand (slice_get_read parts.dex (length parts.dex) i file refl lt is) halts.0 told)
+    is_this parts r _ halts.1 (fault_only parts (part.Dex i) (reason.Dex fault) tt (told_of parts papers dexes i file fault has stand (slice_get_read parts.dex (length parts.dex) i file refl lt is) halts.0 told))
 
 pub of_link : (parts : Parts) (papers : Papers) (dexes : List Dex) (fault : LinkFault) (h : Stop Refusal) → HasPapers parts papers → AreDex parts.dex dexes
-    → (fault ≢ link_fault.Memory → FirstLinkFault dexes papers.manifest papers.layouts fault) → HaltsLink fault h → Halts (Refuses parts) h
+    → (fault ≢ link_fault.Memory → FirstLinkFault dexes papers.manifest papers.layouts fault) → HaltsLink fault h → Halts (RefusesOnly parts) h
 of_link parts papers dexes fault stops.Memory has stand first halts = tt
-of_link parts papers dexes fault (stops.Fault r) has stand first halts = is_this parts r _ halts.1 (bad_app papers dexes fault (record { forms = has; files = stand }) (first halts.0))
+of_link parts papers dexes fault (stops.Fault r) has stand first halts = is_this parts r _ halts.1 (fault_only parts part.App (reason.Link fault) tt (bad_app papers dexes fault (record { forms = has; files = stand }) (first halts.0)))
 
-pub of_unbuilt : (parts : Parts) (papers : Papers) (dexes : List Dex) (app : App) → HasPapers parts papers → AreDex parts.dex dexes → IsApp dexes papers.manifest papers.layouts app → is_straight app papers.lists ≡ false
-    → Refuses parts part.App reason.Unbuilt
-of_unbuilt parts papers dexes app has stand is_app bent = unbuilt papers dexes app (record { forms = has; files = stand }) is_app bent
+pub of_unbuilt : (parts : Parts) (papers : Papers) (dexes : List Dex) (app : App) → HasPapers parts papers → AreDex parts.dex dexes → IsApp dexes papers.manifest papers.layouts app → OnlyApp dexes papers.manifest papers.layouts app
+    → is_straight app papers.lists ≡ false → RefusesOnly parts part.App reason.Unbuilt
+of_unbuilt parts papers dexes app has stand is_app only bent = unbuilt_only parts papers dexes app (record { forms = has; files = stand }) only is_app bent
+
+-- the files are no other app where each is the one that was linked
+pub only_linked : (dexes : List Dex) (manifest : Manifest) (layouts : Layouts) (app : App)
+    → ((other : App) → IsApp dexes manifest layouts other → (let r : Result App LinkFault = Ok app in r ≡ Ok other) ⊎ (let r : Result App LinkFault = Ok app in r ≡ Err link_fault.Memory)) → OnlyApp dexes manifest layouts app
+only_linked dexes manifest layouts app one = record { only = λ other is. of_answer other (one other is) }
+  where
+    of_answer : (other : App) → (let r : Result App LinkFault = Ok app in r ≡ Ok other) ⊎ (let r : Result App LinkFault = Ok app in r ≡ Err link_fault.Memory) → other ≡ app
+    of_answer other (inl same) = cc
+    of_answer other (inr memory) = absurd cc
 
 -- what was read is short enough to be linked
 pub few_components : (manifest : Manifest) → SoundManifest manifest → length manifest.components < 4294967295

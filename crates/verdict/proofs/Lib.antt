@@ -1,6 +1,9 @@
 pub mod Called
 pub mod Found
 pub mod Halting
+pub mod OneForm
+pub mod OneReading
+pub mod OneVerdict
 pub mod Outcomes
 pub mod Pairs
 pub mod Sorting

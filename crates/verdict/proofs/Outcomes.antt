@@ -27,9 +27,10 @@ use Rattle.verdict.specs.declared.papers.Refusal.{Refusal}
 use Rattle.verdict.specs.declared.parts.Parts.{Parts}
 use Rattle.verdict.specs.Causes.{causes_of, no_summaries, providers, layout_classes}
 use Rattle.verdict.specs.Findings.{findings_of, findings_at}
+use Rattle.verdict.specs.OneVerdict.{RefusesOnly}
 use Rattle.verdict.specs.Outcome.{outcome_of}
 use Rattle.verdict.specs.Places.{place_at, place_in, place_order}
-use Rattle.verdict.specs.Refuses.{HasPapers, AreDex, Refuses}
+use Rattle.verdict.specs.Refuses.{HasPapers, AreDex}
 use Rattle.verdict.specs.Verdict.{Verdict, refused, judged, IsSafeApp, outcome_for, unknown_places}
 use Rattle.verdict.proofs.Found.{findings_of_first, place_of_first, all_declared}
 use Rattle.verdict.proofs.Sorting.{none_ascending}
@@ -124,8 +125,8 @@ pub safe_parts : (parts : Parts) (papers : Papers) (dexes : List Dex) (app : App
 safe_parts parts papers dexes app outcome has stand is_app safe clear =
     record { papers = papers; dexes = dexes; reads = record { forms = has; files = stand }; app = app; is_app = is_app; safe = safe clear }
 
-pub refused_with : (parts : Parts) (r : Refusal) → Refuses parts r.part r.reason → Verdict parts (Refused r.part r.reason)
-refused_with parts r refuses = refused r.part r.reason refuses
+pub refused_with : (parts : Parts) (r : Refusal) → RefusesOnly parts r.part r.reason → Verdict parts (Refused r.part r.reason)
+refused_with parts r this = refused r.part r.reason this.refuses
 
 pub no_clear_refusal : (parts : Parts) (r : Refusal) → Refused r.part r.reason ≡ Clear → IsSafeApp parts
 no_clear_refusal parts r clear = absurd cc

@@ -2,6 +2,7 @@ pub mod Ascending
 pub mod Causes
 pub mod Findings
 pub mod Halts
+pub mod OneVerdict
 pub mod Outcome
 pub mod Places
 pub mod Printed

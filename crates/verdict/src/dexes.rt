@@ -3,7 +3,8 @@
 ghost use Rattle.std.specs.Prelude.{◌≡◌, ◌<◌, ◌+◌, ◌++◌, [], ◌∷◌, All, IfOk, IfErr, length, take};
 ghost use Rattle.dex_reader.specs.Sound.{SoundDex};
 ghost use Rattle.verdict.specs.Halts.{Halts, HaltsFault};
-ghost use Rattle.verdict.specs.Refuses.{AreDex, HasPapers, Refuses};
+ghost use Rattle.verdict.specs.OneVerdict.{RefusesOnly};
+ghost use Rattle.verdict.specs.Refuses.{AreDex, HasPapers};
 
 use crate::papers::{Halt, Papers, Refusal};
 use crate::{Part, Parts, Reason};
@@ -37,7 +38,7 @@ fn dex_at(
     requires within { i < length parts.now.dex }
     ensures ok { IfOk result (λ d. AreDex (take (i + 1) parts.now.dex) (before.now ++ d ∷ [])) }
     ensures sound { IfOk result SoundDex }
-    ensures err { IfErr result (λ h. Halts (Refuses parts.now) h) }
+    ensures err { IfErr result (λ h. Halts (RefusesOnly parts.now) h) }
 {
     let file = parts.dex.at(i as usize);
     match read_dex(alloc, file.as_slice()) {
@@ -51,7 +52,7 @@ pub fn dexes_of(alloc: Global, parts: &Parts, papers: &Papers) -> Result<Vec<Dex
     requires { HasPapers parts.now papers.now }
     ensures ok { IfOk result (λ ds. AreDex parts.now.dex ds.items) }
     ensures sound { IfOk result (λ ds. All SoundDex ds.items) }
-    ensures err { IfErr result (λ h. Halts (Refuses parts.now) h) }
+    ensures err { IfErr result (λ h. Halts (RefusesOnly parts.now) h) }
 {
     let mut dexes = Vec::new(alloc);
     for i in 0..papers.manifest.dex_files {

@@ -1,7 +1,8 @@
 //! What the bytes of all parts of an app come to.
 
-ghost use Rattle.std.specs.Prelude.{◌≡◌, All, IfOk, IfErr, OnOk};
+ghost use Rattle.std.specs.Prelude.{◌≡◌, ◌⊎◌, All, IfOk, IfErr, IsErr, OnOk};
 ghost use Rattle.app_link.specs.IsApp.{IsApp};
+ghost use Rattle.app_link.specs.OneAnswer.{OnlyApp};
 ghost use Rattle.dex_reader.specs.Sound.{SoundDex};
 ghost use Rattle.office_forms.specs.Sound.{SoundManifest, SoundLayouts};
 ghost use Rattle.app_model.specs.LibraryWalk.{NumberedLists};
@@ -9,8 +10,9 @@ ghost use Rattle.app_model.specs.Safe.{Safe};
 ghost use Rattle.app_model.specs.Sound.{SoundApp};
 ghost use Rattle.straight_line.specs.Straight.{IsStraight};
 ghost use Rattle.verdict.specs.Halts.{Halts, HaltsLink};
+ghost use Rattle.verdict.specs.OneVerdict.{OnlyOutcome, RefusesOnly};
 ghost use Rattle.verdict.specs.Outcome.{outcome_of};
-ghost use Rattle.verdict.specs.Refuses.{AreDex, HasPapers, Refuses};
+ghost use Rattle.verdict.specs.Refuses.{AreDex, HasPapers};
 ghost use Rattle.verdict.specs.Verdict.{Verdict, IsSafeApp, outcome_for};
 
 use crate::causes::causes_of;
@@ -46,8 +48,9 @@ fn linked_app(alloc: Global, parts: &Parts, papers: &Papers, dexes: &[Dex]) -> R
     requires layouts { SoundLayouts papers.now.layouts }
     requires sound { All SoundDex dexes.now }
     ensures app { IfOk result (λ app. IsApp dexes.now papers.now.manifest papers.now.layouts app) }
+    ensures only { IfOk result (λ app. OnlyApp dexes.now papers.now.manifest papers.now.layouts app) }
     ensures sound { IfOk result SoundApp }
-    ensures err { IfErr result (λ h. Halts (Refuses parts.now) h) }
+    ensures err { IfErr result (λ h. Halts (RefusesOnly parts.now) h) }
 {
     match link(alloc, dexes, &papers.manifest, &papers.layouts) {
         Ok(app) => Ok(app),
@@ -60,10 +63,11 @@ fn check_straight(parts: &Parts, papers: &Papers, dexes: &[Dex], app: &App) -> R
     requires papers { HasPapers parts.now papers.now }
     requires files { AreDex parts.now.dex dexes.now }
     requires app { IsApp dexes.now papers.now.manifest papers.now.layouts app.now }
+    requires only { OnlyApp dexes.now papers.now.manifest papers.now.layouts app.now }
     requires sound { SoundApp app.now }
     requires numbered { NumberedLists papers.now.lists }
     ensures straight { OnOk result (IsStraight app.now papers.now.lists) }
-    ensures err { IfErr result (λ h. Halts (Refuses parts.now) h) }
+    ensures err { IfErr result (λ h. Halts (RefusesOnly parts.now) h) }
 {
     if !is_straight(app, &papers.lists) {
         return Err(Stop::Fault(Refusal {
@@ -111,8 +115,9 @@ fn outcome_in(alloc: Global, app: &App, papers: &Papers) -> Result<Outcome, Memo
 #[tactic(auto, using(crate::proofs::Outcomes::verdict_on, crate::proofs::Outcomes::safe_parts))]
 fn judged(alloc: Global, parts: &Parts) -> Result<Outcome, Halt>
     ensures value { IfOk result (λ o. Verdict parts.now o) }
+    ensures one { IfOk result (λ o. OnlyOutcome parts.now o) }
     ensures safe { IfOk result (λ o. o ≡ Outcome.Clear → IsSafeApp parts.now) }
-    ensures err { IfErr result (λ h. Halts (Refuses parts.now) h) }
+    ensures err { IfErr result (λ h. Halts (RefusesOnly parts.now) h) }
 {
     let papers = papers_of(alloc, parts)?;
     let dexes = dexes_of(alloc, parts, &papers)?;
@@ -135,6 +140,9 @@ fn judged(alloc: Global, parts: &Parts) -> Result<Outcome, Halt>
 #[tactic(auto, using(crate::proofs::Outcomes::refused_with, crate::proofs::Outcomes::no_clear_refusal))]
 pub fn judge(alloc: Global, parts: &Parts) -> Result<Outcome, Memory>
     ensures value { IfOk result (λ o. Verdict parts.now o) }
+
+    // The parts come to nothing else.
+    ensures one { (o : Outcome) → Verdict parts.now o → (result ≡ Ok o) ⊎ IsErr result }
     ensures safe { IfOk result (λ o. o ≡ Outcome.Clear → IsSafeApp parts.now) }
 {
     match judged(alloc, parts) {

@@ -9,7 +9,8 @@ ghost use Rattle.office_forms.specs.Declaration.{declaration_form};
 ghost use Rattle.office_forms.specs.Lists.{lists_form};
 ghost use Rattle.office_forms.specs.Sound.{SoundManifest, SoundLayouts};
 ghost use Rattle.verdict.specs.Halts.{Halts, HaltsForm};
-ghost use Rattle.verdict.specs.Refuses.{HasManifest, HasPapers, Refuses};
+ghost use Rattle.verdict.specs.OneVerdict.{RefusesOnly};
+ghost use Rattle.verdict.specs.Refuses.{HasManifest, HasPapers};
 
 use crate::{Part, Parts, Reason};
 use app_model::{Declaration, Layouts, Lists, Manifest};
@@ -51,7 +52,7 @@ fn halt_of(part: Part, fault: FormFault) -> Halt
 fn manifest_form_of(alloc: Global, parts: &Parts) -> Result<Manifest, Halt>
     ensures ok { IfOk result (λ m. IsForm manifest_form parts.now.manifest m) }
     ensures sound { IfOk result SoundManifest }
-    ensures err { IfErr result (λ h. Halts (Refuses parts.now) h) }
+    ensures err { IfErr result (λ h. Halts (RefusesOnly parts.now) h) }
 {
     match read_manifest(alloc, parts.manifest.as_slice()) {
         Ok(manifest) => Ok(manifest),
@@ -64,7 +65,7 @@ fn manifest_form_of(alloc: Global, parts: &Parts) -> Result<Manifest, Halt>
 fn manifest_of(alloc: Global, parts: &Parts) -> Result<Manifest, Halt>
     ensures ok { IfOk result (λ m. HasManifest parts.now m) }
     ensures sound { IfOk result SoundManifest }
-    ensures err { IfErr result (λ h. Halts (Refuses parts.now) h) }
+    ensures err { IfErr result (λ h. Halts (RefusesOnly parts.now) h) }
 {
     let manifest = manifest_form_of(alloc, parts)?;
     if manifest.dex_files as usize != parts.dex.len() {
@@ -81,7 +82,7 @@ fn layouts_of(alloc: Global, parts: &Parts, manifest: &Manifest) -> Result<Layou
     requires { HasManifest parts.now manifest.now }
     ensures ok { IfOk result (λ l. IsForm layouts_form parts.now.layouts l) }
     ensures sound { IfOk result SoundLayouts }
-    ensures err { IfErr result (λ h. Halts (Refuses parts.now) h) }
+    ensures err { IfErr result (λ h. Halts (RefusesOnly parts.now) h) }
 {
     match read_layouts(alloc, parts.layouts.as_slice()) {
         Ok(layouts) => Ok(layouts),
@@ -98,7 +99,7 @@ fn declaration_of(
     requires manifest { HasManifest parts.now manifest.now }
     requires layouts { IsForm layouts_form parts.now.layouts layouts.now }
     ensures ok { IfOk result (λ d. IsForm declaration_form parts.now.declaration d) }
-    ensures err { IfErr result (λ h. Halts (Refuses parts.now) h) }
+    ensures err { IfErr result (λ h. Halts (RefusesOnly parts.now) h) }
 {
     match read_declaration(alloc, parts.declaration.as_slice()) {
         Ok(declaration) => Ok(declaration),
@@ -119,7 +120,7 @@ fn lists_of(
     requires declaration { IsForm declaration_form parts.now.declaration declaration.now }
     ensures ok { IfOk result (λ ls. IsForm lists_form parts.now.lists ls) }
     ensures numbered { IfOk result NumberedLists }
-    ensures err { IfErr result (λ h. Halts (Refuses parts.now) h) }
+    ensures err { IfErr result (λ h. Halts (RefusesOnly parts.now) h) }
 {
     match read_lists(alloc, parts.lists.as_slice()) {
         Ok(lists) => Ok(lists),
@@ -133,7 +134,7 @@ pub fn papers_of(alloc: Global, parts: &Parts) -> Result<Papers, Halt>
     ensures manifest { IfOk result (λ p. SoundManifest p.manifest) }
     ensures layouts { IfOk result (λ p. SoundLayouts p.layouts) }
     ensures numbered { IfOk result (λ p. NumberedLists p.lists) }
-    ensures err { IfErr result (λ h. Halts (Refuses parts.now) h) }
+    ensures err { IfErr result (λ h. Halts (RefusesOnly parts.now) h) }
 {
     let manifest = manifest_of(alloc, parts)?;
     let layouts = layouts_of(alloc, parts, &manifest)?;

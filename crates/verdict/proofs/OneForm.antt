@@ -1,0 +1,35 @@
+-- A text is one form or has one first fault, and not both.
+use Rattle.std.proofs.Common.{◌≡◌, ℕ, List, Some, None, Result, Ok, Err, refl, sym, ◌∙◌, ap, subst, inl, inr}
+use Rattle.toml.specs.Data.{Members}
+use Rattle.vet_base.specs.Script.{Script, tests, value_of, AllHold, IsFirst}
+use Rattle.vet_base.proofs.Scripts.{exclusive}
+use Rattle.dex_code.proofs.Runs.{fails_first}
+use Rattle.office_forms.specs.declared.fault.Fault.{Fault}
+use Rattle.office_forms.specs.declared.told.FormFault.{FormFault}
+use Rattle.office_forms.specs.Form.{IsForm, FirstFormFault, unread, fails, shown}
+use Rattle.office_forms.specs.Tree.{Reads, IsNotToml}
+
+one_tree : (text : List ℕ) (a b : Members) → Reads text a → Reads text b → a ≡ b
+one_tree text a b one two = let both : Some a ≡ Some b = sym one.1 ∙ two.1 in cc
+
+not_read : (text : List ℕ) (tree : Members) → Reads text tree → IsNotToml text → ⊥
+not_read text tree reads (inl broken) = broken reads.0
+not_read text tree reads (inr none) = let both : Some tree ≡ None = sym reads.1 ∙ none in absurd cc
+
+one_first : {F A : Type 0} (s : Script F A) (f g : F) → IsFirst (tests s) f → IsFirst (tests s) g → f ≡ g
+one_first {A = A} s f g one two = ap (λ (r : Result A _). elim r [ Ok _ ↦ f | Err e ↦ e ]) (sym (fails_first s f one) ∙ fails_first s g two)
+
+module _ {A : Type 0} (form : Members → Script Fault A) (text : List ℕ) where
+  pub one_form : (a b : A) → IsForm form text a → IsForm form text b → a ≡ b
+  one_form a b one two = one.is ∙ (ap (λ (t : Members). value_of (form t)) (one_tree text one.tree two.tree one.reads two.reads) ∙ sym two.is)
+
+  pub form_or_fault : (a : A) (e : FormFault) → IsForm form text a → FirstFormFault form text e → ⊥
+  form_or_fault a e is (unread none) = not_read text is.tree is.reads none
+  form_or_fault a e is (fails tree fault reads first) =
+      exclusive (tests (form tree)) fault (subst (λ (t : Members). AllHold (tests (form t))) (one_tree text is.tree tree is.reads reads) is.hold) first
+
+  pub one_form_fault : (e f : FormFault) → FirstFormFault form text e → FirstFormFault form text f → e ≡ f
+  one_form_fault e f (unread a) (unread b) = refl
+  one_form_fault e f (unread a) (fails tree fault reads first) = absurd (not_read text tree reads a)
+  one_form_fault e f (fails tree fault reads first) (unread b) = absurd (not_read text tree reads b)
+  one_form_fault e f (fails one x a first) (fails two y b second) = ap shown (one_first (form two) x y (subst (λ (t : Members). IsFirst (tests (form t)) x) (one_tree text one two a b) first) second)

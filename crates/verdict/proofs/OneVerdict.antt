@@ -1,0 +1,234 @@
+-- The parts of an app come to one outcome: each step of a judgement stops, or goes on with one value.
+use Rattle.std.proofs.Common.{◌≡◌, ◌≢◌, ◌⊎◌, ℕ, true, false, List, length, refl, sym, ◌∙◌, ap, subst, inl, inr}
+use Rattle.std.specs.Prelude.{codes}
+use Rattle.toml.specs.Data.{Members}
+use Rattle.vet_base.specs.Script.{Script}
+use Rattle.dex_reader.specs.declared.dex.Dex.{Dex}
+use Rattle.dex_reader.specs.declared.fault.Fault.{Fault}
+use Rattle.dex_reader.specs.Told.{shown}
+use Rattle.app_model.specs.declared.app.App.{App}
+use Rattle.app_model.specs.declared.lists.Lists.{Lists}
+use Rattle.app_model.specs.declared.papers.Manifest.{Manifest}
+use Rattle.app_model.specs.declared.papers.Layouts.{Layouts}
+use Rattle.app_model.specs.declared.papers.Declaration.{Declaration}
+use Rattle.app_link.specs.declared.linking.LinkFault.{LinkFault}
+use Rattle.app_link.specs.FirstLinkFault.{FirstLinkFault, shown as shown_link}
+use Rattle.app_link.specs.IsApp.{IsApp}
+use Rattle.app_link.specs.OneAnswer.{OnlyApp}
+use Rattle.app_link.proofs.OneAnswer.{one_answer, one_fault}
+use Rattle.office_forms.specs.declared.fault.Fault.{Fault as FormFailure}
+use Rattle.office_forms.specs.declared.told.FormFault.{FormFault}
+use Rattle.office_forms.specs.declared.told.FormFault.TheVariants.{Range}
+use Rattle.office_forms.specs.Form.{IsForm, FirstFormFault}
+use Rattle.office_forms.specs.Manifest.{manifest_form}
+use Rattle.office_forms.specs.Layouts.{layouts_form}
+use Rattle.office_forms.specs.Declaration.{declaration_form}
+use Rattle.office_forms.specs.Lists.{lists_form}
+use Rattle.straight_line.specs.Straight.{is_straight}
+use Rattle.verdict.specs.declared.outcome.Outcome.{Outcome}
+use Rattle.verdict.specs.declared.outcome.Outcome.TheVariants.{Refused}
+use Rattle.verdict.specs.declared.outcome.Part.{Part}
+use Rattle.verdict.specs.declared.outcome.Part.TheVariants as part
+use Rattle.verdict.specs.declared.outcome.Reason.{Reason}
+use Rattle.verdict.specs.declared.outcome.Reason.TheVariants as reason
+use Rattle.verdict.specs.declared.papers.Papers.{Papers}
+use Rattle.verdict.specs.declared.parts.Parts.{Parts}
+use Rattle.verdict.specs.OneVerdict.{OnlyOutcome, RefusesOnly}
+use Rattle.verdict.specs.Refuses.{HasManifest, HasPapers, AreDex, IsFirstBad, Reads, Refuses, bad_manifest, other_count, bad_layouts, bad_declaration, bad_lists, bad_dex, bad_app, unbuilt}
+use Rattle.verdict.specs.Verdict.{Verdict, refused, judged, outcome_for}
+use Rattle.verdict.proofs.OneForm.{one_form, form_or_fault, one_form_fault}
+use Rattle.verdict.proofs.OneReading.{one_list, all_or_bad, one_bad}
+
+-- a step that stops with the outcome, or goes on with a value
+data Step {A : Type 0} (Good : A → Type 0) (Stops : Outcome → Type 0) (Rest : A → Outcome → Type 0) : Outcome → Type 0 where
+  stops : (o : Outcome) → Stops o → Step Good Stops Rest o
+  goes : (a : A) (o : Outcome) → Good a → Rest a o → Step Good Stops Rest o
+
+module _ {A : Type 0} (Good : A → Type 0) (Stops : Outcome → Type 0) (Rest : A → Outcome → Type 0) where
+  one_step : ((o p : Outcome) → Stops o → Stops p → o ≡ p) → ((a : A) (o : Outcome) → Good a → Stops o → ⊥) → ((a b : A) → Good a → Good b → a ≡ b) → ((a : A) → Good a → (o p : Outcome) → Rest a o → Rest a p → o ≡ p)
+      → (o p : Outcome) → Step Good Stops Rest o → Step Good Stops Rest p → o ≡ p
+  one_step one both same rest o p (stops _ a) (stops _ b) = one o p a b
+  one_step one both same rest o p (stops _ a) (goes y _ h s) = absurd (both y o h a)
+  one_step one both same rest o p (goes x _ g r) (stops _ b) = absurd (both x p g b)
+  one_step one both same rest o p (goes x _ g r) (goes y _ h s) = rest y h o p (subst (λ (z : A). Rest z o) (same x y g h) r) s
+
+-- a form that has a fault
+abbrev BadForm : {A : Type 0} → (Members → Script FormFailure A) → List ℕ → Part → Outcome → Type 0
+BadForm form text part o = (e : FormFault) × FirstFormFault form text e × (o ≡ Refused part (reason.Form e))
+
+module _ {A : Type 0} (form : Members → Script FormFailure A) (text : List ℕ) (part : Part) (Rest : A → Outcome → Type 0) where
+  one_form_step : ((a : A) → IsForm form text a → (o p : Outcome) → Rest a o → Rest a p → o ≡ p) → (o p : Outcome) → Step (IsForm form text) (BadForm form text part) Rest o → Step (IsForm form text) (BadForm form text part) Rest p → o ≡ p
+  one_form_step rest = one_step (IsForm form text) (BadForm form text part) Rest one (λ a o is bad. form_or_fault form text a bad.0 is bad.1) (one_form form text) rest
+    where
+      one : (o p : Outcome) → BadForm form text part o → BadForm form text part p → o ≡ p
+      one o p a b = a.2 ∙ (ap (λ (e : FormFault). Refused part (reason.Form e)) (one_form_fault form text a.0 b.0 a.1 b.1) ∙ sym b.2)
+
+-- every reason but `Unbuilt`
+abbrev pub IsFault : Reason → Type 0
+IsFault reason.Absent = Unit {0}
+IsFault (reason.TooLong limit) = Unit {0}
+IsFault (reason.Form e) = Unit {0}
+IsFault (reason.Dex e) = Unit {0}
+IsFault (reason.Link e) = Unit {0}
+IsFault reason.Unbuilt = ⊥
+
+-- parts that are read make one app at most
+abbrev OneApp : Parts → Type 0
+OneApp parts = (papers : Papers) (dexes : List Dex) (a b : App) → Reads parts papers dexes → IsApp dexes papers.manifest papers.layouts a → IsApp dexes papers.manifest papers.layouts b → a ≡ b
+
+abbrev papers_of : Manifest → Layouts → Declaration → Lists → Papers
+papers_of manifest layouts declaration lists = record { manifest = manifest; layouts = layouts; declaration = declaration; lists = lists }
+
+-- the steps of a judgement, the last first
+abbrev AtFlow : Papers → App → Outcome → Type 0
+AtFlow papers app o =
+    ((is_straight app papers.lists ≡ false) × (o ≡ Refused part.App reason.Unbuilt))
+    ⊎ ((is_straight app papers.lists ≡ true) × (o ≡ outcome_for app papers.lists papers.declaration))
+
+abbrev BadLink : Papers → List Dex → Outcome → Type 0
+BadLink papers dexes o = (fault : LinkFault) × FirstLinkFault dexes papers.manifest papers.layouts fault × (o ≡ Refused part.App (reason.Link fault))
+
+abbrev AtLink : Papers → List Dex → Outcome → Type 0
+AtLink papers dexes o = Step (IsApp dexes papers.manifest papers.layouts) (BadLink papers dexes) (AtFlow papers) o
+
+module _ (parts : Parts) where
+  abbrev BadFile : Outcome → Type 0
+  BadFile o = (i : ℕ) × (fault : Fault) × IsFirstBad parts.dex i fault × (o ≡ Refused (part.Dex i) (reason.Dex (shown fault)))
+
+  abbrev AtFiles : Papers → Outcome → Type 0
+  AtFiles papers o = Step (AreDex parts.dex) BadFile (AtLink papers) o
+
+  abbrev AtLists : Manifest → Layouts → Declaration → Outcome → Type 0
+  AtLists m l d o = Step (IsForm lists_form parts.lists) (BadForm lists_form parts.lists part.Lists) (λ ls. AtFiles (papers_of m l d ls)) o
+
+  abbrev AtDeclaration : Manifest → Layouts → Outcome → Type 0
+  AtDeclaration m l o = Step (IsForm declaration_form parts.declaration) (BadForm declaration_form parts.declaration part.Declaration) (AtLists m l) o
+
+  abbrev AtLayouts : Manifest → Outcome → Type 0
+  AtLayouts m o = Step (IsForm layouts_form parts.layouts) (BadForm layouts_form parts.layouts part.Layouts) (AtDeclaration m) o
+
+  abbrev IsCounted : Manifest → Unit {0} → Type 0
+  IsCounted m _ = m.dex_files ≡ length parts.dex
+
+  abbrev BadCount : Manifest → Outcome → Type 0
+  BadCount m o = (m.dex_files ≢ length parts.dex) × (o ≡ Refused part.Manifest (reason.Form (Range (codes "dex_files"))))
+
+  abbrev AtCount : Manifest → Outcome → Type 0
+  AtCount m o = Step (IsCounted m) (BadCount m) (λ _. AtLayouts m) o
+
+  abbrev AtManifest : Outcome → Type 0
+  AtManifest o = Step (IsForm manifest_form parts.manifest) (BadForm manifest_form parts.manifest part.Manifest) AtCount o
+
+  -- a verdict goes these steps
+  with_manifest : (m : Manifest) (o : Outcome) → HasManifest parts m → AtLayouts m o → AtManifest o
+  with_manifest m o has rest = goes m o has.form (goes tt o has.count rest)
+
+  with_papers : (papers : Papers) (o : Outcome) → HasPapers parts papers → AtFiles papers o → AtManifest o
+  with_papers papers o has rest = with_manifest papers.manifest o has.manifest (goes papers.layouts o has.layouts (goes papers.declaration o has.declaration (goes papers.lists o has.lists rest)))
+
+  with_files : (papers : Papers) (dexes : List Dex) (o : Outcome) → Reads parts papers dexes → AtLink papers dexes o → AtManifest o
+  with_files papers dexes o reads rest = with_papers papers o reads.forms (goes dexes o reads.files rest)
+
+  of_refusal : (part : Part) (why : Reason) → Refuses parts part why → AtManifest (Refused part why)
+  of_refusal _ _ (bad_manifest e first) = stops _ (e, first, refl)
+  of_refusal _ _ (other_count m form other) = goes m _ form (stops _ (other, refl))
+  of_refusal _ _ (bad_layouts m e has first) = with_manifest m _ has (stops _ (e, first, refl))
+  of_refusal _ _ (bad_declaration m l e has layouts first) = with_manifest m _ has (goes l _ layouts (stops _ (e, first, refl)))
+  of_refusal _ _ (bad_lists m l d e has layouts declaration first) = with_manifest m _ has (goes l _ layouts (goes d _ declaration (stops _ (e, first, refl))))
+  of_refusal _ _ (bad_dex papers i fault has first) = with_papers papers _ has (stops _ (i, fault, first, refl))
+  of_refusal _ _ (bad_app papers dexes fault reads first) = with_files papers dexes _ reads (stops _ (fault, first, refl))
+  of_refusal _ _ (unbuilt papers dexes app reads is bent) = with_files papers dexes _ reads (goes app _ is (inl (bent, refl)))
+
+  of_verdict : (o : Outcome) → Verdict parts o → AtManifest o
+  of_verdict _ (refused part why refuses) = of_refusal part why refuses
+  of_verdict _ (judged papers dexes app reads is straight) = with_files papers dexes _ reads (goes app _ is (inr (straight, refl)))
+
+  -- each step has one outcome
+  one_flow : (papers : Papers) (app : App) (o p : Outcome) → AtFlow papers app o → AtFlow papers app p → o ≡ p
+  one_flow papers app o p (inl a) (inl b) = a.1 ∙ sym b.1
+  one_flow papers app o p (inl a) (inr b) = let both : false ≡ true = sym a.0 ∙ b.0 in absurd cc
+  one_flow papers app o p (inr a) (inl b) = let both : true ≡ false = sym a.0 ∙ b.0 in absurd cc
+  one_flow papers app o p (inr a) (inr b) = a.1 ∙ sym b.1
+
+  told_once : (dexes : List Dex) (manifest : Manifest) (layouts : Layouts) (e f : LinkFault) → FirstLinkFault dexes manifest layouts e → FirstLinkFault dexes manifest layouts f → e ≡ f
+  told_once dexes manifest layouts e f a b = a.shows ∙ (ap shown_link (one_fault dexes manifest a.found b.found a.first b.first) ∙ sym b.shows)
+
+  module _ (one_app : OneApp parts) where
+    one_link : (papers : Papers) (dexes : List Dex) → Reads parts papers dexes → (o p : Outcome) → AtLink papers dexes o → AtLink papers dexes p → o ≡ p
+    one_link papers dexes reads = one_step (IsApp dexes papers.manifest papers.layouts) (BadLink papers dexes) (AtFlow papers) one
+        (λ app o is bad. (one_answer dexes papers.manifest papers.layouts).not_both app bad.0 is bad.1) (λ a b. one_app papers dexes a b reads) (λ app is. one_flow papers app)
+      where
+        one : (o p : Outcome) → BadLink papers dexes o → BadLink papers dexes p → o ≡ p
+        one o p a b = a.2 ∙ (ap (λ (e : LinkFault). Refused part.App (reason.Link e)) (told_once dexes papers.manifest papers.layouts a.0 b.0 a.1 b.1) ∙ sym b.2)
+
+    one_files : (papers : Papers) → HasPapers parts papers → (o p : Outcome) → AtFiles papers o → AtFiles papers p → o ≡ p
+    one_files papers has = one_step (AreDex parts.dex) BadFile (AtLink papers) one (λ dexes o stand bad. all_or_bad parts.dex dexes bad.0 bad.1 stand bad.2) (one_list parts.dex)
+        (λ dexes stand. one_link papers dexes (record { forms = has; files = stand }))
+      where
+        one : (o p : Outcome) → BadFile o → BadFile p → o ≡ p
+        one o p a b =
+            let same = one_bad parts.dex a.0 b.0 a.1 b.1 a.2 b.2 in
+            a.3 ∙ (ap (λ (i : ℕ). Refused (part.Dex i) (reason.Dex (shown a.1))) same.0 ∙ (ap (λ (f : Fault). Refused (part.Dex b.0) (reason.Dex (shown f))) same.1 ∙ sym b.3))
+
+    one_lists : (m : Manifest) (l : Layouts) (d : Declaration) → HasManifest parts m → IsForm layouts_form parts.layouts l → IsForm declaration_form parts.declaration d → (o p : Outcome) → AtLists m l d o → AtLists m l d p → o ≡ p
+    one_lists m l d has layouts declaration = one_form_step lists_form parts.lists part.Lists (λ ls. AtFiles (papers_of m l d ls))
+        (λ ls lists. one_files (papers_of m l d ls) (record { manifest = has; layouts = layouts; declaration = declaration; lists = lists }))
+
+    one_declaration : (m : Manifest) (l : Layouts) → HasManifest parts m → IsForm layouts_form parts.layouts l → (o p : Outcome) → AtDeclaration m l o → AtDeclaration m l p → o ≡ p
+    one_declaration m l has layouts = one_form_step declaration_form parts.declaration part.Declaration (AtLists m l) (λ d declaration. one_lists m l d has layouts declaration)
+
+    one_layouts : (m : Manifest) → HasManifest parts m → (o p : Outcome) → AtLayouts m o → AtLayouts m p → o ≡ p
+    one_layouts m has = one_form_step layouts_form parts.layouts part.Layouts (AtDeclaration m) (λ l layouts. one_declaration m l has layouts)
+
+    one_count : (m : Manifest) → IsForm manifest_form parts.manifest m → (o p : Outcome) → AtCount m o → AtCount m p → o ≡ p
+    one_count m form = one_step (IsCounted m) (BadCount m) (λ _. AtLayouts m) (λ o p a b. a.1 ∙ sym b.1) (λ _ o is bad. bad.0 is) (λ _ _ a b. refl)
+        (λ _ count. one_layouts m (record { form = form; count = count }))
+
+    one_outcome : (o p : Outcome) → Verdict parts o → Verdict parts p → o ≡ p
+    one_outcome o p a b = one_form_step manifest_form parts.manifest part.Manifest AtCount one_count o p (of_verdict o a) (of_verdict p b)
+
+    refuses_only : (part : Part) (why : Reason) → Refuses parts part why → RefusesOnly parts part why
+    refuses_only part why refuses = record { refuses = refuses; only = λ other is. one_outcome other (Refused part why) is (refused part why refuses) }
+
+    outcome_only : (o : Outcome) → Verdict parts o → OnlyOutcome parts o
+    outcome_only o is other too = one_outcome other o too is
+
+  no_app : ((papers : Papers) (dexes : List Dex) (app : App) → Reads parts papers dexes → IsApp dexes papers.manifest papers.layouts app → ⊥) → OneApp parts
+  no_app none papers dexes a b reads one two = absurd (none papers dexes a reads one)
+
+  as_read : (papers others : Papers) (dexes files : List Dex) (app : App) → Reads parts papers dexes → Reads parts others files → IsApp dexes papers.manifest papers.layouts app → IsApp files others.manifest others.layouts app
+  as_read papers others dexes files app one two is =
+      let list : dexes ≡ files = one_list parts.dex dexes files one.files two.files in
+      let manifest : papers.manifest ≡ others.manifest = one_form manifest_form parts.manifest papers.manifest others.manifest one.forms.manifest.form two.forms.manifest.form in
+      let layouts : papers.layouts ≡ others.layouts = one_form layouts_form parts.layouts papers.layouts others.layouts one.forms.layouts two.forms.layouts in
+      let first : IsApp files papers.manifest papers.layouts app = subst (λ (ds : List Dex). IsApp ds papers.manifest papers.layouts app) list is in
+      let second : IsApp files others.manifest papers.layouts app = subst (λ (m : Manifest). IsApp files m papers.layouts app) manifest first in
+      subst (λ (l : Layouts). IsApp files others.manifest l app) layouts second
+
+  -- an app that is the only one
+  one_app_of : (papers : Papers) (dexes : List Dex) (app : App) → Reads parts papers dexes → OnlyApp dexes papers.manifest papers.layouts app → OneApp parts
+  one_app_of papers dexes app reads only others files a b too one two = only.only a (as_read others papers files dexes a too reads one) ∙ sym (only.only b (as_read others papers files dexes b too reads two))
+
+  fault_alone : (part : Part) (why : Reason) → IsFault why → Refuses parts part why → OneApp parts
+  fault_alone _ _ told (bad_manifest e first) = no_app (λ papers dexes app reads is. form_or_fault manifest_form parts.manifest papers.manifest e reads.forms.manifest.form first)
+  fault_alone _ _ told (other_count m form other) =
+      no_app (λ papers dexes app reads is. other (ap (λ (n : Manifest). n.dex_files) (one_form manifest_form parts.manifest m papers.manifest form reads.forms.manifest.form) ∙ reads.forms.manifest.count))
+  fault_alone _ _ told (bad_layouts m e has first) = no_app (λ papers dexes app reads is. form_or_fault layouts_form parts.layouts papers.layouts e reads.forms.layouts first)
+  fault_alone _ _ told (bad_declaration m l e has layouts first) = no_app (λ papers dexes app reads is. form_or_fault declaration_form parts.declaration papers.declaration e reads.forms.declaration first)
+  fault_alone _ _ told (bad_lists m l d e has layouts declaration first) = no_app (λ papers dexes app reads is. form_or_fault lists_form parts.lists papers.lists e reads.forms.lists first)
+  fault_alone _ _ told (bad_dex papers i fault has first) = no_app (λ others files app reads is. all_or_bad parts.dex files i fault reads.files first)
+  fault_alone _ _ told (bad_app papers dexes fault reads first) =
+      no_app (λ others files app too is. (one_answer dexes papers.manifest papers.layouts).not_both app fault (as_read others papers files dexes app too reads is) first)
+  fault_alone _ _ told (unbuilt papers dexes app reads is bent) = absurd told
+
+  -- a fault is the only outcome
+  pub fault_only : (part : Part) (why : Reason) → IsFault why → Refuses parts part why → RefusesOnly parts part why
+  fault_only part why told refuses = refuses_only (fault_alone part why told refuses) part why refuses
+
+  -- and so is what comes of the only app
+  pub unbuilt_only : (papers : Papers) (dexes : List Dex) (app : App) → Reads parts papers dexes → OnlyApp dexes papers.manifest papers.layouts app → IsApp dexes papers.manifest papers.layouts app → is_straight app papers.lists ≡ false
+      → RefusesOnly parts part.App reason.Unbuilt
+  unbuilt_only papers dexes app reads only is bent = refuses_only (one_app_of papers dexes app reads only) part.App reason.Unbuilt (unbuilt papers dexes app reads is bent)
+
+  pub judged_only : (papers : Papers) (dexes : List Dex) (app : App) (o : Outcome) → Reads parts papers dexes → OnlyApp dexes papers.manifest papers.layouts app → Verdict parts o → OnlyOutcome parts o
+  judged_only papers dexes app o reads only is = outcome_only (one_app_of papers dexes app reads only) o is

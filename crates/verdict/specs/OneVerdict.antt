@@ -1,0 +1,18 @@
+-- That the parts of an app come to one outcome.
+use Rattle.std.specs.Prelude.{◌≡◌}
+use Rattle.verdict.specs.declared.outcome.Outcome.{Outcome}
+use Rattle.verdict.specs.declared.outcome.Outcome.TheVariants.{Refused}
+use Rattle.verdict.specs.declared.outcome.Part.{Part}
+use Rattle.verdict.specs.declared.outcome.Reason.{Reason}
+use Rattle.verdict.specs.declared.parts.Parts.{Parts}
+use Rattle.verdict.specs.Refuses.{Refuses}
+use Rattle.verdict.specs.Verdict.{Verdict}
+
+-- the parts come to no other outcome
+abbrev pub OnlyOutcome : Parts → Outcome → Type 0
+OnlyOutcome parts outcome = (other : Outcome) → Verdict parts other → other ≡ outcome
+
+-- the parts are refused so, and come to nothing else
+pub record RefusesOnly (parts : Parts) (part : Part) (reason : Reason) : Type 0 where
+  pub refuses : Refuses parts part reason
+  pub only : OnlyOutcome parts (Refused part reason)
