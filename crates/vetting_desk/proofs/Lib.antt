@@ -1,4 +1,5 @@
 pub mod Folders
 pub mod Holding
+pub mod OneFolder
 pub mod Printing
 pub mod Safety

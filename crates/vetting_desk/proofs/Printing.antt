@@ -1,6 +1,8 @@
 -- What was printed for an answer, and the status with which it ended.
-use Rattle.std.proofs.Common.{◌≡◌, inl, inr, ℕ, ◌≤◌, false, List, Option, Some, None, is_some, refl, sym, ap, ◌∙◌, arith}
-use Rattle.vet_base.specs.Outside.{Told, HasRisen}
+use Rattle.std.proofs.Common.{◌≡◌, ◌≢◌, ◌<◌, ◌++◌, inl, inr, ℕ, ◌≤◌, false, List, Option, Some, None, is_some, refl, sym, ap, ◌∙◌, arith}
+use Rattle.std.specs.Prelude.{IsTrue}
+use Rattle.std.specs.Option.{option_map}
+use Rattle.vet_base.specs.Outside.{Told, HasRisen, HasNotRisen}
 use Rattle.verdict.specs.declared.outcome.Outcome.{Outcome}
 use Rattle.verdict.specs.declared.outcome.Outcome.TheVariants.{Clear, Flagged, Undecided, Refused}
 use Rattle.verdict.specs.Outcome.{status_of as outcome_status}
@@ -9,7 +11,7 @@ use Rattle.vetting_desk.specs.declared.answer.Answer.{Answer}
 use Rattle.vetting_desk.specs.declared.answer.Answer.TheVariants.{Usage, Vetted}
 use Rattle.vetting_desk.specs.declared.words.Words.{Words}
 use Rattle.vetting_desk.specs.Answer.{Answers, status_of, text_of}
-use Rattle.vetting_desk.specs.Top.{Prints, PrintsPart, IsUsage, status}
+use Rattle.vetting_desk.specs.Top.{Prints, PrintsPart, IsOnlyAnswer, IsUsage, status}
 
 outcome_below : (outcome : Outcome) → outcome_status outcome ≤ 3
 outcome_below Clear = omega arith
@@ -61,3 +63,16 @@ usage_of_answer before after taken taken' said result text answer four says (inr
 pub none_is : (words : Option Words) → is_some words ≡ false → words ≡ None
 none_is None e = refl
 none_is (Some words) e = absurd cc
+
+never_both : (m n : ℕ) → m ≤ n → n < m → ⊥
+never_both m n le lt = omega arith
+
+-- the only answer that was found was printed
+pub only_printed : (words : Option Words) (told : Option Told) (before after : ℕ) (taken taken' : Option (List ℕ)) (said result : Status) (text : List ℕ) (answer : Answer)
+    → (IsTrue (is_some told) → (other : Answer) → Answers words told other → other ≡ answer) → text ≡ text_of answer → said ≡ status (status_of answer) → Prints taken taken' before after said text result
+    → result ≢ status 7 → HasNotRisen before after → IsOnlyAnswer words told taken taken' result
+only_printed words told before after taken taken' said result text answer only is says (inl h) memory risen tells other answers =
+    let same : answer ≡ other = sym (only tells other answers) in
+    (h.0 ∙ (says ∙ ap (λ (a : Answer). status (status_of a)) same), h.1 ∙ ap (λ (t : List ℕ). option_map (λ front. front ++ t) taken) (is ∙ ap (λ (a : Answer). text_of a) same))
+only_printed words told before after taken taken' said result text answer only is says (inr (inl h)) memory risen tells other answers = absurd (never_both _ after h.2 risen)
+only_printed words told before after taken taken' said result text answer only is says (inr (inr h)) memory risen tells other answers = absurd (memory h.0)

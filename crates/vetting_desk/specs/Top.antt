@@ -13,10 +13,11 @@ use Rattle.vetting_desk.specs.Reading.{TellsRead, SameFiles}
 abbrev pub status : ℕ → Status
 status n = record { 0 = n }
 
--- An answer was found: it is that to the words and the files; it is a usage fault just where the words are no command; nothing
--- failed; and where it is clear the app is safe.
+-- An answer was found: it is that to the words and the files, and the only one where the files are told; it is a usage fault
+-- just where the words are no command; nothing failed; and where it is clear the app is safe.
 pub record IsSaid (words : Option Words) (old new : Option Told) (before after : ℕ) (answer : Answer) : Type 0 where
   pub answers : Answers words old answer
+  pub only : IsTrue (is_some old) → (other : Answer) → Answers words old other → other ≡ answer
   pub usage : status_of answer ≡ 4 → words ≡ None
   pub no_command : words ≡ None → status_of answer ≡ 4
   pub safe : status_of answer ≡ 0 → IsSafe words old
@@ -46,6 +47,11 @@ Prints old new before after said text result =
 abbrev pub IsAnswer : Option Words → Option Told → Option (List ℕ) → Option (List ℕ) → Status → Type 0
 IsAnswer words told old new result =
     (answer : Answer) × Answers words told answer × (result ≡ status (status_of answer)) × (new ≡ option_map (λ taken. taken ++ text_of answer) old)
+
+-- Where the files are told, the status and the printed bytes are those of each answer to the words and the files.
+abbrev pub IsOnlyAnswer : Option Words → Option Told → Option (List ℕ) → Option (List ℕ) → Status → Type 0
+IsOnlyAnswer words told old new result =
+    IsTrue (is_some told) → (answer : Answer) → Answers words told answer → (result ≡ status (status_of answer)) × (new ≡ option_map (λ taken. taken ++ text_of answer) old)
 
 -- the status for words that are no command
 abbrev pub IsUsage : ℕ → ℕ → Status → Type 0

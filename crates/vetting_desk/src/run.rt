@@ -6,7 +6,7 @@ ghost use Rattle.vetting_desk.specs.declared.words.Words.TheVariants.{Check};
 ghost use Rattle.vetting_desk.specs.Words.{parse};
 ghost use Rattle.vetting_desk.specs.Answer.{IsSafe};
 ghost use Rattle.vetting_desk.specs.Reading.{SameFiles};
-ghost use Rattle.vetting_desk.specs.Top.{IsFound, Prints, IsAnswer, IsUsage, TellsPrinted, PrintsPart, IsFaultStatus, IsKnown, status};
+ghost use Rattle.vetting_desk.specs.Top.{IsFound, Prints, IsAnswer, IsOnlyAnswer, IsUsage, TellsPrinted, PrintsPart, IsFaultStatus, IsKnown, status};
 
 use crate::answer::{Answer, Status, read_fault, status_saying, text_saying};
 use crate::folder::{Halt, parts_in};
@@ -75,6 +75,11 @@ pub fn vet<F: Files, O: Sink>(alloc: Global, words: &[String], files: &mut F, ou
     ensures answer { result ≢ status 7 →
         HasNotRisen (F.fault_count files.old) (F.fault_count files.new) → HasNotRisen (O.fault_count out.old) (O.fault_count out.new) →
         IsAnswer (parse (map string_bytes words.now)) (F.told files.old) (O.taken out.old) (O.taken out.new) result }
+
+    // There is no other answer, where the files tell what they hold.
+    ensures only { result ≢ status 7 →
+        HasNotRisen (F.fault_count files.old) (F.fault_count files.new) → HasNotRisen (O.fault_count out.old) (O.fault_count out.new) →
+        IsOnlyAnswer (parse (map string_bytes words.now)) (F.told files.old) (O.taken out.old) (O.taken out.new) result }
 
     ensures usage { result ≡ status 4 → IsNone (parse (map string_bytes words.now)) }
     ensures no_command { IsNone (parse (map string_bytes words.now)) → IsUsage (O.fault_count out.old) (O.fault_count out.new) result }
