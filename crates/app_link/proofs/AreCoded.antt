@@ -11,9 +11,9 @@ use Rattle.dex_code.specs.declared.fault.CodeFault.TheVariants.{Register}
 use Rattle.dex_code.specs.Code.{decoding}
 use Rattle.dex_code.specs.Lines.{Line}
 use Rattle.dex_code.proofs.Runs.{first_gave, passes}
-use Rattle.app_model.specs.declared.call.MethodRef.{MethodRef}
-use Rattle.app_model.specs.Members.{In}
-use Rattle.app_model.specs.Sound.{taken}
+use Rattle.app_machine.specs.declared.call.MethodRef.{MethodRef}
+use Rattle.vet_base.specs.Members.{In}
+use Rattle.app_machine.specs.Sound.{taken}
 use Rattle.app_link.specs.declared.coded.Coded.{Coded}
 use Rattle.app_link.specs.declared.fault.Fault.{Fault}
 use Rattle.app_link.specs.declared.fault.Fault.TheVariants as faults

@@ -5,8 +5,8 @@ use Rattle.std.specs.Cmp.{IsTotalOrder}
 use Rattle.std.specs.declared.cmp.Ordering.{Ordering}
 use Rattle.std.specs.declared.cmp.Ordering.TheVariants.{Less, Equal}
 use Rattle.std.proofs.lemmas.Cmp.{tied_itself}
-use Rattle.app_model.specs.Members.{In}
-use Rattle.app_model.specs.Sound.{Ascends}
+use Rattle.vet_base.specs.Members.{In}
+use Rattle.vet_base.specs.Ascending.{Ascends}
 
 module _ {A : Type 0} (order : A → A → Ordering) (total : IsTotalOrder order) where
   -- the first of an ascending list is below those behind it

@@ -5,9 +5,9 @@ use Rattle.std.specs.declared.cmp.Ordering.{Ordering}
 use Rattle.std.specs.declared.cmp.Ordering.TheVariants.{Less, Equal, Greater}
 use Rattle.std.proofs.lemmas.List.{take_more}
 use Rattle.std.proofs.lemmas.Cmp.{nat_list_cmp_total, tied_itself}
-use Rattle.app_model.specs.declared.app.Class.{Class}
-use Rattle.app_model.specs.Names.{Name}
-use Rattle.app_model.specs.Sound.{name_order}
+use Rattle.app_machine.specs.declared.app.Class.{Class}
+use Rattle.app_machine.specs.Names.{Name}
+use Rattle.app_machine.specs.Sound.{name_order}
 use Rattle.app_model.proofs.Elements.{in_either}
 use Rattle.app_link.specs.Circle.{LeastAmong, comes_first}
 use Rattle.app_link.specs.Hierarchy.{Above}

@@ -2,11 +2,11 @@
 use Rattle.std.proofs.Common.{◌≡◌, ℕ, zero, suc, ◌+◌, ◌-◌, ◌<◌, ◌≤◌, List, [], ◌∷◌, ◌++◌, append_assoc, length, Option, Some, None, refl, sym, ◌∙◌, ap, arith}
 use Rattle.std.specs.Prelude.{flat_map}
 use Rattle.std.proofs.lemmas.List.{append-nil}
-use Rattle.app_model.specs.declared.app.App.{App}
-use Rattle.app_model.specs.declared.app.Class.{Class}
-use Rattle.app_model.specs.Names.{Name}
+use Rattle.app_machine.specs.declared.app.App.{App}
+use Rattle.app_machine.specs.declared.app.Class.{Class}
+use Rattle.app_machine.specs.Names.{Name}
 use Rattle.app_link.specs.Statics.{own_interfaces}
-use Rattle.app_model.specs.Lookups.{class_named, up_within, up}
+use Rattle.app_machine.specs.Lookups.{class_named, up_within, up}
 
 module _ (app : App) (start : Name) where
   abbrev rest : Option Name → ℕ → List Name

@@ -14,9 +14,9 @@ use Rattle.dex_code.specs.Lines.{Line, StandFrom}
 use Rattle.dex_code.proofs.Runs.{first_gave, passed}
 use Rattle.dex_code.proofs.Standing.{some_at, ascend}
 use Rattle.dex_code.proofs.Whole.{is_code}
-use Rattle.app_model.specs.declared.call.MethodRef.{MethodRef}
-use Rattle.app_model.specs.Members.{In}
-use Rattle.app_model.specs.Sound.{taken}
+use Rattle.app_machine.specs.declared.call.MethodRef.{MethodRef}
+use Rattle.vet_base.specs.Members.{In}
+use Rattle.app_machine.specs.Sound.{taken}
 use Rattle.app_link.specs.declared.coded.Coded.{Coded}
 use Rattle.app_link.specs.declared.members.Listed.{Listed}
 use Rattle.app_link.specs.declared.fault.Fault.{Fault}

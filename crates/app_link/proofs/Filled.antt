@@ -7,11 +7,11 @@ use Rattle.std.specs.BTreeMap.{is_at}
 use Rattle.std.specs.Cmp.Lexicographic.{texts_ties}
 use Rattle.std.proofs.lemmas.Map.Entries.{lookup_head, lookup_tail}
 use Rattle.std.proofs.lemmas.List.{append-nil}
-use Rattle.app_model.specs.declared.app.Class.{Class}
-use Rattle.app_model.specs.Members.{In}
-use Rattle.app_model.specs.Names.{Name, same_name}
-use Rattle.app_model.specs.Sound.{name_order}
-use Rattle.app_model.specs.Lookups.{directly_above, class_among}
+use Rattle.app_machine.specs.declared.app.Class.{Class}
+use Rattle.vet_base.specs.Members.{In}
+use Rattle.app_machine.specs.Names.{Name, same_name}
+use Rattle.app_machine.specs.Sound.{name_order}
+use Rattle.app_machine.specs.Lookups.{directly_above, class_among}
 use Rattle.app_link.specs.Hierarchy.{HasOuters, firsts, given_by, outer_of, without_outer, renamed}
 use Rattle.app_link.specs.Orders.{named, has_name}
 use Rattle.app_link.specs.Settled.{Entries, Outers, AllSettled, filled_by, gives, given_to, listed}

@@ -4,9 +4,9 @@ use Rattle.std.specs.Prelude.{fold, not, ◌||◌}
 use Rattle.std.specs.BTreeMap.{is_at}
 use Rattle.std.proofs.lemmas.List.{append-nil}
 use Rattle.std.proofs.lemmas.List.Folds.{list_any-append}
-use Rattle.app_model.specs.Members.{In}
-use Rattle.app_model.specs.Names.{Name}
-use Rattle.app_model.specs.Sound.{name_order}
+use Rattle.vet_base.specs.Members.{In}
+use Rattle.app_machine.specs.Names.{Name}
+use Rattle.app_machine.specs.Sound.{name_order}
 use Rattle.app_model.proofs.Elements.{Apart, in_either, passes_if}
 use Rattle.app_link.specs.Hierarchy.{SameNames, add_once, is_among, firsts}
 use Rattle.app_link.proofs.FoldsOn.{fold_joined}

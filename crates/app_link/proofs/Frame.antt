@@ -11,12 +11,13 @@ use Rattle.std.specs.declared.cmp.Ordering.TheVariants.{Less, Greater}
 use Rattle.std.proofs.lemmas.Map.Keys.{sorted_head, sorted_tail}
 use Rattle.std.proofs.lemmas.Map.Entries.{lookup_head, lookup_tail}
 use Rattle.std.proofs.lemmas.Cmp.{nat_list_cmp_total, tied_itself}
-use Rattle.app_model.specs.declared.app.App.{App}
-use Rattle.app_model.specs.declared.app.Class.{Class}
-use Rattle.app_model.specs.Members.{In}
-use Rattle.app_model.specs.Names.{Name}
-use Rattle.app_model.specs.Sound.{Ascends, name_order, class_order, IsAbove, directly, beyond}
-use Rattle.app_model.specs.Lookups.{directly_above}
+use Rattle.app_machine.specs.declared.app.App.{App}
+use Rattle.app_machine.specs.declared.app.Class.{Class}
+use Rattle.vet_base.specs.Members.{In}
+use Rattle.app_machine.specs.Names.{Name}
+use Rattle.vet_base.specs.Ascending.{Ascends}
+use Rattle.app_machine.specs.Sound.{name_order, class_order, IsAbove, directly, beyond}
+use Rattle.app_machine.specs.Lookups.{directly_above}
 use Rattle.app_link.specs.Orders.{named, has_name}
 use Rattle.app_link.specs.Hierarchy.{Above, NoCircle, without_outer, renamed}
 use Rattle.app_link.specs.Hierarchy as hierarchy

@@ -14,14 +14,14 @@ use Rattle.dex_reader.specs.declared.dex.Member.{Member}
 use Rattle.dex_reader.specs.declared.dex.Body.{Body}
 use Rattle.dex_reader.proofs.Readings.{bind_runs}
 use Rattle.dex_code.proofs.Runs.{first_gave, passed, passes}
-use Rattle.app_model.specs.declared.app.Class.{Class}
-use Rattle.app_model.specs.declared.component.Kind.{Kind}
-use Rattle.app_model.specs.declared.component.Component.{Component}
-use Rattle.app_model.specs.declared.papers.Word.{Word}
-use Rattle.app_model.specs.declared.papers.Manifest.{Manifest}
-use Rattle.app_model.specs.Members.{In}
-use Rattle.app_model.specs.Names.{Name}
-use Rattle.app_model.specs.Sound.{name_order}
+use Rattle.app_machine.specs.declared.app.Class.{Class}
+use Rattle.app_machine.specs.declared.component.Kind.{Kind}
+use Rattle.app_machine.specs.declared.component.Component.{Component}
+use Rattle.app_machine.specs.declared.papers.Word.{Word}
+use Rattle.app_machine.specs.declared.papers.Manifest.{Manifest}
+use Rattle.vet_base.specs.Members.{In}
+use Rattle.app_machine.specs.Names.{Name}
+use Rattle.app_machine.specs.Sound.{name_order}
 use Rattle.app_link.specs.declared.fault.Fault.{Fault}
 use Rattle.app_link.specs.declared.fault.Fault.TheVariants.{TwoClasses, NoClass}
 use Rattle.app_link.specs.declared.members.Listed.{Listed}

@@ -1,7 +1,7 @@
 -- A loop that puts names one after the other.
 use Rattle.std.proofs.Common.{◌≡◌, ℕ, ◌+◌, ◌<◌, ◌≤◌, List, [], ◌∷◌, ◌++◌, append_assoc, length, drop, get_or, refl, sym, ◌∙◌}
 use Rattle.std.proofs.lemmas.List.{append-nil, drop_all}
-use Rattle.app_model.specs.Names.{Name, joined}
+use Rattle.app_machine.specs.Names.{Name, joined}
 use Rattle.app_link.proofs.Throughs.{front}
 
 -- these bytes, and then the names from i on, make the whole

@@ -3,15 +3,15 @@ use Rattle.std.proofs.Common.{◌≡◌, ℕ, zero, suc, ◌+◌, Ok, List, [], 
 use Rattle.std.specs.Prelude.{IsTrue, slice_get}
 use Rattle.vet_base.specs.Script.{Script, Value, run}
 use Rattle.dex_code.proofs.Runs.{first_gave, passed}
-use Rattle.app_model.specs.declared.app.Class.{Class}
-use Rattle.app_model.specs.declared.component.Kind.{Kind}
-use Rattle.app_model.specs.declared.component.Kind.TheVariants as kinds
-use Rattle.app_model.specs.declared.component.Component.{Component}
-use Rattle.app_model.specs.declared.papers.Word.{Word}
-use Rattle.app_model.specs.declared.papers.Word.TheVariants as words
-use Rattle.app_model.specs.declared.papers.Manifest.{Manifest}
-use Rattle.app_model.specs.Members.{In}
-use Rattle.app_model.specs.Names.{Name}
+use Rattle.app_machine.specs.declared.app.Class.{Class}
+use Rattle.app_machine.specs.declared.component.Kind.{Kind}
+use Rattle.app_machine.specs.declared.component.Kind.TheVariants as kinds
+use Rattle.app_machine.specs.declared.component.Component.{Component}
+use Rattle.app_machine.specs.declared.papers.Word.{Word}
+use Rattle.app_machine.specs.declared.papers.Word.TheVariants as words
+use Rattle.app_machine.specs.declared.papers.Manifest.{Manifest}
+use Rattle.vet_base.specs.Members.{In}
+use Rattle.app_machine.specs.Names.{Name}
 use Rattle.app_link.specs.declared.fault.Fault.{Fault}
 use Rattle.app_link.specs.declared.fault.Fault.TheVariants.{NoClass}
 use Rattle.app_link.specs.Orders.{has_name}

@@ -7,9 +7,10 @@ use Rattle.std.specs.Map.{keys_of}
 use Rattle.std.specs.Ordering.{ordering_then}
 use Rattle.std.specs.declared.cmp.Ordering.{Ordering}
 use Rattle.std.specs.declared.cmp.Ordering.TheVariants.{Less, Equal, Greater}
-use Rattle.app_model.specs.declared.app.Key.{Key}
-use Rattle.app_model.specs.declared.app.Key.TheVariants.{Field}
-use Rattle.app_model.specs.Sound.{Ascends, AreKeys, name_order, field_order}
+use Rattle.app_machine.specs.declared.app.Key.{Key}
+use Rattle.app_machine.specs.declared.app.Key.TheVariants.{Field}
+use Rattle.vet_base.specs.Ascending.{Ascends}
+use Rattle.app_machine.specs.Sound.{AreKeys, name_order, field_order}
 use Rattle.app_link.specs.Texts.{Triple}
 use Rattle.app_link.specs.MemberRows.{Fields}
 use Rattle.app_link.specs.Orders.{triple_order}

@@ -2,12 +2,12 @@
 use Rattle.std.proofs.Common.{◌≡◌, ℕ, Ok, List, [], map, length, sym, ◌∙◌, ap, subst}
 use Rattle.vet_base.specs.Script.{run}
 use Rattle.dex_reader.specs.declared.dex.Dex.{Dex}
-use Rattle.app_model.specs.declared.app.App.{App}
-use Rattle.app_model.specs.declared.app.Class.{Class}
-use Rattle.app_model.specs.declared.method.Method.{Method}
-use Rattle.app_model.specs.declared.papers.Manifest.{Manifest}
-use Rattle.app_model.specs.declared.papers.Layouts.{Layouts}
-use Rattle.app_model.specs.Names.{Name}
+use Rattle.app_machine.specs.declared.app.App.{App}
+use Rattle.app_machine.specs.declared.app.Class.{Class}
+use Rattle.app_machine.specs.declared.method.Method.{Method}
+use Rattle.app_machine.specs.declared.papers.Manifest.{Manifest}
+use Rattle.app_machine.specs.declared.papers.Layouts.{Layouts}
+use Rattle.app_machine.specs.Names.{Name}
 use Rattle.app_link.specs.Code.{Coding, all_codes}
 use Rattle.app_link.specs.Components.{providers_of}
 use Rattle.app_link.specs.Frame.{IsFrame, before_code}

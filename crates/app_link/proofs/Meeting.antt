@@ -3,11 +3,11 @@ use Rattle.std.proofs.Common.{◌≡◌, ℕ, zero, suc, ◌+◌, ◌-◌, ◌<�
 use Rattle.std.specs.Prelude.{fold, flat_map}
 use Rattle.std.proofs.lemmas.List.{append-nil, flat_map_more, take_all, take_more, take-append-le, take-append-drop}
 use Rattle.std.proofs.lemmas.List.Concat.{flat_map-append}
-use Rattle.app_model.specs.declared.app.App.{App}
-use Rattle.app_model.specs.declared.app.Class.{Class}
-use Rattle.app_model.specs.Members.{In}
-use Rattle.app_model.specs.Names.{Name}
-use Rattle.app_model.specs.Lookups.{class_among, class_named, up_within, up}
+use Rattle.app_machine.specs.declared.app.App.{App}
+use Rattle.app_machine.specs.declared.app.Class.{Class}
+use Rattle.vet_base.specs.Members.{In}
+use Rattle.app_machine.specs.Names.{Name}
+use Rattle.app_machine.specs.Lookups.{class_among, class_named, up_within, up}
 use Rattle.app_model.proofs.Elements.{Apart, in_either, in_flat, from_flat, no_more}
 use Rattle.app_model.proofs.Reach.{found_is_in}
 use Rattle.app_link.specs.Hierarchy.{add_once, firsts}

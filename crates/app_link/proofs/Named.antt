@@ -9,11 +9,11 @@ use Rattle.dex_code.specs.Acts.{arguments_of, call_kind_of, naming_of, suits}
 use Rattle.dex_code.specs.Insns.{kind_of}
 use Rattle.dex_code.proofs.ActNames.{NamesKey, NamesStatic, NamesCall}
 use Rattle.dex_code.proofs.Starts.{same_number}
-use Rattle.app_model.specs.declared.app.App.{App}
-use Rattle.app_model.specs.declared.app.Class.{Class}
-use Rattle.app_model.specs.declared.app.Key.{Key}
-use Rattle.app_model.specs.Members.{first_given, first_index}
-use Rattle.app_model.specs.Lookups.{elem_key, is_field, instance_key, up}
+use Rattle.app_machine.specs.declared.app.App.{App}
+use Rattle.app_machine.specs.declared.app.Class.{Class}
+use Rattle.app_machine.specs.declared.app.Key.{Key}
+use Rattle.vet_base.specs.Members.{first_given, first_index}
+use Rattle.app_machine.specs.Lookups.{elem_key, is_field, instance_key, up}
 use Rattle.app_link.specs.Texts.{Triple, field_of, method_of}
 use Rattle.app_link.specs.MemberRows.{Fields}
 use Rattle.app_link.specs.Named.{key_of, named_of}

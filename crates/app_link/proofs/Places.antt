@@ -7,8 +7,9 @@ use Rattle.std.specs.Ordering.{ordering_then}
 use Rattle.std.specs.declared.cmp.Ordering.{Ordering}
 use Rattle.std.specs.declared.cmp.Ordering.TheVariants.{Less, Equal, Greater}
 use Rattle.std.proofs.lemmas.Cmp.{nat_list_cmp_total, then_total, on_total}
-use Rattle.app_model.specs.Names.{Name, same_name}
-use Rattle.app_model.specs.Sound.{Ascends, name_order}
+use Rattle.app_machine.specs.Names.{Name, same_name}
+use Rattle.vet_base.specs.Ascending.{Ascends}
+use Rattle.app_machine.specs.Sound.{name_order}
 use Rattle.app_model.proofs.Halving.{found_at, found_nowhere}
 use Rattle.app_model.proofs.NameOrder.{same_tie, tied_same, same_equal}
 use Rattle.app_link.specs.Texts.{Triple}

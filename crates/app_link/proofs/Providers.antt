@@ -2,7 +2,7 @@
 use Rattle.std.proofs.Common.{suc, ◌≤◌, List, [], ◌∷◌, length, Option, Some, None, arith}
 use Rattle.std.specs.Prelude.{filter_map}
 use Rattle.std.specs.List.{cons_option}
-use Rattle.app_model.specs.declared.papers.Manifest.{Manifest}
+use Rattle.app_machine.specs.declared.papers.Manifest.{Manifest}
 use Rattle.app_link.specs.Components.{provider_of, providers_of}
 
 no_longer : {A B : Type 0} (f : A → Option B) (xs : List A) → length (filter_map f xs) ≤ length xs

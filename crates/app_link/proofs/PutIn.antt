@@ -14,8 +14,8 @@ use Rattle.std.proofs.lemmas.Map.{NonePasses, lookup-none, none_passes_from_look
 use Rattle.std.proofs.lemmas.Map.Keys.{IsDistinct-head, IsDistinct-tail, IsDistinct-cons}
 use Rattle.vet_base.specs.Script.{Script, Value, Test, ◌>>=◌, run}
 use Rattle.dex_code.proofs.Runs.{passed, passes}
-use Rattle.app_model.specs.Members.{In}
-use Rattle.app_model.specs.Sound.{Ascends}
+use Rattle.vet_base.specs.Members.{In}
+use Rattle.vet_base.specs.Ascending.{Ascends}
 use Rattle.app_link.specs.Orders.{AreOrdered}
 use Rattle.app_link.proofs.Ascending.{ascending_alike}
 use Rattle.app_link.proofs.Keeps.{same_value}

@@ -4,10 +4,10 @@ use Rattle.std.specs.Prelude.{IsTrue, is_some}
 use Rattle.std.specs.Map.{lookup, keys_of}
 use Rattle.std.specs.BTreeMap.{is_at}
 use Rattle.std.proofs.lemmas.Map.Entries.{lookup_tail}
-use Rattle.app_model.specs.Sound.{name_order}
+use Rattle.app_machine.specs.Sound.{name_order}
 use Rattle.std.proofs.lemmas.List.{drop_all, append-nil}
-use Rattle.app_model.specs.Members.{In}
-use Rattle.app_model.specs.Names.{Name}
+use Rattle.vet_base.specs.Members.{In}
+use Rattle.app_machine.specs.Names.{Name}
 use Rattle.app_model.proofs.Elements.{in_front, in_back, in_either}
 use Rattle.app_link.specs.Orders.{named, has_name}
 use Rattle.app_link.proofs.Lookups.{eq_names, split}

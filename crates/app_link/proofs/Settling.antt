@@ -2,11 +2,11 @@
 use Rattle.std.proofs.Common.{◌≡◌, ℕ, ◌+◌, ◌<◌, Bool, true, false, cond, List, [], ◌∷◌, ◌++◌, Option, Some, None, refl, sym, ◌∙◌, ap, subst, arith, inl, inr}
 use Rattle.std.specs.Prelude.{IsTrue, is_some, option_to_list}
 use Rattle.std.specs.BTreeMap.{is_at}
-use Rattle.app_model.specs.declared.app.Class.{Class}
-use Rattle.app_model.specs.Members.{In}
-use Rattle.app_model.specs.Names.{Name}
-use Rattle.app_model.specs.Sound.{name_order}
-use Rattle.app_model.specs.Lookups.{directly_above}
+use Rattle.app_machine.specs.declared.app.Class.{Class}
+use Rattle.vet_base.specs.Members.{In}
+use Rattle.app_machine.specs.Names.{Name}
+use Rattle.app_machine.specs.Sound.{name_order}
+use Rattle.app_machine.specs.Lookups.{directly_above}
 use Rattle.app_link.specs.Hierarchy.{firsts}
 use Rattle.app_link.specs.Orders.{named, has_name}
 use Rattle.app_link.specs.Settled.{Entries, Outers, Settled, Turn, is_settled, all_settled, one_settled, is_ready, gives, given_to, listed}

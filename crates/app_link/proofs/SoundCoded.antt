@@ -15,10 +15,11 @@ use Rattle.dex_code.specs.Code.{decoding}
 use Rattle.dex_code.specs.Lines.{Line}
 use Rattle.dex_code.proofs.Runs.{first_gave, passed}
 use Rattle.dex_code.proofs.Starts.{same_number}
-use Rattle.app_model.specs.declared.call.MethodRef.{MethodRef}
-use Rattle.app_model.specs.Members.{In}
-use Rattle.app_model.specs.Names.{Name, descriptor_of}
-use Rattle.app_model.specs.Sound.{Ascends, taken}
+use Rattle.app_machine.specs.declared.call.MethodRef.{MethodRef}
+use Rattle.vet_base.specs.Members.{In}
+use Rattle.app_machine.specs.Names.{Name, descriptor_of}
+use Rattle.vet_base.specs.Ascending.{Ascends}
+use Rattle.app_machine.specs.Sound.{taken}
 use Rattle.app_link.specs.declared.coded.Coded.{Coded}
 use Rattle.app_link.specs.declared.members.Listed.{Listed}
 use Rattle.app_link.specs.declared.members.Place.{Place}

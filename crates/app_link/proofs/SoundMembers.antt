@@ -9,9 +9,9 @@ use Rattle.dex_reader.specs.declared.dex.Dex.{Dex}
 use Rattle.dex_reader.specs.declared.dex.ClassDef.{ClassDef}
 use Rattle.dex_reader.specs.declared.dex.Body.{Body}
 use Rattle.dex_code.proofs.Runs.{first_gave, passed}
-use Rattle.app_model.specs.declared.papers.Manifest.{Manifest}
-use Rattle.app_model.specs.Members.{In}
-use Rattle.app_model.specs.Names.{Name, descriptor_of}
+use Rattle.app_machine.specs.declared.papers.Manifest.{Manifest}
+use Rattle.vet_base.specs.Members.{In}
+use Rattle.app_machine.specs.Names.{Name, descriptor_of}
 use Rattle.app_link.specs.declared.fault.Fault.{Fault}
 use Rattle.app_link.specs.declared.members.Listed.{Listed}
 use Rattle.app_link.specs.declared.members.Place.{Place}

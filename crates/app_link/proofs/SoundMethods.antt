@@ -18,12 +18,13 @@ use Rattle.dex_code.proofs.Holds.{and_both}
 use Rattle.dex_code.proofs.Operands.{registers_below}
 use Rattle.dex_code.proofs.Standing.{ascend}
 use Rattle.dex_code.proofs.Starts.{starts_of}
-use Rattle.app_model.specs.declared.app.App.{App}
-use Rattle.app_model.specs.declared.method.Method.{Method}
-use Rattle.app_model.specs.declared.method.Step.{Step}
-use Rattle.app_model.specs.declared.method.Act.{Act}
-use Rattle.app_model.specs.Members.{In}
-use Rattle.app_model.specs.Sound.{SoundMethod, SoundCode, SoundStep, BeginAtZero, Ascends, KeyBelow, StaticBelow, TakesItsRegisters, registers_of, taken}
+use Rattle.app_machine.specs.declared.app.App.{App}
+use Rattle.app_machine.specs.declared.method.Method.{Method}
+use Rattle.app_machine.specs.declared.method.Step.{Step}
+use Rattle.app_machine.specs.declared.method.Act.{Act}
+use Rattle.vet_base.specs.Members.{In}
+use Rattle.vet_base.specs.Ascending.{Ascends}
+use Rattle.app_machine.specs.Sound.{SoundMethod, SoundCode, SoundStep, BeginAtZero, AllBelow, keys_of, statics_of, TakesItsRegisters, registers_of, taken}
 use Rattle.app_link.specs.declared.coded.Coded.{Coded}
 use Rattle.app_link.specs.Texts.{Triple}
 use Rattle.app_link.specs.MemberRows.{Fields}
@@ -135,8 +136,8 @@ module _ (app : App) (fields : Fields) (statics : List Triple) (methods : List M
           catches = λ pc j. pcs_there pc (step_catches app fields statics has.dex c.decoded.tries c.decoded.lines (length has.code.units) has.is.handlers step stem pc j);
           registers = λ r j. subst (λ (n : ℕ). r < n) (sym registers_are) (registers_below has.code.units line.0 has.code.registers name r (line_fits has.code (counts_of has.dex) line is)
               (subst (λ (insn : Insn). In r (registers_of (act_of insn name))) is.says (subst (λ (a : Act). In r (registers_of a)) act j)));
-          key = subst (λ (a : Act). KeyBelow a (length app.keys)) (sym act) (key_below line.1 name (length app.keys) some_key (names_key app fields statics has.dex (naming_of line.1) some_key));
-          static = subst (λ (a : Act). StaticBelow a (length statics)) (sym act) (static_below line.1 name (length statics) (names_static app fields statics has.dex line.1 some));
+          keys = subst (λ (a : Act). AllBelow (length app.keys) (keys_of a)) (sym act) (key_below line.1 name (length app.keys) some_key (names_key app fields statics has.dex (naming_of line.1) some_key));
+          statics = subst (λ (a : Act). AllBelow (length statics) (statics_of a)) (sym act) (static_below line.1 name (length statics) (names_static app fields statics has.dex line.1 some));
           call = subst TakesItsRegisters (sym act) (takes_its_registers line.1 name (names_call app fields statics has.dex line.1 (has.calls line stem.of_lines)));
         }
 

@@ -3,7 +3,7 @@ use Rattle.std.proofs.Common.{◌≡◌, ℕ, ◌+◌, ◌<◌, ◌≤◌, min, 
 use Rattle.std.specs.Prelude.{flat_map, slice_get}
 use Rattle.dex_reader.specs.declared.dex.Dex.{Dex}
 use Rattle.dex_code.specs.Lines.{Line}
-use Rattle.app_model.specs.declared.app.App.{App}
+use Rattle.app_machine.specs.declared.app.App.{App}
 use Rattle.app_model.proofs.Elements.{no_more}
 use Rattle.app_link.specs.declared.coded.Coded.{Coded}
 use Rattle.app_link.specs.Texts.{Triple, field_of}

@@ -10,10 +10,10 @@ use Rattle.dex_code.specs.Flow.{Flows, AllFlow}
 use Rattle.dex_code.specs.Next.{catches_of}
 use Rattle.dex_code.specs.Tries.{AllTriesStand}
 use Rattle.dex_code.proofs.Starts.{start_if, starts_of, further, next_there, catches_there}
-use Rattle.app_model.specs.declared.app.App.{App}
-use Rattle.app_model.specs.declared.method.Step.{Step}
-use Rattle.app_model.specs.Members.{In}
-use Rattle.app_model.specs.Sound.{Ascends}
+use Rattle.app_machine.specs.declared.app.App.{App}
+use Rattle.app_machine.specs.declared.method.Step.{Step}
+use Rattle.vet_base.specs.Members.{In}
+use Rattle.vet_base.specs.Ascending.{Ascends}
 use Rattle.app_link.specs.Texts.{Triple}
 use Rattle.app_link.specs.MemberRows.{Fields}
 use Rattle.app_link.specs.Lift.{step_of, step_if, steps_of}

@@ -1,10 +1,10 @@
 -- Where classes wait for one another, one of them is above itself.
 use Rattle.std.proofs.Common.{◌≡◌, ◌<◌, Bool, true, false, List, [], ◌∷◌, ◌++◌, length, Option, Some, None, refl, ap, subst, arith, ◌⊎◌, inl, inr}
 use Rattle.std.specs.Prelude.{IsTrue, is_some, option_to_list, not, ◌||◌, ◌&&◌}
-use Rattle.app_model.specs.declared.app.Class.{Class}
-use Rattle.app_model.specs.Members.{In}
-use Rattle.app_model.specs.Names.{Name}
-use Rattle.app_model.specs.Lookups.{directly_above}
+use Rattle.app_machine.specs.declared.app.Class.{Class}
+use Rattle.vet_base.specs.Members.{In}
+use Rattle.app_machine.specs.Names.{Name}
+use Rattle.app_machine.specs.Lookups.{directly_above}
 use Rattle.app_link.specs.Circle.{LeastAmong}
 use Rattle.app_link.specs.Hierarchy.{Above, directly, beyond, NoCircle, IsLeastCircle}
 use Rattle.app_link.specs.Orders.{has_name}

@@ -6,9 +6,9 @@ use Rattle.dex_reader.specs.declared.dex.RawCode.{RawCode}
 use Rattle.dex_code.specs.declared.decoder.Decoded.{Decoded}
 use Rattle.dex_code.specs.Code.{IsCode}
 use Rattle.dex_code.specs.Lines.{Line}
-use Rattle.app_model.specs.declared.call.MethodRef.{MethodRef}
-use Rattle.app_model.specs.Members.{In}
-use Rattle.app_model.specs.Sound.{taken}
+use Rattle.app_machine.specs.declared.call.MethodRef.{MethodRef}
+use Rattle.vet_base.specs.Members.{In}
+use Rattle.app_machine.specs.Sound.{taken}
 use Rattle.app_link.specs.declared.coded.Coded.{Coded}
 use Rattle.app_link.specs.declared.members.Listed.{Listed}
 use Rattle.app_link.specs.Texts.{Triple}

@@ -2,11 +2,11 @@
 use Rattle.std.specs.Prelude.{◌≡◌, Bool, true, List, [], Option, Some, None, if◌then◌else◌}
 use Rattle.std.specs.Ordering.{is_lt}
 use Rattle.std.specs.declared.cmp.Ordering.TheVariants.{Less}
-use Rattle.app_model.specs.declared.app.Class.{Class}
-use Rattle.app_model.specs.Lookups.{directly_above}
-use Rattle.app_model.specs.Members.{In}
-use Rattle.app_model.specs.Names.{Name}
-use Rattle.app_model.specs.Sound.{name_order}
+use Rattle.app_machine.specs.declared.app.Class.{Class}
+use Rattle.app_machine.specs.Lookups.{directly_above}
+use Rattle.vet_base.specs.Members.{In}
+use Rattle.app_machine.specs.Names.{Name}
+use Rattle.app_machine.specs.Sound.{name_order}
 use Rattle.app_link.specs.Hierarchy.{Above, is_among}
 use Rattle.app_link.specs.Orders.{named}
 

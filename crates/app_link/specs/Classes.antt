@@ -5,9 +5,9 @@ use Rattle.vet_base.specs.Script.{Script, Value, ◌>>=◌, test}
 use Rattle.dex_reader.specs.declared.dex.Dex.{Dex}
 use Rattle.dex_reader.specs.declared.dex.ClassDef.{ClassDef}
 use Rattle.dex_reader.specs.declared.dex.Body.{Body}
-use Rattle.app_model.specs.declared.app.Class.{Class}
-use Rattle.app_model.specs.declared.call.Proto.{Proto}
-use Rattle.app_model.specs.Names.{Name}
+use Rattle.app_machine.specs.declared.app.Class.{Class}
+use Rattle.app_machine.specs.declared.call.Proto.{Proto}
+use Rattle.app_machine.specs.Names.{Name}
 use Rattle.app_link.specs.declared.fault.Fault.{Fault}
 use Rattle.app_link.specs.declared.fault.Fault.TheVariants.{TwoClasses}
 use Rattle.app_link.specs.Texts.{text_of, type_of, types_of, proto_of, method_row}

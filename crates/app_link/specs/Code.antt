@@ -16,10 +16,10 @@ use Rattle.dex_code.specs.Acts.{arguments_of, call_kind_of, naming_of}
 use Rattle.dex_code.specs.Code.{decoding}
 use Rattle.dex_code.specs.Insns.{kind_of}
 use Rattle.dex_code.specs.Lines.{Line}
-use Rattle.app_model.specs.declared.call.CallKind.{CallKind}
-use Rattle.app_model.specs.declared.call.MethodRef.{MethodRef}
-use Rattle.app_model.specs.Lookups.{is_static_call}
-use Rattle.app_model.specs.Sound.{taken}
+use Rattle.app_machine.specs.declared.call.CallKind.{CallKind}
+use Rattle.app_machine.specs.declared.call.MethodRef.{MethodRef}
+use Rattle.app_machine.specs.Lookups.{is_static_call}
+use Rattle.app_machine.specs.Sound.{taken}
 use Rattle.app_link.specs.declared.fault.Fault.{Fault}
 use Rattle.app_link.specs.declared.fault.Fault.TheVariants as faults
 use Rattle.app_link.specs.declared.members.Place.{Place}

@@ -1,14 +1,14 @@
 -- The components of the manifest: the application first, where there is one, and then activities, services and receivers.
 use Rattle.std.specs.Prelude.{ℕ, List, [], ◌∷◌, ◌++◌, map, Option, Some, None, filter_map, option_to_list}
 use Rattle.vet_base.specs.Script.{Script, Value, ◌>>=◌, test}
-use Rattle.app_model.specs.declared.app.Class.{Class}
-use Rattle.app_model.specs.declared.component.Kind.{Kind}
-use Rattle.app_model.specs.declared.component.Kind.TheVariants as kinds
-use Rattle.app_model.specs.declared.component.Component.{Component}
-use Rattle.app_model.specs.declared.papers.Word.{Word}
-use Rattle.app_model.specs.declared.papers.Word.TheVariants as words
-use Rattle.app_model.specs.declared.papers.Manifest.{Manifest}
-use Rattle.app_model.specs.Names.{Name}
+use Rattle.app_machine.specs.declared.app.Class.{Class}
+use Rattle.app_machine.specs.declared.component.Kind.{Kind}
+use Rattle.app_machine.specs.declared.component.Kind.TheVariants as kinds
+use Rattle.app_machine.specs.declared.component.Component.{Component}
+use Rattle.app_machine.specs.declared.papers.Word.{Word}
+use Rattle.app_machine.specs.declared.papers.Word.TheVariants as words
+use Rattle.app_machine.specs.declared.papers.Manifest.{Manifest}
+use Rattle.app_machine.specs.Names.{Name}
 use Rattle.app_link.specs.declared.fault.Fault.{Fault}
 use Rattle.app_link.specs.declared.fault.Fault.TheVariants.{NoClass}
 use Rattle.app_link.specs.Orders.{has_name}

@@ -1,7 +1,7 @@
 -- Methods by class, name and descriptor.
 use Rattle.std.specs.Prelude.{◌≡◌}
-use Rattle.app_model.specs.Members.{In}
-use Rattle.app_model.specs.Names.{descriptor_of}
+use Rattle.vet_base.specs.Members.{In}
+use Rattle.app_machine.specs.Names.{descriptor_of}
 use Rattle.app_link.specs.declared.members.Listed.{Listed}
 use Rattle.app_link.specs.Texts.{Triple}
 use Rattle.app_link.specs.MemberRows.{Methods}

@@ -2,13 +2,13 @@
 use Rattle.std.specs.Prelude.{◌≡◌, ◌<◌, List, [], ◌∷◌, map, length, IsTrue}
 use Rattle.std.specs.List.Sorted.{IsStrictlySortedBy}
 use Rattle.std.specs.Map.{keys_of}
-use Rattle.app_model.specs.declared.app.App.{App}
-use Rattle.app_model.specs.declared.app.Class.{Class}
-use Rattle.app_model.specs.declared.component.Kind.TheVariants as kinds
-use Rattle.app_model.specs.declared.component.Component.{Component}
-use Rattle.app_model.specs.Members.{In}
-use Rattle.app_model.specs.Names.{Name}
-use Rattle.app_model.specs.Sound.{name_order}
+use Rattle.app_machine.specs.declared.app.App.{App}
+use Rattle.app_machine.specs.declared.app.Class.{Class}
+use Rattle.app_machine.specs.declared.component.Kind.TheVariants as kinds
+use Rattle.app_machine.specs.declared.component.Component.{Component}
+use Rattle.vet_base.specs.Members.{In}
+use Rattle.app_machine.specs.Names.{Name}
+use Rattle.app_machine.specs.Sound.{name_order}
 use Rattle.app_link.specs.MemberRows.{Fields}
 use Rattle.app_link.specs.Orders.{has_name, triple_order}
 use Rattle.app_link.specs.Keys.{all_keys}

@@ -3,12 +3,12 @@ use Rattle.std.specs.Prelude.{◌≡◌, List}
 use Rattle.std.specs.Map.{keys_of}
 use Rattle.vet_base.specs.Script.{Script, Value, ◌>>=◌}
 use Rattle.dex_reader.specs.declared.dex.Dex.{Dex}
-use Rattle.app_model.specs.declared.app.Class.{Class}
-use Rattle.app_model.specs.declared.component.Component.{Component}
-use Rattle.app_model.specs.declared.papers.Manifest.{Manifest}
-use Rattle.app_model.specs.Members.{In}
-use Rattle.app_model.specs.Names.{Name}
-use Rattle.app_model.specs.Sound.{name_order}
+use Rattle.app_machine.specs.declared.app.Class.{Class}
+use Rattle.app_machine.specs.declared.component.Component.{Component}
+use Rattle.app_machine.specs.declared.papers.Manifest.{Manifest}
+use Rattle.vet_base.specs.Members.{In}
+use Rattle.app_machine.specs.Names.{Name}
+use Rattle.app_machine.specs.Sound.{name_order}
 use Rattle.app_link.specs.declared.fault.Fault.{Fault}
 use Rattle.app_link.specs.MemberRows.{Fields, Methods, all_members}
 use Rattle.app_link.specs.Classes.{all_classes}

@@ -1,9 +1,9 @@
 -- The app of DEX files, a manifest and layouts.
 use Rattle.std.specs.Prelude.{◌≡◌, List, map, length}
 use Rattle.dex_reader.specs.declared.dex.Dex.{Dex}
-use Rattle.app_model.specs.declared.app.App.{App}
-use Rattle.app_model.specs.declared.papers.Manifest.{Manifest}
-use Rattle.app_model.specs.declared.papers.Layouts.{Layouts}
+use Rattle.app_machine.specs.declared.app.App.{App}
+use Rattle.app_machine.specs.declared.papers.Manifest.{Manifest}
+use Rattle.app_machine.specs.declared.papers.Layouts.{Layouts}
 use Rattle.app_link.specs.AreCoded.{AreCoded}
 use Rattle.app_link.specs.Code.{Coding}
 use Rattle.app_link.specs.Components.{providers_of}

@@ -1,7 +1,7 @@
 -- The keys: all elements, and then each instance field by class, name and type.
 use Rattle.std.specs.Prelude.{Bool, true, false, List, [], ◌∷◌, flat_map}
-use Rattle.app_model.specs.declared.app.Key.{Key}
-use Rattle.app_model.specs.declared.app.Key.TheVariants.{Elem, Field}
+use Rattle.app_machine.specs.declared.app.Key.{Key}
+use Rattle.app_machine.specs.declared.app.Key.TheVariants.{Elem, Field}
 use Rattle.app_link.specs.Texts.{Triple}
 use Rattle.app_link.specs.MemberRows.{Fields}
 

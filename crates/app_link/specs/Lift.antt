@@ -6,8 +6,8 @@ use Rattle.dex_code.specs.Acts.{act_of, naming_of}
 use Rattle.dex_code.specs.Insns.{is_payload}
 use Rattle.dex_code.specs.Lines.{Line}
 use Rattle.dex_code.specs.Next.{next_of, catches_of}
-use Rattle.app_model.specs.declared.app.App.{App}
-use Rattle.app_model.specs.declared.method.Step.{Step}
+use Rattle.app_machine.specs.declared.app.App.{App}
+use Rattle.app_machine.specs.declared.method.Step.{Step}
 use Rattle.app_link.specs.Texts.{Triple}
 use Rattle.app_link.specs.MemberRows.{Fields}
 use Rattle.app_link.specs.Named.{named_of}

@@ -7,7 +7,7 @@ use Rattle.dex_reader.specs.declared.dex.Dex.{Dex}
 use Rattle.dex_reader.specs.declared.dex.ClassDef.{ClassDef}
 use Rattle.dex_reader.specs.declared.dex.Member.{Member}
 use Rattle.dex_reader.specs.declared.dex.Body.{Body}
-use Rattle.app_model.specs.Names.{Name, descriptor_of}
+use Rattle.app_machine.specs.Names.{Name, descriptor_of}
 use Rattle.app_link.specs.declared.fault.Fault.{Fault}
 use Rattle.app_link.specs.declared.fault.Fault.TheVariants.{TwoMembers}
 use Rattle.app_link.specs.declared.members.Listed.{Listed}

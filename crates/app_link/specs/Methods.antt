@@ -2,10 +2,10 @@
 use Rattle.std.specs.Prelude.{◌≤◌, List, [], map, Some, None, slice_get}
 use Rattle.dex_reader.specs.declared.dex.Dex.{Dex}
 use Rattle.dex_code.specs.Find.{Ascend}
-use Rattle.app_model.specs.declared.app.App.{App}
-use Rattle.app_model.specs.declared.method.Method.{Method}
-use Rattle.app_model.specs.declared.method.Step.{Step}
-use Rattle.app_model.specs.Members.{In}
+use Rattle.app_machine.specs.declared.app.App.{App}
+use Rattle.app_machine.specs.declared.method.Method.{Method}
+use Rattle.app_machine.specs.declared.method.Step.{Step}
+use Rattle.vet_base.specs.Members.{In}
 use Rattle.app_link.specs.declared.coded.Coded.{Coded}
 use Rattle.app_link.specs.Texts.{Triple}
 use Rattle.app_link.specs.MemberRows.{Fields}

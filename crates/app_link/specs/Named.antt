@@ -6,8 +6,8 @@ use Rattle.dex_code.specs.declared.names.Named.{Named}
 use Rattle.dex_code.specs.declared.names.Named.TheVariants as named
 use Rattle.dex_code.specs.declared.names.Naming.{Naming}
 use Rattle.dex_code.specs.declared.names.Naming.TheVariants as naming
-use Rattle.app_model.specs.declared.app.App.{App}
-use Rattle.app_model.specs.Lookups.{instance_key}
+use Rattle.app_machine.specs.declared.app.App.{App}
+use Rattle.app_machine.specs.Lookups.{instance_key}
 use Rattle.app_link.specs.Texts.{Triple, type_of, field_of, method_of}
 use Rattle.app_link.specs.MemberRows.{Fields}
 use Rattle.app_link.specs.Statics.{number_of}

@@ -1,9 +1,9 @@
 -- Files are one app, or they have one first fault.
 use Rattle.std.specs.Prelude.{◌≡◌, List}
 use Rattle.dex_reader.specs.declared.dex.Dex.{Dex}
-use Rattle.app_model.specs.declared.app.App.{App}
-use Rattle.app_model.specs.declared.papers.Manifest.{Manifest}
-use Rattle.app_model.specs.declared.papers.Layouts.{Layouts}
+use Rattle.app_machine.specs.declared.app.App.{App}
+use Rattle.app_machine.specs.declared.papers.Manifest.{Manifest}
+use Rattle.app_machine.specs.declared.papers.Layouts.{Layouts}
 use Rattle.app_link.specs.declared.linking.LinkFault.{LinkFault}
 use Rattle.app_link.specs.FirstLinkFault.{FirstLinkFault}
 use Rattle.app_link.specs.IsApp.{IsApp}

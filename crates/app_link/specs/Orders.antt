@@ -6,9 +6,9 @@ use Rattle.std.specs.declared.cmp.Ordering.{Ordering}
 use Rattle.std.specs.Ordering.{ordering_then, eq_by_cmp}
 use Rattle.std.specs.BTreeMap.{insert_entry, is_at}
 use Rattle.std.specs.Map.{lookup, keys_of}
-use Rattle.app_model.specs.Members.{In}
-use Rattle.app_model.specs.Names.{Name}
-use Rattle.app_model.specs.Sound.{name_order}
+use Rattle.vet_base.specs.Members.{In}
+use Rattle.app_machine.specs.Names.{Name}
+use Rattle.app_machine.specs.Sound.{name_order}
 use Rattle.app_link.specs.Texts.{Triple}
 
 -- by the first name, then by the second, then by the third

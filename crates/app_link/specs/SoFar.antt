@@ -1,7 +1,7 @@
 -- What holds of the methods that were decoded so far.
 use Rattle.std.specs.Prelude.{ℕ, ◌+◌, ◌≤◌, min, List, [], ◌∷◌, length}
 use Rattle.dex_code.specs.Find.{Ascend}
-use Rattle.app_model.specs.Members.{In}
+use Rattle.vet_base.specs.Members.{In}
 use Rattle.app_link.specs.declared.coded.Coded.{Coded}
 use Rattle.app_link.specs.Code.{Coding}
 

@@ -6,9 +6,9 @@ use Rattle.dex_code.specs.declared.names.Naming.{Naming}
 use Rattle.dex_code.specs.declared.names.Naming.TheVariants as naming
 use Rattle.dex_code.specs.Acts.{naming_of}
 use Rattle.dex_code.specs.Lines.{Line}
-use Rattle.app_model.specs.declared.app.App.{App}
-use Rattle.app_model.specs.Members.{In}
-use Rattle.app_model.specs.Sound.{Ascends}
+use Rattle.app_machine.specs.declared.app.App.{App}
+use Rattle.vet_base.specs.Members.{In}
+use Rattle.vet_base.specs.Ascending.{Ascends}
 use Rattle.app_link.specs.declared.coded.Coded.{Coded}
 use Rattle.app_link.specs.Texts.{Triple, field_of}
 use Rattle.app_link.specs.MemberRows.{Fields}

@@ -2,12 +2,12 @@
 -- and then through the interfaces of these classes in the order met, and behind them those interfaces' own interfaces, each once.
 -- Android documentation, Dalvik bytecode: `sstaticop`. All superclasses come before the interfaces.
 use Rattle.std.specs.Prelude.{ℕ, zero, suc, Bool, false, List, [], ◌++◌, length, Option, Some, None, filter_map, flat_map, unwrap_or, ◌&&◌, if◌then◌else◌}
-use Rattle.app_model.specs.declared.app.App.{App}
-use Rattle.app_model.specs.declared.app.Class.{Class}
-use Rattle.app_model.specs.Names.{Name, same_name}
-use Rattle.app_model.specs.Members.{first_index, first_given}
+use Rattle.app_machine.specs.declared.app.App.{App}
+use Rattle.app_machine.specs.declared.app.Class.{Class}
+use Rattle.app_machine.specs.Names.{Name, same_name}
+use Rattle.vet_base.specs.Members.{first_index, first_given}
 use Rattle.dex_reader.specs.declared.dex.Dex.{Dex}
-use Rattle.app_model.specs.Lookups.{class_named, up}
+use Rattle.app_machine.specs.Lookups.{class_named, up}
 use Rattle.app_link.specs.Hierarchy.{firsts}
 use Rattle.app_link.specs.Texts.{Triple, field_of}
 use Rattle.app_link.specs.MemberRows.{Fields}

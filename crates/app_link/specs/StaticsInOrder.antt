@@ -1,6 +1,6 @@
 -- The list of statics, as it is numbered.
 use Rattle.std.specs.Prelude.{◌<◌, List, length}
-use Rattle.app_model.specs.Sound.{Ascends}
+use Rattle.vet_base.specs.Ascending.{Ascends}
 use Rattle.app_link.specs.Texts.{Triple}
 use Rattle.app_link.specs.Orders.{triple_order}
 

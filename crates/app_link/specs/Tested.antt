@@ -6,9 +6,10 @@ use Rattle.dex_reader.specs.declared.dex.Dex.{Dex}
 use Rattle.dex_reader.specs.declared.dex.RawCode.{RawCode}
 use Rattle.dex_code.specs.Lines.{Line}
 use Rattle.dex_code.specs.Code.{IsCode}
-use Rattle.app_model.specs.Members.{In}
-use Rattle.app_model.specs.Names.{descriptor_of}
-use Rattle.app_model.specs.Sound.{Ascends, name_order, taken}
+use Rattle.vet_base.specs.Members.{In}
+use Rattle.app_machine.specs.Names.{descriptor_of}
+use Rattle.vet_base.specs.Ascending.{Ascends}
+use Rattle.app_machine.specs.Sound.{name_order, taken}
 use Rattle.app_link.specs.declared.coded.Coded.{Coded}
 use Rattle.app_link.specs.Code.{counts_of, call_fits}
 

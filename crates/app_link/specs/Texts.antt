@@ -4,9 +4,9 @@ use Rattle.std.specs.Prelude.{ℕ, List, [], map, Some, None, slice_get}
 use Rattle.dex_reader.specs.declared.dex.Dex.{Dex}
 use Rattle.dex_reader.specs.declared.dex.FieldId.{FieldId}
 use Rattle.dex_reader.specs.declared.dex.MethodRow.{MethodRow}
-use Rattle.app_model.specs.declared.call.Proto.{Proto}
-use Rattle.app_model.specs.declared.call.MethodRef.{MethodRef}
-use Rattle.app_model.specs.Names.{Name}
+use Rattle.app_machine.specs.declared.call.Proto.{Proto}
+use Rattle.app_machine.specs.declared.call.MethodRef.{MethodRef}
+use Rattle.app_machine.specs.Names.{Name}
 
 -- a class, a name, and a type or descriptor: what tells a field or a method from all others
 abbrev pub Triple : Type 0

@@ -2,9 +2,9 @@
 
 ghost use Rattle.std.specs.Prelude.{◌≡◌, ◌++◌, ◌∷◌, ◌↔◌, [], true, cond, IfOk, OnOk, IsTrue, List};
 ghost use Rattle.std.specs.BTreeMap.{is_at};
-ghost use Rattle.app_model.specs.Lookups.{directly_above};
-ghost use Rattle.app_model.specs.Names.{Name};
-ghost use Rattle.app_model.specs.Sound.{name_order};
+ghost use Rattle.app_machine.specs.Lookups.{directly_above};
+ghost use Rattle.app_machine.specs.Names.{Name};
+ghost use Rattle.app_machine.specs.Sound.{name_order};
 ghost use Rattle.app_link.specs.Circle.{LeastAmong, above_named, comes_first, newly};
 ghost use Rattle.app_link.specs.Hierarchy.{Above, is_among};
 

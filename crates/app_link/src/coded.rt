@@ -5,8 +5,8 @@ ghost use Rattle.std.specs.List.Sorted.{IsStrictlySortedBy};
 ghost use Rattle.std.specs.Map.{keys_of};
 ghost use Rattle.vet_base.specs.Script.{Gives};
 ghost use Rattle.dex_code.specs.Code.{decoding};
-ghost use Rattle.app_model.specs.Names.{is_wide, widths};
-ghost use Rattle.app_model.specs.Sound.{taken};
+ghost use Rattle.app_machine.specs.Names.{is_wide, widths};
+ghost use Rattle.app_machine.specs.Sound.{taken};
 ghost use Rattle.app_link.specs.Code.{ShortCode, ShortCodes, all_codes, blamed, bodies_of, call_fits, call_row, calls_fit, code_at, code_row, counts_of, one_code, reference, tested};
 ghost use Rattle.app_link.specs.Described.{Described};
 ghost use Rattle.app_link.specs.Orders.{triple_order};
@@ -85,7 +85,7 @@ fn find_code<'a>(dexes: &'a [Dex], place: &Place) -> Option<(&'a Dex, &'a RawCod
     }
 }
 
-#[tactic(auto, unfolding(app_model::specs::Names::is_wide))]
+#[tactic(auto, unfolding(app_machine::specs::Names::is_wide))]
 fn is_wide_type(kind: &Name) -> bool
     ensures { result ≡ is_wide kind.now }
 {

@@ -3,7 +3,7 @@
 ghost use Rattle.std.specs.Prelude.{◌≡◌, ◌<◌, ◌≤◌, ◌^◌, IfOk, length, map};
 ghost use Rattle.std.specs.Map.{keys_of};
 ghost use Rattle.std.specs.List.Sorted.{IsStrictlySortedBy};
-ghost use Rattle.app_model.specs.Sound.{SoundApp, name_order};
+ghost use Rattle.app_machine.specs.Sound.{SoundApp, name_order};
 ghost use Rattle.app_link.specs.Frame.{Fit, IsFrame};
 ghost use Rattle.app_link.specs.Hierarchy.{HasOuters, NoCircle, renamed, without_outer};
 ghost use Rattle.app_link.specs.Settled.{AllSettled};

@@ -3,8 +3,8 @@
 ghost use Rattle.std.specs.Prelude.{◌≡◌, ◌≤◌, ◌<◌, ◌++◌, ◌∷◌, [], IfOk, IfErr, Some, length, cond};
 ghost use Rattle.std.specs.Map.{keys_of};
 ghost use Rattle.std.specs.BTreeMap.{is_at};
-ghost use Rattle.app_model.specs.Sound.{name_order};
-ghost use Rattle.app_model.specs.Names.{Name};
+ghost use Rattle.app_machine.specs.Sound.{name_order};
+ghost use Rattle.app_machine.specs.Names.{Name};
 ghost use Rattle.app_link.specs.Hierarchy.{IsLeastCircle};
 ghost use Rattle.app_link.specs.Orders.{has_name, named};
 ghost use Rattle.app_link.specs.Settled.{AllSettled, AreStuck, Covers, Settled, StopsAtCircle, Turn, all_settled, is_ready, is_settled, one_settled};

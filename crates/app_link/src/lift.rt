@@ -3,7 +3,7 @@
 ghost use Rattle.std.specs.Prelude.{◌≡◌, ◌++◌, IfOk, OnOk};
 ghost use Rattle.dex_code.specs.Acts.{act_of, naming_of};
 ghost use Rattle.dex_code.specs.Find.{Ascend};
-ghost use Rattle.app_model.specs.Sound.{SoundApp};
+ghost use Rattle.app_machine.specs.Sound.{SoundApp};
 ghost use Rattle.app_link.specs.Lift.{step_if, step_of, steps_of};
 ghost use Rattle.app_link.specs.Named.{named_of};
 ghost use Rattle.app_link.specs.StaticsInOrder.{StaticsInOrder};

@@ -2,7 +2,7 @@
 
 ghost use Rattle.std.specs.Prelude.{◌≡◌, ◌≢◌, ◌⊎◌, ◌<◌, ◌≤◌, ◌^◌, All, IfErr, IfOk, OnOk, length};
 ghost use Rattle.vet_base.specs.Script.{Gives};
-ghost use Rattle.app_model.specs.Sound.{SoundApp};
+ghost use Rattle.app_machine.specs.Sound.{SoundApp};
 ghost use Rattle.dex_reader.specs.Sound.{SoundDex};
 ghost use Rattle.app_link.specs.Code.{ShortCodes, all_codes};
 ghost use Rattle.app_link.specs.Described.{Described};

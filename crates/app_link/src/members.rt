@@ -2,7 +2,7 @@
 
 ghost use Rattle.std.specs.Prelude.{◌≡◌, IfOk, ◌++◌};
 ghost use Rattle.vet_base.specs.Script.{Gives};
-ghost use Rattle.app_model.specs.Names.{descriptor_of, joined};
+ghost use Rattle.app_machine.specs.Names.{descriptor_of, joined};
 ghost use Rattle.app_link.specs.MemberRows.{all_members, class_members, dex_members, field_named, listed_of, method_named, one_field, one_method, some_fields, some_methods};
 ghost use Rattle.app_link.specs.Orders.{has_triple, with_triple};
 
@@ -87,7 +87,7 @@ fn add_names(bytes: &mut Vec<u8>, names: &[Name]) -> Result<(), Memory>
 }
 
 /// The text of a descriptor.
-#[tactic(auto, unfolding(app_model::specs::Names::descriptor_of))]
+#[tactic(auto, unfolding(app_machine::specs::Names::descriptor_of))]
 pub fn descriptor(alloc: Global, proto: &Proto) -> Result<Name, Memory>
     ensures { IfOk result (λ d. d ≡ descriptor_of proto.now) }
 {

@@ -2,7 +2,7 @@
 
 ghost use Rattle.std.specs.Prelude.{◌≡◌, ◌≤◌, ◌∷◌, ◌++◌, [], IfOk, map};
 ghost use Rattle.dex_code.specs.Find.{Ascend};
-ghost use Rattle.app_model.specs.Sound.{SoundApp};
+ghost use Rattle.app_machine.specs.Sound.{SoundApp};
 ghost use Rattle.app_link.specs.Methods.{InOrder, Narrow, all_methods, lifted, steps_in};
 ghost use Rattle.app_link.specs.StaticsInOrder.{StaticsInOrder};
 

@@ -1,7 +1,7 @@
 //! What instructions name, as the app has it.
 
 ghost use Rattle.std.specs.Prelude.{◌≡◌, IfOk};
-ghost use Rattle.app_model.specs.Sound.{SoundApp};
+ghost use Rattle.app_machine.specs.Sound.{SoundApp};
 ghost use Rattle.app_link.specs.Named.{key_of, named_of};
 ghost use Rattle.app_link.specs.StaticsInOrder.{StaticsInOrder};
 ghost use Rattle.app_link.specs.Texts.{type_of};

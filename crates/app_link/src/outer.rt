@@ -2,8 +2,8 @@
 
 ghost use Rattle.std.specs.Prelude.{◌≡◌, true, not, IfOk, OnOk, map, flat_map, fold, cond};
 ghost use Rattle.std.specs.BTreeMap.{is_at};
-ghost use Rattle.app_model.specs.Sound.{name_order};
-ghost use Rattle.app_model.specs.Names.{Name};
+ghost use Rattle.app_machine.specs.Sound.{name_order};
+ghost use Rattle.app_machine.specs.Names.{Name};
 ghost use Rattle.app_link.specs.Hierarchy.{SameNames, add_once, is_among};
 ghost use Rattle.app_link.specs.Orders.{named};
 ghost use Rattle.app_link.specs.Settled.{filled_by, given_to, gives, listed};

@@ -2,9 +2,9 @@
 
 ghost use Rattle.std.specs.Prelude.{◌≡◌, ◌++◌, IfOk, OnOk, filter_map, flat_map, fold, unwrap_or};
 ghost use Rattle.std.specs.Option.{option_copied};
-ghost use Rattle.app_model.specs.Members.{first_given};
-ghost use Rattle.app_model.specs.Lookups.{class_named, up};
-ghost use Rattle.app_model.specs.Sound.{SoundApp, name_order};
+ghost use Rattle.vet_base.specs.Members.{first_given};
+ghost use Rattle.app_machine.specs.Lookups.{class_named, up};
+ghost use Rattle.app_machine.specs.Sound.{SoundApp, name_order};
 ghost use Rattle.app_link.specs.Orders.{named_triple};
 ghost use Rattle.app_link.specs.Hierarchy.{SameNames, add_once, firsts};
 ghost use Rattle.app_link.specs.Statics.{class_of_static, classes_asked, defines, first_interfaces, interfaces_named, is_true, met, number_among, number_of, own_name, resolved};
@@ -21,7 +21,7 @@ use std::collections::BTreeSet;
 use vet_base::{Memory, Name};
 
 /// The class of the app with this name.
-#[tactic(auto, unfolding(app_model::specs::Lookups::class_named))]
+#[tactic(auto, unfolding(app_machine::specs::Lookups::class_named))]
 fn class_of<'a>(app: &'a App, name: &[u8]) -> Option<&'a Class>
     requires { SoundApp app.now }
     ensures { option_copied result ≡ class_named app.now name.now }

@@ -5,11 +5,11 @@ use Rattle.std.specs.Option.{MatchOption}
 use Rattle.std.specs.List.{list_any}
 use Rattle.std.proofs.lemmas.List.{drop_all}
 use Rattle.std.proofs.lemmas.List.Folds.{list_any-append}
-use Rattle.app_model.specs.declared.app.App.{App}
-use Rattle.app_model.specs.declared.app.Class.{Class}
-use Rattle.app_model.specs.declared.lists.Lists.{Lists}
-use Rattle.app_model.specs.Names.{Name}
-use Rattle.app_model.specs.Lookups.{class_named, above_within, directly_above}
+use Rattle.app_machine.specs.declared.app.App.{App}
+use Rattle.app_machine.specs.declared.app.Class.{Class}
+use Rattle.app_machine.specs.declared.lists.Lists.{Lists}
+use Rattle.app_machine.specs.Names.{Name}
+use Rattle.app_machine.specs.Lookups.{class_named, above_within, directly_above}
 use Rattle.app_model.specs.Above.{is_listed_below, any_listed_below, has_below}
 
 pub below_parts : (c : Class) (lists : Lists) (type : Name) → has_below c lists type ≡ (any_listed_below lists (option_to_list c.superclass) type || any_listed_below lists c.interfaces type)

@@ -2,15 +2,15 @@
 use Rattle.std.proofs.Common.{◌≡◌, ℕ, zero, suc, Bool, true, ◌||◌, [], ◌∷◌, length, Option, Some, None, refl, sym, ◌∙◌, ap, subst, inl, inr}
 use Rattle.std.specs.Prelude.{IsTrue, ◌↔◌, flat_map}
 use Rattle.std.specs.List.{list_any}
-use Rattle.app_model.specs.declared.app.App.{App}
-use Rattle.app_model.specs.declared.app.Class.{Class}
-use Rattle.app_model.specs.declared.lists.Lists.{Lists}
-use Rattle.app_model.specs.Members.{In}
-use Rattle.app_model.specs.Names.{Name, same_name, object_class}
-use Rattle.app_model.specs.Lookups.{class_among, class_named, above_within, all_above, directly_above}
-use Rattle.app_model.specs.Summaries.{listed_above, Below}
-use Rattle.app_model.specs.Summaries.Below.{is_same, is_object, is_through, is_listed}
-use Rattle.app_model.specs.Sound.{IsAbove}
+use Rattle.app_machine.specs.declared.app.App.{App}
+use Rattle.app_machine.specs.declared.app.Class.{Class}
+use Rattle.app_machine.specs.declared.lists.Lists.{Lists}
+use Rattle.vet_base.specs.Members.{In}
+use Rattle.app_machine.specs.Names.{Name, same_name, object_class}
+use Rattle.app_machine.specs.Lookups.{class_among, class_named, above_within, all_above, directly_above}
+use Rattle.app_machine.specs.Summaries.{listed_above, Below}
+use Rattle.app_machine.specs.Summaries.Below.{is_same, is_object, is_through, is_listed}
+use Rattle.app_machine.specs.Sound.{IsAbove}
 use Rattle.app_model.specs.Above.{is_among, is_listed_below, any_listed_below, has_below, is_below}
 use Rattle.app_model.proofs.NameOrder.{same_equal, same_itself}
 use Rattle.app_model.proofs.Elements.{either, first_holds, or_second, in_flat, from_flat, passes_if, one_passes}

@@ -3,10 +3,11 @@ use Rattle.std.proofs.Common.{refl, ◌≡◌, ℕ, ◌<◌, ◌≤◌, List, le
 use Rattle.std.specs.declared.cmp.Ordering.TheVariants.{Equal}
 use Rattle.std.specs.List.Sorted.{IsBinarySearchResult}
 use Rattle.std.proofs.lemmas.Cmp.{nat_list_cmp_total}
-use Rattle.app_model.specs.declared.app.Class.{Class}
-use Rattle.app_model.specs.Names.{Name, same_name}
-use Rattle.app_model.specs.Lookups.{class_among}
-use Rattle.app_model.specs.Sound.{Ascends, class_order, name_order}
+use Rattle.app_machine.specs.declared.app.Class.{Class}
+use Rattle.app_machine.specs.Names.{Name, same_name}
+use Rattle.app_machine.specs.Lookups.{class_among}
+use Rattle.vet_base.specs.Ascending.{Ascends}
+use Rattle.app_machine.specs.Sound.{class_order, name_order}
 use Rattle.std.specs.Prelude.{slice_get}
 use Rattle.std.proofs.lemmas.Option.{slice_get_read}
 use Rattle.app_model.proofs.Halving.{element_at, found_at, found_nowhere}

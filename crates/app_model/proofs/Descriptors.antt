@@ -6,9 +6,9 @@ use Rattle.std.specs.Ordering.{nat_cmp, ordering_then}
 use Rattle.std.specs.Prelude.{◌==◌}
 use Rattle.std.proofs.lemmas.Bool.Decides.{nat_tests}
 use Rattle.std.proofs.lemmas.Cmp.{nat_list_cmp_total, tied_itself}
-use Rattle.app_model.specs.declared.call.Proto.{Proto}
-use Rattle.app_model.specs.Names.{Name, joined, descriptor_of}
-use Rattle.app_model.specs.Sound.{name_order}
+use Rattle.app_machine.specs.declared.call.Proto.{Proto}
+use Rattle.app_machine.specs.Names.{Name, joined, descriptor_of}
+use Rattle.app_machine.specs.Sound.{name_order}
 use Rattle.app_model.specs.DescriptorText.{BeginAlike, Differ}
 use Rattle.app_model.proofs.NameOrder.{same_equal, tied_same}
 

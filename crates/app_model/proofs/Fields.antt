@@ -3,14 +3,15 @@ use Rattle.std.proofs.Common.{◌≡◌, ℕ, zero, suc, ◌+◌, ◌<◌, ◌�
 use Rattle.std.specs.Option.{option_map}
 use Rattle.std.specs.declared.cmp.Ordering.TheVariants.{Equal}
 use Rattle.std.specs.List.Sorted.{IsBinarySearchResult}
-use Rattle.app_model.specs.declared.app.Key.{Key}
-use Rattle.app_model.specs.declared.app.Key.TheVariants.{Elem, Field}
-use Rattle.app_model.specs.declared.app.App.{App}
-use Rattle.app_model.specs.declared.app.Class.{Class}
-use Rattle.app_model.specs.Members.{first_index, first_given}
-use Rattle.app_model.specs.Names.{Name, same_name}
-use Rattle.app_model.specs.Lookups.{is_field, up, instance_key, elem_key}
-use Rattle.app_model.specs.Sound.{Ascends, AreKeys, field_order, name_order}
+use Rattle.app_machine.specs.declared.app.Key.{Key}
+use Rattle.app_machine.specs.declared.app.Key.TheVariants.{Elem, Field}
+use Rattle.app_machine.specs.declared.app.App.{App}
+use Rattle.app_machine.specs.declared.app.Class.{Class}
+use Rattle.vet_base.specs.Members.{first_index, first_given}
+use Rattle.app_machine.specs.Names.{Name, same_name}
+use Rattle.app_machine.specs.Lookups.{is_field, up, instance_key, elem_key}
+use Rattle.vet_base.specs.Ascending.{Ascends}
+use Rattle.app_machine.specs.Sound.{AreKeys, field_order, name_order}
 use Rattle.app_model.specs.Search.{field_key}
 use Rattle.app_model.specs.Upward.{field_of}
 use Rattle.app_model.proofs.Halving.{element_at, found_at, found_nowhere}

@@ -3,7 +3,7 @@ use Rattle.std.proofs.Common.{◌≡◌, ℕ, suc, ◌+◌, ◌<◌, ◌≤◌, 
 use Rattle.std.specs.Prelude.{find, flat_map}
 use Rattle.std.specs.Option.{option_map}
 use Rattle.std.proofs.lemmas.List.{drop_all}
-use Rattle.app_model.specs.Members.{first_given, first_index}
+use Rattle.vet_base.specs.Members.{first_given, first_index}
 
 -- the elements before i fail the test
 pub record NoneBefore {A : Type 0} (test : A → Bool) (xs : List A) (i : ℕ) : Type 0 where

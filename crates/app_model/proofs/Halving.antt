@@ -9,8 +9,8 @@ use Rattle.std.specs.Cmp.{IsTotalOrder}
 use Rattle.std.specs.List.Sorted.{IsBinarySearchResult, IsNonDecreasingBy}
 use Rattle.std.proofs.lemmas.Bool.{cases_lt}
 use Rattle.std.proofs.lemmas.Cmp.{alike_right}
-use Rattle.app_model.specs.Members.{first_index}
-use Rattle.app_model.specs.Sound.{Ascends}
+use Rattle.vet_base.specs.Members.{first_index}
+use Rattle.vet_base.specs.Ascending.{Ascends}
 
 module _ {A : Type 0} (test : A → Bool) where
   pub first_is : (xs : List A) (i : ℕ) (d : A) → i < length xs → test (get_or xs i d) ≡ true → ((j : ℕ) → j < i → test (get_or xs j d) ≡ false) →

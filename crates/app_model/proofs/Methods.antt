@@ -6,11 +6,12 @@ use Rattle.std.specs.Ordering.{ordering_then}
 use Rattle.std.specs.Cmp.{IsTotalOrder, then_total, on_total}
 use Rattle.std.specs.List.Sorted.{IsBinarySearchResult}
 use Rattle.std.proofs.lemmas.Cmp.{nat_list_cmp_total, tied_itself}
-use Rattle.app_model.specs.declared.call.Proto.{Proto}
-use Rattle.app_model.specs.declared.method.Method.{Method}
-use Rattle.app_model.specs.Members.{first_index}
-use Rattle.app_model.specs.Names.{Name, same_name, same_names, same_proto, descriptor_of}
-use Rattle.app_model.specs.Sound.{Ascends, method_order, field_order, name_order}
+use Rattle.app_machine.specs.declared.call.Proto.{Proto}
+use Rattle.app_machine.specs.declared.method.Method.{Method}
+use Rattle.vet_base.specs.Members.{first_index}
+use Rattle.app_machine.specs.Names.{Name, same_name, same_names, same_proto, descriptor_of}
+use Rattle.vet_base.specs.Ascending.{Ascends}
+use Rattle.app_machine.specs.Sound.{method_order, field_order, name_order}
 use Rattle.app_model.specs.Search.{method_key}
 use Rattle.app_model.proofs.Halving.{element_at, found_at, found_none, found_nowhere}
 use Rattle.app_model.proofs.NameOrder.{same_tie, tied_same, same_equal, names_equal}

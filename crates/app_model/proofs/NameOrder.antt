@@ -4,8 +4,8 @@ use Rattle.std.specs.declared.cmp.Ordering.{Ordering}
 use Rattle.std.specs.declared.cmp.Ordering.TheVariants.{Less, Equal, Greater}
 use Rattle.std.specs.Ordering.{is_eq}
 use Rattle.std.specs.Cmp.Lexicographic.{texts_ties, bytes_decides, pointwise_decides}
-use Rattle.app_model.specs.Names.{Name, same_name, same_names}
-use Rattle.app_model.specs.Sound.{name_order}
+use Rattle.app_machine.specs.Names.{Name, same_name, same_names}
+use Rattle.app_machine.specs.Sound.{name_order}
 
 ties_if : (o : Ordering) → is_eq o ≡ true → o ≡ Equal
 ties_if Less e = cc

@@ -2,13 +2,13 @@
 use Rattle.std.proofs.Common.{◌≡◌, ℕ, zero, suc, ◌+◌, ◌<◌, ◌≤◌, Bool, true, false, if◌then◌else◌, List, [], ◌∷◌, map, length, Option, Some, None, refl, sym, ◌∙◌, ap, subst, ◌⊎◌, inl, inr, arith}
 use Rattle.std.specs.Prelude.{flat_map}
 use Rattle.std.proofs.lemmas.List.{length-map}
-use Rattle.app_model.specs.declared.app.App.{App}
-use Rattle.app_model.specs.declared.app.Class.{Class}
-use Rattle.app_model.specs.Members.{In}
-use Rattle.app_model.specs.Names.{Name, same_name}
-use Rattle.app_model.specs.Lookups.{class_among, above_within, all_above, directly_above}
-use Rattle.app_model.specs.Sound.{IsAbove}
-use Rattle.app_model.specs.Sound.IsAbove.{directly, beyond}
+use Rattle.app_machine.specs.declared.app.App.{App}
+use Rattle.app_machine.specs.declared.app.Class.{Class}
+use Rattle.vet_base.specs.Members.{In}
+use Rattle.app_machine.specs.Names.{Name, same_name}
+use Rattle.app_machine.specs.Lookups.{class_among, above_within, all_above, directly_above}
+use Rattle.app_machine.specs.Sound.{IsAbove}
+use Rattle.app_machine.specs.Sound.IsAbove.{directly, beyond}
 use Rattle.app_model.proofs.NameOrder.{same_equal}
 use Rattle.app_model.proofs.Elements.{in_flat, from_flat, in_map, Apart, no_more}
 

@@ -3,12 +3,12 @@ use Rattle.std.proofs.Common.{◌≡◌, ℕ, zero, suc, ◌+◌, ◌<◌, ◌�
 use Rattle.std.specs.Prelude.{◌==◌, ◌&&◌, not, slice_get, flat_map, option_to_list}
 use Rattle.std.specs.List.{list_any}
 use Rattle.std.proofs.lemmas.Bool.{cases_eq, ne_eqb}
-use Rattle.app_model.specs.declared.app.App.{App}
-use Rattle.app_model.specs.declared.app.Class.{Class}
-use Rattle.app_model.specs.Members.{In}
-use Rattle.app_model.specs.Names.{Name}
-use Rattle.app_model.specs.Lookups.{class_among, class_named, above_within, all_above, directly_above}
-use Rattle.app_model.specs.Sound.{IsAbove}
+use Rattle.app_machine.specs.declared.app.App.{App}
+use Rattle.app_machine.specs.declared.app.Class.{Class}
+use Rattle.vet_base.specs.Members.{In}
+use Rattle.app_machine.specs.Names.{Name}
+use Rattle.app_machine.specs.Lookups.{class_among, class_named, above_within, all_above, directly_above}
+use Rattle.app_machine.specs.Sound.{IsAbove}
 use Rattle.app_model.specs.Met.{Settled, IsNumbered, Adds}
 use Rattle.app_model.proofs.Elements.{in_front, in_back, in_either, in_flat, from_flat, passes_if, one_passes}
 use Rattle.std.proofs.lemmas.Option.{same_Some, slice_get_within, slice_get_read}

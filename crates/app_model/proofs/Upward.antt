@@ -1,10 +1,10 @@
 -- The first that classes give from one upward along superclasses, as a loop finds it.
 use Rattle.std.proofs.Common.{◌≡◌, ℕ, zero, suc, ◌+◌, ◌-◌, ◌<◌, ◌≤◌, List, [], ◌∷◌, length, Option, Some, None, refl, ◌∙◌, ap, arith}
-use Rattle.app_model.specs.declared.app.App.{App}
-use Rattle.app_model.specs.declared.app.Class.{Class}
-use Rattle.app_model.specs.Members.{first_given}
-use Rattle.app_model.specs.Names.{Name}
-use Rattle.app_model.specs.Lookups.{class_among, class_named, up_within, up}
+use Rattle.app_machine.specs.declared.app.App.{App}
+use Rattle.app_machine.specs.declared.app.Class.{Class}
+use Rattle.vet_base.specs.Members.{first_given}
+use Rattle.app_machine.specs.Names.{Name}
+use Rattle.app_machine.specs.Lookups.{class_among, class_named, up_within, up}
 
 -- what the classes give upward from start is what they give upward from now, after so many steps
 pub record Onward {B : Type 0} (f : Class → Option B) (app : App) (start : Name) (now : Option Name) (steps : ℕ) : Type 0 where

@@ -1,15 +1,15 @@
 -- What is asked of the app classes and interfaces above a class.
 use Rattle.std.specs.Prelude.{Bool, ◌&&◌, ◌||◌, List}
 use Rattle.std.specs.List.{list_any}
-use Rattle.app_model.specs.declared.call.Proto.{Proto}
-use Rattle.app_model.specs.declared.app.App.{App}
-use Rattle.app_model.specs.declared.app.Class.{Class}
-use Rattle.app_model.specs.declared.lists.Lists.{Lists}
+use Rattle.app_machine.specs.declared.call.Proto.{Proto}
+use Rattle.app_machine.specs.declared.app.App.{App}
+use Rattle.app_machine.specs.declared.app.Class.{Class}
+use Rattle.app_machine.specs.declared.lists.Lists.{Lists}
 use Rattle.app_model.specs.declared.lookups.above.Quality.{Quality}
 use Rattle.app_model.specs.declared.lookups.above.Quality.TheVariants as quality
-use Rattle.app_model.specs.Names.{Name, same_name, same_proto, object_class}
-use Rattle.app_model.specs.Lookups.{directly_above, all_above}
-use Rattle.app_model.specs.Summaries.{listed_above}
+use Rattle.app_machine.specs.Names.{Name, same_name, same_proto, object_class}
+use Rattle.app_machine.specs.Lookups.{directly_above, all_above}
+use Rattle.app_machine.specs.Summaries.{listed_above}
 
 unfoldable pub is_among : List Name → Name → Bool
 is_among names name = list_any (λ other. same_name other name) names

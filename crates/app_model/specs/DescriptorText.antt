@@ -6,7 +6,7 @@ use Rattle.std.specs.Cmp.Lexicographic.{slice_cmp}
 use Rattle.app_model.specs.declared.lookups.descriptor.Later.{Later}
 use Rattle.app_model.specs.declared.lookups.descriptor.Later.TheVariants as later
 use Rattle.app_model.specs.declared.lookups.descriptor.Text.{Text}
-use Rattle.app_model.specs.Names.{Name, joined}
+use Rattle.app_machine.specs.Names.{Name, joined}
 
 -- the parts that are still to come
 abbrev pub later_parts : Later → List Name

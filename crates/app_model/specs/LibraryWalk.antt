@@ -1,21 +1,16 @@
 -- Words for the search for a row or a default on the walk of a class.
-use Rattle.std.specs.Prelude.{ℕ, ◌<◌, Bool, ◌&&◌, length, Option}
-use Rattle.app_model.specs.declared.call.Proto.{Proto}
-use Rattle.app_model.specs.declared.call.MethodRef.{MethodRef}
-use Rattle.app_model.specs.declared.summary.Summary.{Summary}
-use Rattle.app_model.specs.declared.lists.Lists.{Lists}
+use Rattle.std.specs.Prelude.{ℕ, Bool, ◌&&◌, Option}
+use Rattle.app_machine.specs.declared.call.Proto.{Proto}
+use Rattle.app_machine.specs.declared.call.MethodRef.{MethodRef}
+use Rattle.app_machine.specs.declared.summary.Summary.{Summary}
+use Rattle.app_machine.specs.declared.lists.Lists.{Lists}
 use Rattle.app_model.specs.declared.lookups.library.Wanted.{Wanted}
 use Rattle.app_model.specs.declared.lookups.library.Wanted.TheVariants as wanted
 use Rattle.app_model.specs.declared.lookups.library.SummaryView.{SummaryView}
 use Rattle.app_model.specs.declared.lookups.library.SummaryView.TheVariants as view
-use Rattle.app_model.specs.Members.{first_given}
-use Rattle.app_model.specs.Names.{Name, same_name, same_proto}
-use Rattle.app_model.specs.Summaries.{row_of, default_of, listed_above, default_summary, same_word}
-
--- the lists are short enough to be numbered
-pub record NumberedLists (lists : Lists) : Type 0 where
-  pub classes : length lists.classes < 4294967296
-  pub methods : length lists.methods < 4294967296
+use Rattle.vet_base.specs.Members.{first_given}
+use Rattle.app_machine.specs.Names.{Name, same_name, same_proto}
+use Rattle.app_machine.specs.Summaries.{row_of, default_of, listed_above, default_summary, same_word}
 
 -- what is found at a class itself
 abbrev pub found : Lists → Wanted → Name → Option ℕ

@@ -1,10 +1,10 @@
 -- What is added to the classes that a search has met, by their numbers: those that were seen, and those that wait for their turn.
 use Rattle.std.specs.Prelude.{◌≡◌, ◌⊎◌, ℕ, Bool, true, false, List, Some, slice_get}
-use Rattle.app_model.specs.declared.app.App.{App}
-use Rattle.app_model.specs.declared.app.Class.{Class}
-use Rattle.app_model.specs.Members.{In}
-use Rattle.app_model.specs.Names.{Name}
-use Rattle.app_model.specs.Lookups.{class_named}
+use Rattle.app_machine.specs.declared.app.App.{App}
+use Rattle.app_machine.specs.declared.app.Class.{Class}
+use Rattle.vet_base.specs.Members.{In}
+use Rattle.app_machine.specs.Names.{Name}
+use Rattle.app_machine.specs.Lookups.{class_named}
 
 -- the class of the name, where there is one, was seen
 abbrev pub Settled : App → (ℕ → Bool) → Name → Type 0

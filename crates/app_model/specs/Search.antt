@@ -1,9 +1,9 @@
 -- What lists of an app are ordered by.
 use Rattle.std.specs.Prelude.{[]}
-use Rattle.app_model.specs.declared.method.Method.{Method}
-use Rattle.app_model.specs.declared.app.Key.{Key}
-use Rattle.app_model.specs.declared.app.Key.TheVariants.{Elem, Field}
-use Rattle.app_model.specs.Names.{Name, descriptor_of}
+use Rattle.app_machine.specs.declared.method.Method.{Method}
+use Rattle.app_machine.specs.declared.app.Key.{Key}
+use Rattle.app_machine.specs.declared.app.Key.TheVariants.{Elem, Field}
+use Rattle.app_machine.specs.Names.{Name, descriptor_of}
 
 -- class, name and descriptor of a method
 abbrev pub method_key : Method → Name × Name × Name

@@ -1,13 +1,13 @@
 -- The search for a member from a class upward along superclasses.
 use Rattle.std.specs.Prelude.{ℕ, Option}
-use Rattle.app_model.specs.declared.app.App.{App}
-use Rattle.app_model.specs.declared.app.Class.{Class}
-use Rattle.app_model.specs.declared.app.Key.{Key}
+use Rattle.app_machine.specs.declared.app.App.{App}
+use Rattle.app_machine.specs.declared.app.Class.{Class}
+use Rattle.app_machine.specs.declared.app.Key.{Key}
 use Rattle.app_model.specs.declared.lookups.upward.Member.{Member}
 use Rattle.app_model.specs.declared.lookups.upward.Member.TheVariants as member
-use Rattle.app_model.specs.Members.{first_index}
-use Rattle.app_model.specs.Names.{Name}
-use Rattle.app_model.specs.Lookups.{method_of, method_with, is_field}
+use Rattle.vet_base.specs.Members.{first_index}
+use Rattle.app_machine.specs.Names.{Name}
+use Rattle.app_machine.specs.Lookups.{method_of, method_with, is_field}
 
 -- the number of the key of the field that the class itself defines
 abbrev pub field_of : App → Name → Name → Name → Option ℕ

@@ -1,26 +1,18 @@
-//! The linked app, the lists of the library, and the abstract machine that runs the app.
+//! The look-ups in a linked app and in the lists of the library, over the machine's definitions. They
+//! take no memory.
 //!
-//! The types of this crate are plain data: whoever makes them decides what they hold. The
-//! machine's definitions stand in `specs/`, one file a part of the machine.
+//! The types of app and lists are those of `app_machine`, and can be named from here.
 #![tactic(auto)]
 
-mod app;
-mod call;
-mod component;
-mod lists;
+mod answers;
 mod lookups;
-mod method;
-mod papers;
-mod summary;
 
-pub use app::{App, Class, Key};
-pub use call::{CallKind, MethodRef, Proto, Target};
-pub use component::{Component, EventRow, Kind};
-pub use lists::{Callback, FallbackWord, LibClass, Lists, SummaryId};
+pub use answers::{EventRow, Target};
+pub use app_machine::{
+    Act, App, CallKind, Callback, Class, Component, Declaration, FallbackWord, Gives, Key, Kind,
+    Layouts, LibClass, Lists, Manifest, Method, MethodRef, Proto, Step, Summary, SummaryId, Word,
+};
 pub use lookups::{
     SummaryView, below, body_named, event_rows, find_body, instance_key, library_key, summary_of,
     target,
 };
-pub use method::{Act, Method, Step};
-pub use papers::{Declaration, Layouts, Manifest, Word};
-pub use summary::{Gives, Summary};

@@ -3,8 +3,8 @@ use Rattle.std.proofs.Common.{◌≡◌, ℕ, ◌<◌, Bool, List, length}
 use Rattle.vet_base.specs.declared.key_id.KeyId.{KeyId}
 use Rattle.dalvik_formats.specs.declared.kind.Kind.{Kind}
 use Rattle.dalvik_formats.specs.declared.kind.Kind.TheVariants as kinds
-use Rattle.app_model.specs.Lookups.{is_static_call}
-use Rattle.app_model.specs.Sound.{KeyBelow, StaticBelow, TakesItsRegisters, taken}
+use Rattle.app_machine.specs.Lookups.{is_static_call}
+use Rattle.app_machine.specs.Sound.{AllBelow, keys_of, statics_of, TakesItsRegisters, taken}
 use Rattle.dex_code.specs.declared.insn.Insn.{Insn}
 use Rattle.dex_code.specs.declared.names.Named.{Named}
 use Rattle.dex_code.specs.declared.names.Named.TheVariants as named
@@ -25,12 +25,12 @@ NamesCall insn (named.Method at) = length (arguments_of insn) ≡ taken (is_stat
 NamesCall insn name = Unit {0}
 
 module _ (wide : Bool) (r : ℕ × ℕ × ℕ) (n : ℕ) where
-  plain_key : (kind : Kind) → 0 < n → KeyBelow (plain_act kind wide r) n
-  plain_key kinds.ArrayGet some = some
-  plain_key kinds.ArrayPut some = some
+  plain_key : (kind : Kind) → 0 < n → AllBelow n (keys_of (plain_act kind wide r))
+  plain_key kinds.ArrayGet some = (some, tt)
+  plain_key kinds.ArrayPut some = (some, tt)
   plain_key kind some = tt
 
-  plain_static : (kind : Kind) → StaticBelow (plain_act kind wide r) n
+  plain_static : (kind : Kind) → AllBelow n (statics_of (plain_act kind wide r))
   plain_static kinds.Move = tt
   plain_static kind = tt
 
@@ -38,12 +38,12 @@ module _ (wide : Bool) (r : ℕ × ℕ × ℕ) (n : ℕ) where
   plain_call kinds.Move = tt
   plain_call kind = tt
 
-  field_key : (kind : Kind) (key : KeyId) → key.0 < n → KeyBelow (field_act kind wide r key) n
-  field_key kinds.InstanceGet key lt = lt
-  field_key kinds.InstancePut key lt = lt
+  field_key : (kind : Kind) (key : KeyId) → key.0 < n → AllBelow n (keys_of (field_act kind wide r key))
+  field_key kinds.InstanceGet key lt = (lt, tt)
+  field_key kinds.InstancePut key lt = (lt, tt)
   field_key kind key lt = tt
 
-  field_static : (kind : Kind) (key : KeyId) → StaticBelow (field_act kind wide r key) n
+  field_static : (kind : Kind) (key : KeyId) → AllBelow n (statics_of (field_act kind wide r key))
   field_static kinds.InstanceGet key = tt
   field_static kind key = tt
 
@@ -51,24 +51,24 @@ module _ (wide : Bool) (r : ℕ × ℕ × ℕ) (n : ℕ) where
   field_call kinds.InstanceGet key = tt
   field_call kind key = tt
 
-  static_key : (kind : Kind) (g : ℕ) → KeyBelow (static_act kind wide r.0 g) n
+  static_key : (kind : Kind) (g : ℕ) → AllBelow n (keys_of (static_act kind wide r.0 g))
   static_key kinds.StaticGet g = tt
   static_key kind g = tt
 
-  static_static : (kind : Kind) (g : ℕ) → g < n → StaticBelow (static_act kind wide r.0 g) n
-  static_static kinds.StaticGet g lt = lt
-  static_static kinds.StaticPut g lt = lt
+  static_static : (kind : Kind) (g : ℕ) → g < n → AllBelow n (statics_of (static_act kind wide r.0 g))
+  static_static kinds.StaticGet g lt = (lt, tt)
+  static_static kinds.StaticPut g lt = (lt, tt)
   static_static kind g lt = tt
 
   static_call : (kind : Kind) (g : ℕ) → TakesItsRegisters (static_act kind wide r.0 g)
   static_call kinds.StaticGet g = tt
   static_call kind g = tt
 
-  class_key : (kind : Kind) (elements class : List ℕ) → KeyBelow (class_act kind r.0 elements class) n
+  class_key : (kind : Kind) (elements class : List ℕ) → AllBelow n (keys_of (class_act kind r.0 elements class))
   class_key kinds.NewInstance elements class = tt
   class_key kind elements class = tt
 
-  class_static : (kind : Kind) (elements class : List ℕ) → StaticBelow (class_act kind r.0 elements class) n
+  class_static : (kind : Kind) (elements class : List ℕ) → AllBelow n (statics_of (class_act kind r.0 elements class))
   class_static kinds.NewInstance elements class = tt
   class_static kind elements class = tt
 
@@ -76,7 +76,7 @@ module _ (wide : Bool) (r : ℕ × ℕ × ℕ) (n : ℕ) where
   class_call kinds.NewInstance elements class = tt
   class_call kind elements class = tt
 
-pub key_below : (insn : Insn) (name : Named) (n : ℕ) → 0 < n → NamesKey name n → KeyBelow (act_of insn name) n
+pub key_below : (insn : Insn) (name : Named) (n : ℕ) → 0 < n → NamesKey name n → AllBelow n (keys_of (act_of insn name))
 unfolding act_of
 key_below insn named.Nothing n some h = plain_key (wide_with (opcode_of insn)) (operands_of insn) n (kind_of insn) some
 key_below insn (named.Class class) n some h = class_key (wide_with (opcode_of insn)) (operands_of insn) n (kind_of insn) (arguments_of insn) class
@@ -84,7 +84,7 @@ key_below insn (named.Method at) n some h = tt
 key_below insn (named.Key key) n some h = field_key (wide_with (opcode_of insn)) (operands_of insn) n (kind_of insn) key h
 key_below insn (named.Static g) n some h = static_key (wide_with (opcode_of insn)) (operands_of insn) n (kind_of insn) g
 
-pub static_below : (insn : Insn) (name : Named) (n : ℕ) → NamesStatic name n → StaticBelow (act_of insn name) n
+pub static_below : (insn : Insn) (name : Named) (n : ℕ) → NamesStatic name n → AllBelow n (statics_of (act_of insn name))
 unfolding act_of
 static_below insn named.Nothing n h = plain_static (wide_with (opcode_of insn)) (operands_of insn) n (kind_of insn)
 static_below insn (named.Class class) n h = class_static (wide_with (opcode_of insn)) (operands_of insn) n (kind_of insn) (arguments_of insn) class

@@ -1,7 +1,7 @@
 -- Tests that hold together, and of each element of a list.
 use Rattle.std.proofs.Common.{◌≡◌, ℕ, zero, suc, Bool, true, false, ◌&&◌, List, [], ◌∷◌, map, slice_index_or, IsTrue, refl, sym, subst, inl, inr}
 use Rattle.std.specs.List.{list_all}
-use Rattle.app_model.specs.Members.{In}
+use Rattle.vet_base.specs.Members.{In}
 
 pub and_both : (a b : Bool) → IsTrue (a && b) → IsTrue a × IsTrue b
 and_both true b h = (refl, h)

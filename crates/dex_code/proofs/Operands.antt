@@ -11,8 +11,8 @@ use Rattle.dalvik_formats.specs.declared.opcodes.TheConstants.{OPCODES}
 use Rattle.dalvik_formats.specs.declared.pairs.Pairs.{Pairs}
 use Rattle.dalvik_formats.specs.declared.pairs.Pairs.TheVariants as pairs
 use Rattle.dalvik_formats.specs.Layouts.{row_of, layout_of, pairing_of, group_of}
-use Rattle.app_model.specs.Members.{In}
-use Rattle.app_model.specs.Sound.{registers_of}
+use Rattle.vet_base.specs.Members.{In}
+use Rattle.app_machine.specs.Sound.{registers_of}
 use Rattle.app_model.proofs.Elements.{in_either}
 use Rattle.dex_code.specs.declared.insn.Insn.{Insn}
 use Rattle.dex_code.specs.declared.insn.Insn.TheVariants.{F12x, F11n, F11x, F22x, F21t, F21s, F21h, F21c, F23x, F22b, F22t, F22s, F22c, F32x, F31t, F31i, F31c, F35c, F3rc, F51l}

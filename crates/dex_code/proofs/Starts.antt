@@ -3,7 +3,7 @@ use Rattle.std.proofs.Common.{◌≡◌, ℕ, ◌+◌, ℤ, Bool, true, false, c
 use Rattle.std.proofs.lemmas.Bool.Decides.{nat_tests}
 use Rattle.dalvik_formats.specs.Layouts.{group_of, may_go_on}
 use Rattle.dex_reader.specs.declared.dex.RawTry.{RawTry}
-use Rattle.app_model.specs.Members.{In}
+use Rattle.vet_base.specs.Members.{In}
 use Rattle.app_model.proofs.Elements.{in_either}
 use Rattle.dex_code.specs.declared.insn.Insn.{Insn}
 use Rattle.dex_code.specs.declared.insn.Insn.TheVariants.{F10t, F20t, F21t, F22t, F30t, F31t}

@@ -7,10 +7,10 @@ use Rattle.dalvik_formats.specs.declared.kind.Kind.TheVariants as kinds
 use Rattle.dalvik_formats.specs.declared.pairs.Pairs.{Pairs}
 use Rattle.dalvik_formats.specs.declared.pairs.Pairs.TheVariants as pairs
 use Rattle.dalvik_formats.specs.Layouts.{pairing_of}
-use Rattle.app_model.specs.declared.call.CallKind.{CallKind}
-use Rattle.app_model.specs.declared.call.CallKind.TheVariants as calls
-use Rattle.app_model.specs.declared.method.Act.{Act}
-use Rattle.app_model.specs.declared.method.Act.TheVariants.{Skip, Join, Move, Blank, New, Fill, Get, Put, GetStatic, PutStatic, Call, Return, Throw, TakeResult, TakeException, Go}
+use Rattle.app_machine.specs.declared.call.CallKind.{CallKind}
+use Rattle.app_machine.specs.declared.call.CallKind.TheVariants as calls
+use Rattle.app_machine.specs.declared.method.Act.{Act}
+use Rattle.app_machine.specs.declared.method.Act.TheVariants.{Skip, Join, Move, Blank, New, Fill, Get, Put, GetStatic, PutStatic, Call, Return, Throw, TakeResult, TakeException, Go}
 use Rattle.dex_code.specs.declared.insn.Insn.{Insn}
 use Rattle.dex_code.specs.declared.insn.Insn.TheVariants.{F10x, F12x, F11n, F11x, F10t, F20t, F22x, F21t, F21s, F21h, F21c, F23x, F22b, F22t, F22s, F22c, F32x, F30t, F31t, F31i, F31c, F35c, F3rc, F51l, Packed, Sparse, Filled}
 use Rattle.dex_code.specs.declared.names.Named.{Named}

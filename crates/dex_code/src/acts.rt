@@ -4,7 +4,7 @@ ghost use Rattle.dex_code.specs.Acts.{act_of, act_with, arguments_of, begins_wid
 
 use crate::insn::Insn;
 use crate::names::Named;
-use app_model::{Act, CallKind};
+use app_machine::{Act, CallKind};
 use dalvik_formats::{Kind, Pairs, pairs_of};
 use std::alloc::{AllocError, Global};
 use vet_base::{KeyId, Memory, Name, Seq};

@@ -2,7 +2,7 @@ ghost use Rattle.std.specs.Prelude.{◌≡◌};
 ghost use Rattle.dex_code.specs.Acts.{index_of, naming_of, naming_with};
 
 use crate::insn::Insn;
-use app_model::MethodRef;
+use app_machine::MethodRef;
 use dalvik_formats::Kind;
 use vet_base::{KeyId, Name};
 

@@ -1,7 +1,7 @@
 ghost use Rattle.std.specs.Prelude.{◌≡◌, ◌<◌, [], length, IfOk};
 
 use super::*;
-use app_model::Act;
+use app_machine::Act;
 use dex_reader::{RawCode, RawTry};
 use std::alloc::{AllocError, Global};
 use std::test::*;

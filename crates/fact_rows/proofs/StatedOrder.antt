@@ -7,8 +7,8 @@ use Rattle.vet_base.specs.declared.key_id.KeyId.{KeyId}
 use Rattle.vet_base.specs.contracts.key_id.KeyIdOrd.TheImpl.{ghosts as key_order}
 use Rattle.access_path.specs.Order.{path_cmp, numbers_of_path, ComparesAs}
 use Rattle.access_path.proofs.PathOrder.{then_assoc, stated_path}
-use Rattle.app_model.specs.declared.lists.SummaryId.TheVariants as use_of
-use Rattle.app_model.specs.contracts.lists.SummaryIdOrd.TheImpl.{ghosts as use_order}
+use Rattle.app_machine.specs.declared.lists.SummaryId.TheVariants as use_of
+use Rattle.app_machine.specs.contracts.lists.SummaryIdOrd.TheImpl.{ghosts as use_order}
 use Rattle.fact_rows.specs.declared.context.Ctx.TheVariants as ctx
 use Rattle.fact_rows.specs.declared.site.Site.TheVariants.{At, Param, Component, Shared}
 use Rattle.fact_rows.specs.declared.row.Row.TheVariants.{Reached, Points, Taint, Cell, Back, StaticPoints, StaticTaint, Calls, CalledBy, Effect, MethodEffect, ExitPoints, ExitTaint, Live, CompTaint, Handed, HandedTaint, Arrive, Unknown, Uses}

@@ -1,12 +1,12 @@
 -- What runs in the context of an event.
 use Rattle.std.specs.Prelude.{ℕ, zero, suc, List, [], Option, Some, None, slice_get}
-use Rattle.app_model.specs.declared.app.App.{App}
-use Rattle.app_model.specs.declared.component.Component.{Component}
-use Rattle.app_model.specs.declared.lists.Callback.{Callback}
-use Rattle.app_model.specs.declared.lists.Lists.{Lists}
-use Rattle.app_model.specs.Names.{Name, click_descriptor}
-use Rattle.app_model.specs.Lookups.{find_body, body_named}
-use Rattle.app_model.specs.LifeEvents.{LifeEvent, life_events}
+use Rattle.app_machine.specs.declared.app.App.{App}
+use Rattle.app_machine.specs.declared.component.Component.{Component}
+use Rattle.app_machine.specs.declared.lists.Callback.{Callback}
+use Rattle.app_machine.specs.declared.lists.Lists.{Lists}
+use Rattle.app_machine.specs.Names.{Name, click_descriptor}
+use Rattle.app_machine.specs.Lookups.{find_body, body_named}
+use Rattle.app_machine.specs.LifeEvents.{LifeEvent, life_events}
 use Rattle.fact_rows.specs.declared.context.Ctx.{Ctx}
 use Rattle.fact_rows.specs.declared.context.Ctx.TheVariants.{Row, Callback as CallbackOf, Click, Handed, Init, Call}
 

@@ -6,9 +6,9 @@ use Rattle.std.proofs.lemmas.Map.Lookups.{CmpEqualImpliesEq, exact_unsigned}
 use Rattle.vet_base.specs.declared.key_id.KeyId.{KeyId}
 use Rattle.access_path.specs.declared.path.Path.{Path}
 use Rattle.access_path.proofs.PathOrder.{both_equal, apart, exact_key, exact_path}
-use Rattle.app_model.specs.declared.lists.SummaryId.{SummaryId}
-use Rattle.app_model.specs.declared.lists.SummaryId.TheVariants as use_of
-use Rattle.app_model.specs.contracts.lists.SummaryIdOrd.TheImpl.{ghosts as use_order}
+use Rattle.app_machine.specs.declared.lists.SummaryId.{SummaryId}
+use Rattle.app_machine.specs.declared.lists.SummaryId.TheVariants as use_of
+use Rattle.app_machine.specs.contracts.lists.SummaryIdOrd.TheImpl.{ghosts as use_order}
 use Rattle.fact_rows.specs.declared.context.Ctx.{Ctx}
 use Rattle.fact_rows.specs.declared.context.Ctx.TheVariants as ctx
 use Rattle.fact_rows.specs.declared.context.Activation.{Activation}

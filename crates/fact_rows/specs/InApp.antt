@@ -3,24 +3,24 @@ use Rattle.std.specs.Prelude.{◌≡◌, ◌<◌, ◌+◌, ℕ, IsTrue, List, �
 use Rattle.vet_base.specs.declared.key_id.KeyId.{KeyId}
 use Rattle.access_path.specs.declared.path.Path.{Path}
 use Rattle.access_path.specs.Paths.{keys_of}
-use Rattle.app_model.specs.declared.call.MethodRef.{MethodRef}
-use Rattle.app_model.specs.declared.call.CallKind.{CallKind}
-use Rattle.app_model.specs.declared.method.Act.TheVariants as act
-use Rattle.app_model.specs.declared.method.Method.{Method}
-use Rattle.app_model.specs.declared.method.Step.{Step}
-use Rattle.app_model.specs.declared.component.Component.{Component}
-use Rattle.app_model.specs.declared.lists.LibClass.{LibClass}
-use Rattle.app_model.specs.declared.lists.FallbackWord.{FallbackWord}
-use Rattle.app_model.specs.declared.lists.Lists.{Lists}
-use Rattle.app_model.specs.declared.lists.SummaryId.{SummaryId}
-use Rattle.app_model.specs.declared.lists.SummaryId.TheVariants as summaries
-use Rattle.app_model.specs.declared.app.App.{App}
-use Rattle.app_model.specs.Members.{In, IsAt}
-use Rattle.app_model.specs.Names.{Name, is_reference}
-use Rattle.app_model.specs.Lookups.{StepAt, ActAt, IsNative}
-use Rattle.app_model.specs.State.{result_register, exception_register}
-use Rattle.app_model.specs.LifeEvents.{LifeEvent, life_events}
-use Rattle.app_model.specs.Events.{LifeEventAt, CallbackAt, ClickAt, InitialiserAt}
+use Rattle.app_machine.specs.declared.call.MethodRef.{MethodRef}
+use Rattle.app_machine.specs.declared.call.CallKind.{CallKind}
+use Rattle.app_machine.specs.declared.method.Act.TheVariants as act
+use Rattle.app_machine.specs.declared.method.Method.{Method}
+use Rattle.app_machine.specs.declared.method.Step.{Step}
+use Rattle.app_machine.specs.declared.component.Component.{Component}
+use Rattle.app_machine.specs.declared.lists.LibClass.{LibClass}
+use Rattle.app_machine.specs.declared.lists.FallbackWord.{FallbackWord}
+use Rattle.app_machine.specs.declared.lists.Lists.{Lists}
+use Rattle.app_machine.specs.declared.lists.SummaryId.{SummaryId}
+use Rattle.app_machine.specs.declared.lists.SummaryId.TheVariants as summaries
+use Rattle.app_machine.specs.declared.app.App.{App}
+use Rattle.vet_base.specs.Members.{In, IsAt}
+use Rattle.app_machine.specs.Names.{Name, is_reference}
+use Rattle.app_machine.specs.Lookups.{StepAt, ActAt, IsNative}
+use Rattle.app_machine.specs.State.{result_register, exception_register}
+use Rattle.app_machine.specs.LifeEvents.{LifeEvent, life_events}
+use Rattle.app_machine.specs.Events.{LifeEventAt, CallbackAt, ClickAt, InitialiserAt}
 use Rattle.fact_rows.specs.declared.context.Ctx.{Ctx}
 use Rattle.fact_rows.specs.declared.context.Ctx.TheVariants as ctx
 use Rattle.fact_rows.specs.declared.context.Activation.{Activation}

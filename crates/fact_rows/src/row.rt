@@ -2,7 +2,7 @@ ghost use Rattle.fact_rows.specs.ExactOrder.{exact_row};
 
 use crate::{Activation, Node, Site};
 use access_path::Path;
-use app_model::SummaryId;
+use app_machine::SummaryId;
 use sorted_table::Exact;
 use vet_base::KeyId;
 

@@ -7,18 +7,18 @@ use Rattle.vet_base.specs.declared.key_id.KeyId.{KeyId}
 use Rattle.access_path.specs.declared.path.Path.{Path}
 use Rattle.access_path.specs.Paths.{cut, empty_path}
 use Rattle.access_path.proofs.PathLaws.{cut-covers, empty-covers}
-use Rattle.app_model.specs.declared.method.Method.{Method}
-use Rattle.app_model.specs.declared.method.Act.TheVariants.{Return}
-use Rattle.app_model.specs.declared.lists.Lists.{Lists}
-use Rattle.app_model.specs.declared.app.App.{App}
-use Rattle.app_model.specs.Members.{In}
-use Rattle.app_model.specs.Names.{Name, is_reference, is_wide}
-use Rattle.app_model.specs.Lookups.{elem_key, ActAt, HasCode}
-use Rattle.app_model.specs.Heap.{Value, Object, Reaches}
-use Rattle.app_model.specs.State.{World, Frame, object_at}
-use Rattle.app_model.specs.Calls.{returned, hand}
-use Rattle.app_model.specs.Events.{layout_from, layout, labels_at, labelled_element, Parameter, is_blank, is_fresh, is_given, Parameters, no_more, one_more, MayInitialise}
-use Rattle.app_model.specs.Run.{frame_of}
+use Rattle.app_machine.specs.declared.method.Method.{Method}
+use Rattle.app_machine.specs.declared.method.Act.TheVariants.{Return}
+use Rattle.app_machine.specs.declared.lists.Lists.{Lists}
+use Rattle.app_machine.specs.declared.app.App.{App}
+use Rattle.vet_base.specs.Members.{In}
+use Rattle.app_machine.specs.Names.{Name, is_reference, is_wide}
+use Rattle.app_machine.specs.Lookups.{elem_key, ActAt, HasCode}
+use Rattle.app_machine.specs.Heap.{Value, Object, Reaches}
+use Rattle.app_machine.specs.State.{World, Frame, object_at}
+use Rattle.app_machine.specs.Calls.{returned, hand}
+use Rattle.app_machine.specs.Events.{layout_from, layout, labels_at, labelled_element, Parameter, is_blank, is_fresh, is_given, Parameters, no_more, one_more, MayInitialise}
+use Rattle.app_machine.specs.Run.{frame_of}
 use Rattle.fact_rows.specs.declared.context.Ctx.{Ctx}
 use Rattle.fact_rows.specs.declared.context.Ctx.TheVariants as ctx
 use Rattle.fact_rows.specs.declared.context.Activation.{Activation}

@@ -1,13 +1,13 @@
 -- Each step, and so each run, keeps what is known: the theorem.
 use Rattle.std.proofs.Common.{List, refl}
 use Rattle.std.specs.Prelude.{Contains}
-use Rattle.app_model.specs.declared.lists.Lists.{Lists}
-use Rattle.app_model.specs.declared.app.App.{App}
-use Rattle.app_model.specs.Members.{In}
-use Rattle.app_model.specs.State.{Arrival, World, Frame}
-use Rattle.app_model.specs.Run.{Steps, goes_on, raises, throws, calls, calls_library, library_raises, returns, initialises, has_initialised, ends, passes, begins, begins_initialiser, Run, starts as run_starts, then}
-use Rattle.app_model.specs.State.{result_register}
-use Rattle.app_model.specs.Sound.{SoundApp}
+use Rattle.app_machine.specs.declared.lists.Lists.{Lists}
+use Rattle.app_machine.specs.declared.app.App.{App}
+use Rattle.vet_base.specs.Members.{In}
+use Rattle.app_machine.specs.State.{Arrival, World, Frame}
+use Rattle.app_machine.specs.Run.{Steps, goes_on, raises, throws, calls, calls_library, library_raises, returns, initialises, has_initialised, ends, passes, begins, begins_initialiser, Run, starts as run_starts, then}
+use Rattle.app_machine.specs.State.{result_register}
+use Rattle.app_machine.specs.Sound.{SoundApp}
 use Rattle.fact_rows.specs.declared.site.Site.TheVariants.{Shared}
 use Rattle.fact_rows.specs.declared.row.Row.{Row}
 use Rattle.flow_rules.specs.Rules.{Starts, Closed}

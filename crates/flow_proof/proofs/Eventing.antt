@@ -3,18 +3,18 @@ use Rattle.std.proofs.Common.{◌≡◌, ◌≢◌, ◌==◌, ℕ, zero, suc, Li
 use Rattle.std.proofs.lemmas.Bool.{eqb-true}
 use Rattle.std.specs.Prelude.{IsFalse, slice_get}
 use Rattle.access_path.specs.declared.path.Path.{Path}
-use Rattle.app_model.specs.declared.method.Method.{Method}
-use Rattle.app_model.specs.declared.component.Kind.{Kind}
-use Rattle.app_model.specs.declared.component.Kind.TheVariants.{Application, Activity, Service, Receiver}
-use Rattle.app_model.specs.declared.component.Component.{Component as ComponentOf}
-use Rattle.app_model.specs.declared.lists.Lists.{Lists}
-use Rattle.app_model.specs.declared.app.App.{App}
-use Rattle.app_model.specs.Members.{In, IsAt}
-use Rattle.app_model.specs.Names.{Name}
-use Rattle.app_model.specs.Heap.{ClassAt}
-use Rattle.app_model.specs.State.{World, Component_state, object_at, new_object}
-use Rattle.app_model.specs.LifeEvents.{LifeEvent}
-use Rattle.app_model.specs.Events.{IsApplication, MayBegin, set_component, after_event, LifeEventAt, CallbackAt, ClickAt, HandedAt, Comes, lives, is_born, calls_back, is_clicked, is_handed, MayInitialise}
+use Rattle.app_machine.specs.declared.method.Method.{Method}
+use Rattle.app_machine.specs.declared.component.Kind.{Kind}
+use Rattle.app_machine.specs.declared.component.Kind.TheVariants.{Application, Activity, Service, Receiver}
+use Rattle.app_machine.specs.declared.component.Component.{Component as ComponentOf}
+use Rattle.app_machine.specs.declared.lists.Lists.{Lists}
+use Rattle.app_machine.specs.declared.app.App.{App}
+use Rattle.vet_base.specs.Members.{In, IsAt}
+use Rattle.app_machine.specs.Names.{Name}
+use Rattle.app_machine.specs.Heap.{ClassAt}
+use Rattle.app_machine.specs.State.{World, Component_state, object_at, new_object}
+use Rattle.app_machine.specs.LifeEvents.{LifeEvent}
+use Rattle.app_machine.specs.Events.{IsApplication, MayBegin, set_component, after_event, LifeEventAt, CallbackAt, ClickAt, HandedAt, Comes, lives, is_born, calls_back, is_clicked, is_handed, MayInitialise}
 use Rattle.fact_rows.specs.declared.context.Ctx.{Ctx}
 use Rattle.fact_rows.specs.declared.context.Ctx.TheVariants as ctx
 use Rattle.fact_rows.specs.declared.site.Site.{Site}

@@ -2,20 +2,20 @@
 use Rattle.std.proofs.Common.{◌≡◌, ℕ, zero, suc, ◌+◌, ◌-◌, ◌<◌, ◌≤◌, List, [], ◌∷◌, Bool, true, false, cond, ◌&&◌, inl, inr, Option, Some, None, refl, ap, sym, ◌∙◌, subst, arith}
 use Rattle.std.proofs.lemmas.Bool.{leb-true, ltb-true}
 use Rattle.std.specs.Prelude.{slice_get, nat_le, nat_lt}
-use Rattle.app_model.specs.declared.call.MethodRef.{MethodRef}
-use Rattle.app_model.specs.declared.call.CallKind.{CallKind}
-use Rattle.app_model.specs.declared.method.Method.{Method}
-use Rattle.app_model.specs.declared.method.Act.TheVariants.{Throw, Return, Call}
-use Rattle.app_model.specs.declared.app.App.{App}
-use Rattle.app_model.specs.declared.lists.Lists.{Lists}
-use Rattle.app_model.specs.Members.{IsAt}
-use Rattle.app_model.specs.Names.{Name}
-use Rattle.app_model.specs.Lookups.{Target, Body, target, ActAt, Goes, Catches, HasCode, Initialises}
-use Rattle.app_model.specs.Heap.{Value, Object, blank}
-use Rattle.app_model.specs.State.{result_register, exception_register, write, value_or_blank, entered, World, Frame}
-use Rattle.app_model.specs.Calls.{Calls_to, by_name, by_nothing, by_class, arguments, Raises, is_caught, unwinds, ends_event, returned}
-use Rattle.app_model.specs.Run.{frame_of}
-use Rattle.app_model.specs.Sound.{SoundApp}
+use Rattle.app_machine.specs.declared.call.MethodRef.{MethodRef}
+use Rattle.app_machine.specs.declared.call.CallKind.{CallKind}
+use Rattle.app_machine.specs.declared.method.Method.{Method}
+use Rattle.app_machine.specs.declared.method.Act.TheVariants.{Throw, Return, Call}
+use Rattle.app_machine.specs.declared.app.App.{App}
+use Rattle.app_machine.specs.declared.lists.Lists.{Lists}
+use Rattle.vet_base.specs.Members.{IsAt}
+use Rattle.app_machine.specs.Names.{Name}
+use Rattle.app_machine.specs.Lookups.{Target, Body, target, ActAt, Goes, Catches, HasCode, Initialises}
+use Rattle.app_machine.specs.Heap.{Value, Object, blank}
+use Rattle.app_machine.specs.State.{result_register, exception_register, write, value_or_blank, entered, World, Frame}
+use Rattle.app_machine.specs.Calls.{Calls_to, by_name, by_nothing, by_class, arguments, Raises, is_caught, unwinds, ends_event, returned}
+use Rattle.app_machine.specs.Run.{frame_of}
+use Rattle.app_machine.specs.Sound.{SoundApp}
 use Rattle.fact_rows.specs.declared.context.Ctx.{Ctx}
 use Rattle.fact_rows.specs.declared.context.Activation.{Activation}
 use Rattle.fact_rows.specs.declared.site.Site.{Site}

@@ -1,10 +1,10 @@
 -- What the entries of a heap are after a put and beside a new object.
 use Rattle.std.proofs.Common.{◌≡◌, ◌==◌, ℕ, zero, suc, ◌<◌, List, [], ◌∷◌, ◌++◌, length, Bool, true, false, cond, ◌⊎◌, inl, inr, refl, ap, ◌∙◌, arith}
 use Rattle.vet_base.specs.declared.key_id.KeyId.{KeyId}
-use Rattle.app_model.specs.Members.{In}
-use Rattle.app_model.specs.Names.{Name}
-use Rattle.app_model.specs.Lookups.{elem_key}
-use Rattle.app_model.specs.Heap.{Value, Object, EntryAt, ClassAt, without, put_entry, put_at, add_all}
+use Rattle.vet_base.specs.Members.{In}
+use Rattle.app_machine.specs.Names.{Name}
+use Rattle.app_machine.specs.Lookups.{elem_key}
+use Rattle.app_machine.specs.Heap.{Value, Object, EntryAt, ClassAt, without, put_entry, put_at, add_all}
 
 abbrev pub Entry : Type 0
 Entry = KeyId × Value

@@ -4,13 +4,13 @@ use Rattle.std.specs.Prelude.{IsFalse}
 use Rattle.vet_base.specs.declared.key_id.KeyId.{KeyId}
 use Rattle.access_path.specs.declared.path.Path.{Path}
 use Rattle.access_path.specs.Paths.{cut}
-use Rattle.app_model.specs.declared.method.Act.{Act}
-use Rattle.app_model.specs.declared.app.App.{App}
-use Rattle.app_model.specs.declared.lists.Lists.{Lists}
-use Rattle.app_model.specs.Members.{In}
-use Rattle.app_model.specs.Lookups.{ActAt, Goes}
-use Rattle.app_model.specs.Heap.{Value, Object}
-use Rattle.app_model.specs.State.{exception_register, holds, write, write_all, World, Frame}
+use Rattle.app_machine.specs.declared.method.Act.{Act}
+use Rattle.app_machine.specs.declared.app.App.{App}
+use Rattle.app_machine.specs.declared.lists.Lists.{Lists}
+use Rattle.vet_base.specs.Members.{In}
+use Rattle.app_machine.specs.Lookups.{ActAt, Goes}
+use Rattle.app_machine.specs.Heap.{Value, Object}
+use Rattle.app_machine.specs.State.{exception_register, holds, write, write_all, World, Frame}
 use Rattle.fact_rows.specs.declared.context.Ctx.{Ctx}
 use Rattle.fact_rows.specs.declared.context.Activation.{Activation}
 use Rattle.fact_rows.specs.declared.context.Node.{Node}

@@ -5,22 +5,22 @@ use Rattle.vet_base.specs.declared.key_id.KeyId.{KeyId}
 use Rattle.access_path.specs.declared.path.Path.{Path}
 use Rattle.access_path.specs.Paths.{cut, empty_path}
 use Rattle.access_path.proofs.PathLaws.{cut-covers, empty-covers}
-use Rattle.app_model.specs.declared.call.MethodRef.{MethodRef}
-use Rattle.app_model.specs.declared.call.CallKind.{CallKind}
-use Rattle.app_model.specs.declared.method.Act.TheVariants.{Call}
-use Rattle.app_model.specs.declared.summary.Gives.{Gives}
-use Rattle.app_model.specs.declared.summary.Gives.TheVariants.{Blank, Same, Taken, Joined, Shared as SharedResult}
-use Rattle.app_model.specs.declared.summary.Summary.{Summary}
-use Rattle.app_model.specs.declared.lists.Lists.{Lists}
-use Rattle.app_model.specs.declared.lists.SummaryId.{SummaryId}
-use Rattle.app_model.specs.declared.app.App.{App}
-use Rattle.app_model.specs.Members.{In, IsAt}
-use Rattle.app_model.specs.Names.{Name, is_reference, is_void}
-use Rattle.app_model.specs.Lookups.{Target, Library, elem_key, ActAt, Goes}
-use Rattle.app_model.specs.Heap.{Value, Object, blank, labelled, EntryAt, Reaches, add_all, entry_of}
-use Rattle.app_model.specs.State.{result_register, shared_static, Arrival, Component_state, World, Frame, object_at, new_object}
-use Rattle.app_model.specs.Calls.{Calls_to, by_name, by_nothing, by_class}
-use Rattle.app_model.specs.Library.{positions, value_at, AtSink, Hands, result_shared, shared_named, shared_class, Makes_shared, all_there, is_there, is_made, Joins, joined_object, Results, of_void, as_blank, as_same, as_taken, as_shared, as_labels, as_object, Adds, by_put, by_store, by_copy, Library_call, Uses_row}
+use Rattle.app_machine.specs.declared.call.MethodRef.{MethodRef}
+use Rattle.app_machine.specs.declared.call.CallKind.{CallKind}
+use Rattle.app_machine.specs.declared.method.Act.TheVariants.{Call}
+use Rattle.app_machine.specs.declared.summary.Gives.{Gives}
+use Rattle.app_machine.specs.declared.summary.Gives.TheVariants.{Blank, Same, Taken, Joined, Shared as SharedResult}
+use Rattle.app_machine.specs.declared.summary.Summary.{Summary}
+use Rattle.app_machine.specs.declared.lists.Lists.{Lists}
+use Rattle.app_machine.specs.declared.lists.SummaryId.{SummaryId}
+use Rattle.app_machine.specs.declared.app.App.{App}
+use Rattle.vet_base.specs.Members.{In, IsAt}
+use Rattle.app_machine.specs.Names.{Name, is_reference, is_void}
+use Rattle.app_machine.specs.Lookups.{Target, Library, elem_key, ActAt, Goes}
+use Rattle.app_machine.specs.Heap.{Value, Object, blank, labelled, EntryAt, Reaches, add_all, entry_of}
+use Rattle.app_machine.specs.State.{result_register, shared_static, Arrival, Component_state, World, Frame, object_at, new_object}
+use Rattle.app_machine.specs.Calls.{Calls_to, by_name, by_nothing, by_class}
+use Rattle.app_machine.specs.Library.{positions, value_at, AtSink, Hands, result_shared, shared_named, shared_class, Makes_shared, all_there, is_there, is_made, Joins, joined_object, Results, of_void, as_blank, as_same, as_taken, as_shared, as_labels, as_object, Adds, by_put, by_store, by_copy, Library_call, Uses_row}
 use Rattle.fact_rows.specs.declared.context.Ctx.{Ctx}
 use Rattle.fact_rows.specs.declared.context.Activation.{Activation}
 use Rattle.fact_rows.specs.declared.site.Site.{Site}

@@ -3,20 +3,20 @@ use Rattle.std.proofs.Common.{◌≡◌, ◌==◌, ℕ, zero, suc, ◌<◌, List
 use Rattle.std.specs.Cmp.Lexicographic.{same_text}
 use Rattle.std.specs.Prelude.{slice_get, find, option_map, filter_map, is_some, IsTrue}
 use Rattle.std.specs.List.{cons_option}
-use Rattle.app_model.specs.declared.call.Proto.{Proto}
-use Rattle.app_model.specs.declared.call.MethodRef.{MethodRef}
-use Rattle.app_model.specs.declared.call.CallKind.{CallKind}
-use Rattle.app_model.specs.declared.call.CallKind.TheVariants.{Virtual, Super, Direct, Static, Interface}
-use Rattle.app_model.specs.declared.method.Method.{Method}
-use Rattle.app_model.specs.declared.method.Step.{Step}
-use Rattle.app_model.specs.declared.method.Act.{Act}
-use Rattle.app_model.specs.declared.method.Act.TheVariants.{PutStatic, Call}
-use Rattle.app_model.specs.declared.app.Class.{Class}
-use Rattle.app_model.specs.declared.app.App.{App}
-use Rattle.app_model.specs.Members.{In, IsAt, first_given, first_index}
-use Rattle.app_model.specs.Names.{Name, same_name, same_names, same_proto, widths, initialiser_name, initialiser_proto}
-use Rattle.app_model.specs.Lookups.{step_at, ActAt, Body, Library, Nothing, body_or, target, is_by_receiver, is_static_call, lists_bare, method_of, find_body, up, initialiser_of, initialisers_from, class_initialised, initialisers, Initialises}
-use Rattle.app_model.specs.Sound.{SoundStep, SoundMethod, SoundApp, StaticBelow, TakesItsRegisters, taken}
+use Rattle.app_machine.specs.declared.call.Proto.{Proto}
+use Rattle.app_machine.specs.declared.call.MethodRef.{MethodRef}
+use Rattle.app_machine.specs.declared.call.CallKind.{CallKind}
+use Rattle.app_machine.specs.declared.call.CallKind.TheVariants.{Virtual, Super, Direct, Static, Interface}
+use Rattle.app_machine.specs.declared.method.Method.{Method}
+use Rattle.app_machine.specs.declared.method.Step.{Step}
+use Rattle.app_machine.specs.declared.method.Act.{Act}
+use Rattle.app_machine.specs.declared.method.Act.TheVariants.{PutStatic, Call}
+use Rattle.app_machine.specs.declared.app.Class.{Class}
+use Rattle.app_machine.specs.declared.app.App.{App}
+use Rattle.vet_base.specs.Members.{In, IsAt, first_given, first_index}
+use Rattle.app_machine.specs.Names.{Name, same_name, same_names, same_proto, widths, initialiser_name, initialiser_proto}
+use Rattle.app_machine.specs.Lookups.{step_at, ActAt, Body, Library, Nothing, body_or, target, is_by_receiver, is_static_call, lists_bare, method_of, find_body, up, initialiser_of, initialisers_from, class_initialised, initialisers, Initialises}
+use Rattle.app_machine.specs.Sound.{SoundStep, SoundMethod, SoundApp, AllBelow, statics_of, TakesItsRegisters, taken}
 
 pub get_in : {A : Type 0} (xs : List A) (i : ℕ) (x : A) → slice_get xs i ≡ Some x → In x xs
 get_in [] i x e = absurd (let none : ⊥ = cc in none)
@@ -50,7 +50,7 @@ sound_step {app} method pc {step} sound e = of_method (slice_get app.methods met
 
 -- the static of a PutStatic is one of the app's
 pub put_static_below : {app : App} {method pc g x : ℕ} → SoundApp app → ActAt app method pc (PutStatic g x) → g < length app.statics
-put_static_below {app} {method} {pc} sound act = subst (λ a. StaticBelow a (length app.statics)) act.same (sound_step method pc sound act.there).sound.static
+put_static_below {app} {method} {pc} sound act = (subst (λ a. AllBelow (length app.statics) (statics_of a)) act.same (sound_step method pc sound act.there).sound.statics).0
 
 -- what the first index and the first given say of the element
 pub record IndexOf {A : Type 0} (test : A → Bool) (xs : List A) (i : ℕ) : Type 0 where

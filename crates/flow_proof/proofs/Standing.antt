@@ -1,14 +1,14 @@
 -- Where a state stands there is an Unknown row with the cause.
 use Rattle.std.proofs.Common.{◌≡◌, ℕ, List, refl, ◌∙◌}
-use Rattle.app_model.specs.declared.call.MethodRef.{MethodRef}
-use Rattle.app_model.specs.declared.call.CallKind.{CallKind}
-use Rattle.app_model.specs.declared.method.Act.TheVariants.{Call}
-use Rattle.app_model.specs.declared.lists.Lists.{Lists}
-use Rattle.app_model.specs.declared.app.App.{App}
-use Rattle.app_model.specs.Lookups.{Target, Body, ActAt, IsNative}
-use Rattle.app_model.specs.State.{World, Frame}
-use Rattle.app_model.specs.Calls.{Calls_to, by_name, by_nothing, by_class}
-use Rattle.app_model.specs.Safe.{native, Stands, native_call, without_row, at_reflection, native_initialiser, native_event, native_class}
+use Rattle.app_machine.specs.declared.call.MethodRef.{MethodRef}
+use Rattle.app_machine.specs.declared.call.CallKind.{CallKind}
+use Rattle.app_machine.specs.declared.method.Act.TheVariants.{Call}
+use Rattle.app_machine.specs.declared.lists.Lists.{Lists}
+use Rattle.app_machine.specs.declared.app.App.{App}
+use Rattle.app_machine.specs.Lookups.{Target, Body, ActAt, IsNative}
+use Rattle.app_machine.specs.State.{World, Frame}
+use Rattle.app_machine.specs.Calls.{Calls_to, by_name, by_nothing, by_class}
+use Rattle.app_machine.specs.Safe.{native, Stands, native_call, without_row, at_reflection, native_initialiser, native_event, native_class}
 use Rattle.fact_rows.specs.declared.context.Ctx.{Ctx}
 use Rattle.fact_rows.specs.declared.context.Ctx.TheVariants as ctx
 use Rattle.fact_rows.specs.declared.site.Site.{Site}

@@ -4,18 +4,18 @@ use Rattle.vet_base.specs.declared.key_id.KeyId.{KeyId}
 use Rattle.access_path.specs.declared.path.Path.{Path}
 use Rattle.access_path.specs.Paths.{cut, rest, empty_path}
 use Rattle.access_path.proofs.PathLaws.{cut-covers, rest-covers, empty-covers, covers-empty}
-use Rattle.app_model.specs.declared.method.Step.{Step}
-use Rattle.app_model.specs.declared.method.Act.{Act}
-use Rattle.app_model.specs.declared.method.Act.TheVariants.{Join, Move, New, Fill, Get, Put, GetStatic, PutStatic, TakeResult, TakeException}
-use Rattle.app_model.specs.declared.app.App.{App}
-use Rattle.app_model.specs.declared.lists.Lists.{Lists}
-use Rattle.app_model.specs.Members.{In}
-use Rattle.app_model.specs.Names.{Name}
-use Rattle.app_model.specs.Lookups.{elem_key, step_at, ActAt, Goes}
-use Rattle.app_model.specs.Heap.{Value, Object, blank, labelled, Reaches, put_at, put_to, Gets, entry_of, no_element, no_entry}
-use Rattle.app_model.specs.State.{result_register, exception_register, write, write_all, World, Frame, object_at, new_object}
-use Rattle.app_model.specs.Local.{AreOwnLabels, AreElements, Local, skips, goes, blanks, moves, takes_result, takes_exception, joins, makes, fills, gets, puts, gets_static, puts_static}
-use Rattle.app_model.specs.Sound.{SoundApp}
+use Rattle.app_machine.specs.declared.method.Step.{Step}
+use Rattle.app_machine.specs.declared.method.Act.{Act}
+use Rattle.app_machine.specs.declared.method.Act.TheVariants.{Join, Move, New, Fill, Get, Put, GetStatic, PutStatic, TakeResult, TakeException}
+use Rattle.app_machine.specs.declared.app.App.{App}
+use Rattle.app_machine.specs.declared.lists.Lists.{Lists}
+use Rattle.vet_base.specs.Members.{In}
+use Rattle.app_machine.specs.Names.{Name}
+use Rattle.app_machine.specs.Lookups.{elem_key, step_at, ActAt, Goes}
+use Rattle.app_machine.specs.Heap.{Value, Object, blank, labelled, Reaches, put_at, put_to, Gets, entry_of, no_element, no_entry}
+use Rattle.app_machine.specs.State.{result_register, exception_register, write, write_all, World, Frame, object_at, new_object}
+use Rattle.app_machine.specs.Local.{AreOwnLabels, AreElements, Local, skips, goes, blanks, moves, takes_result, takes_exception, joins, makes, fills, gets, puts, gets_static, puts_static}
+use Rattle.app_machine.specs.Sound.{SoundApp}
 use Rattle.fact_rows.specs.declared.context.Ctx.{Ctx}
 use Rattle.fact_rows.specs.declared.context.Node.{Node}
 use Rattle.fact_rows.specs.declared.site.Site.{Site}

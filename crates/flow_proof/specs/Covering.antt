@@ -1,13 +1,13 @@
 -- What it is that a set of rows covers every run of an app.
 use Rattle.std.specs.Prelude.{◌≡◌, ℕ, List, Contains}
-use Rattle.app_model.specs.declared.app.App.{App}
-use Rattle.app_model.specs.declared.lists.Lists.{Lists}
-use Rattle.app_model.specs.declared.papers.Declaration.{Declaration}
-use Rattle.app_model.specs.Members.{In}
-use Rattle.app_model.specs.State.{Arrival, World, Frame}
-use Rattle.app_model.specs.Run.{Run}
-use Rattle.app_model.specs.Safe.{Stands, Declared, Safe}
-use Rattle.app_model.specs.Sound.{SoundApp}
+use Rattle.app_machine.specs.declared.app.App.{App}
+use Rattle.app_machine.specs.declared.lists.Lists.{Lists}
+use Rattle.app_machine.specs.declared.papers.Declaration.{Declaration}
+use Rattle.vet_base.specs.Members.{In}
+use Rattle.app_machine.specs.State.{Arrival, World, Frame}
+use Rattle.app_machine.specs.Run.{Run}
+use Rattle.app_machine.specs.Safe.{Stands, Declared, Safe}
+use Rattle.app_machine.specs.Sound.{SoundApp}
 use Rattle.fact_rows.specs.declared.context.Node.{Node}
 use Rattle.fact_rows.specs.declared.row.Row.{Row}
 use Rattle.fact_rows.specs.declared.row.Row.TheVariants.{Arrive, Unknown}

@@ -1,20 +1,20 @@
 -- Rules 22 to 29: calls, results, exceptions and initialisers.
 use Rattle.std.specs.Prelude.{◌≡◌, ◌≢◌, ◌⊎◌, ℕ, true, false, IsTrue, IsFalse, List, [], ◌∷◌, Some, None}
 use Rattle.access_path.specs.declared.path.Path.{Path}
-use Rattle.app_model.specs.declared.call.MethodRef.{MethodRef}
-use Rattle.app_model.specs.declared.call.CallKind.{CallKind}
-use Rattle.app_model.specs.declared.method.Method.{Method}
-use Rattle.app_model.specs.declared.method.Act.TheVariants.{Call}
-use Rattle.app_model.specs.declared.summary.Summary.{Summary}
-use Rattle.app_model.specs.declared.lists.Lists.{Lists}
-use Rattle.app_model.specs.declared.lists.SummaryId.{SummaryId}
-use Rattle.app_model.specs.declared.app.App.{App}
-use Rattle.app_model.specs.Members.{IsAt}
-use Rattle.app_model.specs.Names.{Name}
-use Rattle.app_model.specs.Lookups.{Body, Library, target, is_by_receiver, is_static_call, HasCode, IsNative, Initialises}
-use Rattle.app_model.specs.Summaries.{library_key, summary}
-use Rattle.app_model.specs.State.{result_register, exception_register}
-use Rattle.app_model.specs.Safe.{no_summary, native, reflective}
+use Rattle.app_machine.specs.declared.call.MethodRef.{MethodRef}
+use Rattle.app_machine.specs.declared.call.CallKind.{CallKind}
+use Rattle.app_machine.specs.declared.method.Method.{Method}
+use Rattle.app_machine.specs.declared.method.Act.TheVariants.{Call}
+use Rattle.app_machine.specs.declared.summary.Summary.{Summary}
+use Rattle.app_machine.specs.declared.lists.Lists.{Lists}
+use Rattle.app_machine.specs.declared.lists.SummaryId.{SummaryId}
+use Rattle.app_machine.specs.declared.app.App.{App}
+use Rattle.vet_base.specs.Members.{IsAt}
+use Rattle.app_machine.specs.Names.{Name}
+use Rattle.app_machine.specs.Lookups.{Body, Library, target, is_by_receiver, is_static_call, HasCode, IsNative, Initialises}
+use Rattle.app_machine.specs.Summaries.{library_key, summary}
+use Rattle.app_machine.specs.State.{result_register, exception_register}
+use Rattle.app_machine.specs.Safe.{no_summary, native, reflective}
 use Rattle.fact_rows.specs.declared.context.Activation.{Activation}
 use Rattle.fact_rows.specs.declared.context.Node.{Node}
 use Rattle.fact_rows.specs.declared.site.Site.{Site}

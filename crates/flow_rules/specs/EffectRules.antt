@@ -3,10 +3,10 @@ use Rattle.std.specs.Prelude.{◌≢◌, ℕ, List, [], ◌∷◌, Option}
 use Rattle.vet_base.specs.declared.key_id.KeyId.{KeyId}
 use Rattle.access_path.specs.declared.path.Path.{Path}
 use Rattle.access_path.specs.Paths.{cut}
-use Rattle.app_model.specs.declared.app.App.{App}
-use Rattle.app_model.specs.Names.{Name}
-use Rattle.app_model.specs.LifeEvents.{LifeEvent}
-use Rattle.app_model.specs.Events.{LifeEventAt}
+use Rattle.app_machine.specs.declared.app.App.{App}
+use Rattle.app_machine.specs.Names.{Name}
+use Rattle.app_machine.specs.LifeEvents.{LifeEvent}
+use Rattle.app_machine.specs.Events.{LifeEventAt}
 use Rattle.fact_rows.specs.declared.context.Ctx.{Ctx}
 use Rattle.fact_rows.specs.declared.context.Ctx.TheVariants as ctx
 use Rattle.fact_rows.specs.declared.context.Activation.{Activation}

@@ -2,17 +2,17 @@
 use Rattle.std.specs.Prelude.{◌≡◌, ◌≢◌, ℕ, IsTrue, List, [], ◌∷◌, Option, Some, slice_get}
 use Rattle.access_path.specs.declared.path.Path.{Path}
 use Rattle.access_path.specs.Paths.{cut, empty_path}
-use Rattle.app_model.specs.declared.method.Method.{Method}
-use Rattle.app_model.specs.declared.component.Component.{Component as ComponentOf}
-use Rattle.app_model.specs.declared.lists.Lists.{Lists}
-use Rattle.app_model.specs.declared.app.App.{App}
-use Rattle.app_model.specs.Members.{In, IsAt}
-use Rattle.app_model.specs.Names.{Name, is_reference}
-use Rattle.app_model.specs.Lookups.{elem_key, HasCode, IsNative}
-use Rattle.app_model.specs.Summaries.{Below}
-use Rattle.app_model.specs.LifeEvents.{LifeEvent}
-use Rattle.app_model.specs.Events.{IsApplication, LifeEventAt, CallbackAt, ClickAt, HandedAt, InitialiserAt}
-use Rattle.app_model.specs.Safe.{native}
+use Rattle.app_machine.specs.declared.method.Method.{Method}
+use Rattle.app_machine.specs.declared.component.Component.{Component as ComponentOf}
+use Rattle.app_machine.specs.declared.lists.Lists.{Lists}
+use Rattle.app_machine.specs.declared.app.App.{App}
+use Rattle.vet_base.specs.Members.{In, IsAt}
+use Rattle.app_machine.specs.Names.{Name, is_reference}
+use Rattle.app_machine.specs.Lookups.{elem_key, HasCode, IsNative}
+use Rattle.app_machine.specs.Summaries.{Below}
+use Rattle.app_machine.specs.LifeEvents.{LifeEvent}
+use Rattle.app_machine.specs.Events.{IsApplication, LifeEventAt, CallbackAt, ClickAt, HandedAt, InitialiserAt}
+use Rattle.app_machine.specs.Safe.{native}
 use Rattle.fact_rows.specs.declared.context.Ctx.{Ctx}
 use Rattle.fact_rows.specs.declared.context.Ctx.TheVariants as ctx
 use Rattle.fact_rows.specs.declared.context.Activation.{Activation}

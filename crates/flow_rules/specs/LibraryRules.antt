@@ -2,20 +2,20 @@
 use Rattle.std.specs.Prelude.{◌≡◌, ℕ, IsTrue, IsFalse, List, [], ◌∷◌, Some}
 use Rattle.access_path.specs.declared.path.Path.{Path}
 use Rattle.access_path.specs.Paths.{cut, rest, empty_path}
-use Rattle.app_model.specs.declared.call.MethodRef.{MethodRef}
-use Rattle.app_model.specs.declared.call.CallKind.{CallKind}
-use Rattle.app_model.specs.declared.method.Act.TheVariants.{Call}
-use Rattle.app_model.specs.declared.summary.Gives.TheVariants.{Same, Taken, Joined, Shared}
-use Rattle.app_model.specs.declared.summary.Summary.{Summary}
-use Rattle.app_model.specs.declared.lists.Lists.{Lists}
-use Rattle.app_model.specs.declared.lists.SummaryId.{SummaryId}
-use Rattle.app_model.specs.declared.app.App.{App}
-use Rattle.app_model.specs.Members.{In, IsAt}
-use Rattle.app_model.specs.Names.{is_reference, is_void}
-use Rattle.app_model.specs.Lookups.{elem_key, is_static_call}
-use Rattle.app_model.specs.Summaries.{summary}
-use Rattle.app_model.specs.State.{result_register, shared_static}
-use Rattle.app_model.specs.Library.{positions, IsSink}
+use Rattle.app_machine.specs.declared.call.MethodRef.{MethodRef}
+use Rattle.app_machine.specs.declared.call.CallKind.{CallKind}
+use Rattle.app_machine.specs.declared.method.Act.TheVariants.{Call}
+use Rattle.app_machine.specs.declared.summary.Gives.TheVariants.{Same, Taken, Joined, Shared}
+use Rattle.app_machine.specs.declared.summary.Summary.{Summary}
+use Rattle.app_machine.specs.declared.lists.Lists.{Lists}
+use Rattle.app_machine.specs.declared.lists.SummaryId.{SummaryId}
+use Rattle.app_machine.specs.declared.app.App.{App}
+use Rattle.vet_base.specs.Members.{In, IsAt}
+use Rattle.app_machine.specs.Names.{is_reference, is_void}
+use Rattle.app_machine.specs.Lookups.{elem_key, is_static_call}
+use Rattle.app_machine.specs.Summaries.{summary}
+use Rattle.app_machine.specs.State.{result_register, shared_static}
+use Rattle.app_machine.specs.Library.{positions, IsSink}
 use Rattle.fact_rows.specs.declared.context.Node.{Node}
 use Rattle.fact_rows.specs.declared.site.Site.{Site}
 use Rattle.fact_rows.specs.declared.site.Site.TheVariants.{At, Shared as SharedSite}

@@ -3,13 +3,13 @@ use Rattle.std.specs.Prelude.{◌≡◌, ◌==◌, ℕ, IsFalse, List, [], ◌�
 use Rattle.vet_base.specs.declared.key_id.KeyId.{KeyId}
 use Rattle.access_path.specs.declared.path.Path.{Path}
 use Rattle.access_path.specs.Paths.{keys_of, cut, rest, empty_path}
-use Rattle.app_model.specs.declared.method.Act.{Act}
-use Rattle.app_model.specs.declared.method.Act.TheVariants.{Join, Move, New, Fill, Get, Put, GetStatic, PutStatic, Return, Throw, TakeResult, TakeException}
-use Rattle.app_model.specs.declared.app.App.{App}
-use Rattle.app_model.specs.Members.{In}
-use Rattle.app_model.specs.Names.{Name}
-use Rattle.app_model.specs.Lookups.{elem_key}
-use Rattle.app_model.specs.State.{result_register, exception_register}
+use Rattle.app_machine.specs.declared.method.Act.{Act}
+use Rattle.app_machine.specs.declared.method.Act.TheVariants.{Join, Move, New, Fill, Get, Put, GetStatic, PutStatic, Return, Throw, TakeResult, TakeException}
+use Rattle.app_machine.specs.declared.app.App.{App}
+use Rattle.vet_base.specs.Members.{In}
+use Rattle.app_machine.specs.Names.{Name}
+use Rattle.app_machine.specs.Lookups.{elem_key}
+use Rattle.app_machine.specs.State.{result_register, exception_register}
 use Rattle.fact_rows.specs.declared.context.Node.{Node}
 use Rattle.fact_rows.specs.declared.site.Site.{Site}
 use Rattle.fact_rows.specs.declared.site.Site.TheVariants.{At}

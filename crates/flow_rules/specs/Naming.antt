@@ -1,12 +1,12 @@
 -- Which activations a row names, by which a solver divides its work.
 use Rattle.std.specs.Prelude.{◌≡◌, ℕ, List, [], ◌∷◌, Option}
-use Rattle.app_model.specs.declared.component.Component.{Component}
-use Rattle.app_model.specs.declared.lists.Lists.{Lists}
-use Rattle.app_model.specs.declared.app.App.{App}
-use Rattle.app_model.specs.Members.{In, IsAt}
-use Rattle.app_model.specs.Names.{Name}
-use Rattle.app_model.specs.LifeEvents.{LifeEvent}
-use Rattle.app_model.specs.Events.{IsApplication, LifeEventAt}
+use Rattle.app_machine.specs.declared.component.Component.{Component}
+use Rattle.app_machine.specs.declared.lists.Lists.{Lists}
+use Rattle.app_machine.specs.declared.app.App.{App}
+use Rattle.vet_base.specs.Members.{In, IsAt}
+use Rattle.app_machine.specs.Names.{Name}
+use Rattle.app_machine.specs.LifeEvents.{LifeEvent}
+use Rattle.app_machine.specs.Events.{IsApplication, LifeEventAt}
 use Rattle.fact_rows.specs.declared.context.Activation.{Activation}
 use Rattle.fact_rows.specs.declared.row.Row.{Row}
 use Rattle.fact_rows.specs.declared.row.Row.TheVariants.{Reached, Points, Taint, Cell, Back, StaticPoints, StaticTaint, Calls, CalledBy, Effect, MethodEffect, ExitPoints, ExitTaint, Live, CompTaint, Handed, HandedTaint, Arrive, Unknown, Uses}

@@ -1,13 +1,13 @@
 -- Nodes and registers, as the rules name them.
 use Rattle.std.specs.Prelude.{◌≡◌, ◌==◌, ◌<◌, ◌+◌, ◌-◌, ℕ, Bool, false}
-use Rattle.app_model.specs.declared.method.Act.{Act}
-use Rattle.app_model.specs.declared.method.Act.TheVariants.{Skip, Join, Move, Blank, New, Fill, Get, Put, GetStatic, PutStatic, Call, Return, Throw, TakeResult, TakeException, Go}
-use Rattle.app_model.specs.declared.method.Method.{Method}
-use Rattle.app_model.specs.declared.app.App.{App}
-use Rattle.app_model.specs.Members.{IsAt}
-use Rattle.app_model.specs.Lookups.{ActAt, Goes, Catches, HasCode, Initialises}
-use Rattle.app_model.specs.State.{result_register, holds}
-use Rattle.app_model.specs.Events.{layout}
+use Rattle.app_machine.specs.declared.method.Act.{Act}
+use Rattle.app_machine.specs.declared.method.Act.TheVariants.{Skip, Join, Move, Blank, New, Fill, Get, Put, GetStatic, PutStatic, Call, Return, Throw, TakeResult, TakeException, Go}
+use Rattle.app_machine.specs.declared.method.Method.{Method}
+use Rattle.app_machine.specs.declared.app.App.{App}
+use Rattle.vet_base.specs.Members.{IsAt}
+use Rattle.app_machine.specs.Lookups.{ActAt, Goes, Catches, HasCode, Initialises}
+use Rattle.app_machine.specs.State.{result_register, holds}
+use Rattle.app_machine.specs.Events.{layout}
 use Rattle.fact_rows.specs.declared.context.Ctx.{Ctx}
 use Rattle.fact_rows.specs.declared.context.Ctx.TheVariants as ctx
 use Rattle.fact_rows.specs.declared.context.Activation.{Activation}

@@ -1,13 +1,13 @@
 -- The class of the objects that are made at a site.
 use Rattle.std.specs.Prelude.{◌≡◌, if◌then◌else◌, Option, Some, None, option_map, slice_get}
-use Rattle.app_model.specs.declared.method.Act.{Act}
-use Rattle.app_model.specs.declared.method.Act.TheVariants.{Skip, Join, Move, Blank, New, Fill, Get, Put, GetStatic, PutStatic, Call, Return, Throw, TakeResult, TakeException, Go}
-use Rattle.app_model.specs.declared.component.Component.{Component as ComponentOf}
-use Rattle.app_model.specs.declared.lists.Lists.{Lists}
-use Rattle.app_model.specs.declared.app.App.{App}
-use Rattle.app_model.specs.Names.{Name, is_reference}
-use Rattle.app_model.specs.Lookups.{step_at}
-use Rattle.app_model.specs.Library.{shared_class}
+use Rattle.app_machine.specs.declared.method.Act.{Act}
+use Rattle.app_machine.specs.declared.method.Act.TheVariants.{Skip, Join, Move, Blank, New, Fill, Get, Put, GetStatic, PutStatic, Call, Return, Throw, TakeResult, TakeException, Go}
+use Rattle.app_machine.specs.declared.component.Component.{Component as ComponentOf}
+use Rattle.app_machine.specs.declared.lists.Lists.{Lists}
+use Rattle.app_machine.specs.declared.app.App.{App}
+use Rattle.app_machine.specs.Names.{Name, is_reference}
+use Rattle.app_machine.specs.Lookups.{step_at}
+use Rattle.app_machine.specs.Library.{shared_class}
 use Rattle.fact_rows.specs.declared.site.Site.{Site}
 use Rattle.fact_rows.specs.declared.site.Site.TheVariants.{At, Param, Component, Shared}
 use Rattle.fact_rows.specs.Contexts.{event_types, parameter_type}

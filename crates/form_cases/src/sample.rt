@@ -1,6 +1,6 @@
 //! What samples say.
 use crate::answer::text_of;
-use app_model::{Gives, Summary};
+use app_machine::{Gives, Summary};
 use office_forms::{read_layouts, read_lists};
 use std::alloc::{AllocError, Global};
 use std::rt::Files;

@@ -3,26 +3,26 @@ use Rattle.std.proofs.Common.{◌≡◌, ◌==◌, ℕ, zero, suc, List, [], ◌
 use Rattle.std.proofs.lemmas.Bool.{eqb-true}
 use Rattle.std.specs.Prelude.{IsFalse, find}
 use Rattle.vet_base.specs.declared.key_id.KeyId.{KeyId}
-use Rattle.app_model.specs.declared.call.MethodRef.{MethodRef}
-use Rattle.app_model.specs.declared.call.CallKind.{CallKind}
-use Rattle.app_model.specs.declared.call.CallKind.TheVariants.{Static}
-use Rattle.app_model.specs.declared.method.Method.{Method}
-use Rattle.app_model.specs.declared.method.Step.{Step}
-use Rattle.app_model.specs.declared.method.Act.{Act}
-use Rattle.app_model.specs.declared.method.Act.TheVariants.{Blank, Call, Return, TakeResult}
-use Rattle.app_model.specs.declared.summary.Summary.{Summary}
-use Rattle.app_model.specs.declared.lists.SummaryId.TheVariants.{Row}
-use Rattle.app_model.specs.Members.{In}
-use Rattle.app_model.specs.Names.{is_wide, is_array}
-use Rattle.app_model.specs.Lookups.{Target, Body, Library, ActAt, Goes, Catches, HasCode, Initialises, initialisers, class_initialised, initialisers_from, step_at, target, find_body, up, method_of, class_named, is_by_receiver}
-use Rattle.app_model.specs.Summaries.{library_key, summary, row_walk, library_classes, listed_above, listed_class, row_of}
-use Rattle.app_model.specs.Heap.{Value, Object, blank, Reaches}
-use Rattle.app_model.specs.State.{Arrival, World, Frame, write_all}
-use Rattle.app_model.specs.Local.{Local, skips, goes, blanks, moves, takes_result, takes_exception, joins, makes, fills, gets, puts, gets_static, puts_static}
-use Rattle.app_model.specs.Calls.{Calls_to, by_name, by_nothing, by_class, Raises, is_caught, unwinds, ends_event}
-use Rattle.app_model.specs.Library.{positions, value_at, AtSink, Library_call, Uses_row}
-use Rattle.app_model.specs.Events.{Comes, lives, is_born, calls_back, is_clicked, is_handed}
-use Rattle.app_model.specs.Run.{Steps, goes_on, raises, throws, calls, calls_library, library_raises, initialises, ends, passes, begins, begins_initialiser, Run, starts, then}
+use Rattle.app_machine.specs.declared.call.MethodRef.{MethodRef}
+use Rattle.app_machine.specs.declared.call.CallKind.{CallKind}
+use Rattle.app_machine.specs.declared.call.CallKind.TheVariants.{Static}
+use Rattle.app_machine.specs.declared.method.Method.{Method}
+use Rattle.app_machine.specs.declared.method.Step.{Step}
+use Rattle.app_machine.specs.declared.method.Act.{Act}
+use Rattle.app_machine.specs.declared.method.Act.TheVariants.{Blank, Call, Return, TakeResult}
+use Rattle.app_machine.specs.declared.summary.Summary.{Summary}
+use Rattle.app_machine.specs.declared.lists.SummaryId.TheVariants.{Row}
+use Rattle.vet_base.specs.Members.{In}
+use Rattle.app_machine.specs.Names.{is_wide, is_array}
+use Rattle.app_machine.specs.Lookups.{Target, Body, Library, ActAt, Goes, Catches, HasCode, Initialises, initialisers, class_initialised, initialisers_from, step_at, target, find_body, up, method_of, class_named, is_by_receiver}
+use Rattle.app_machine.specs.Summaries.{library_key, summary, row_walk, library_classes, listed_above, listed_class, row_of}
+use Rattle.app_machine.specs.Heap.{Value, Object, blank, Reaches}
+use Rattle.app_machine.specs.State.{Arrival, World, Frame, write_all}
+use Rattle.app_machine.specs.Local.{Local, skips, goes, blanks, moves, takes_result, takes_exception, joins, makes, fills, gets, puts, gets_static, puts_static}
+use Rattle.app_machine.specs.Calls.{Calls_to, by_name, by_nothing, by_class, Raises, is_caught, unwinds, ends_event}
+use Rattle.app_machine.specs.Library.{positions, value_at, AtSink, Library_call, Uses_row}
+use Rattle.app_machine.specs.Events.{Comes, lives, is_born, calls_back, is_clicked, is_handed}
+use Rattle.app_machine.specs.Run.{Steps, goes_on, raises, throws, calls, calls_library, library_raises, initialises, ends, passes, begins, begins_initialiser, Run, starts, then}
 use Rattle.machine_witness.specs.Apps.{device_class, net_class, id, post, step, clear_steps, clear_app, small_lists, ClearSiblingNeverArrives}
 use Rattle.machine_witness.proofs.Leaking.{none_some, source_row}
 

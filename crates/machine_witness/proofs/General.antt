@@ -3,13 +3,13 @@ use Rattle.std.proofs.Common.{◌≡◌, ◌==◌, ℕ, zero, suc, ◌+◌, ◌-
 use Rattle.std.proofs.lemmas.Bool.{eqb-true, le-leb, lt-ltb}
 use Rattle.std.specs.Prelude.{nat_le, nat_lt, map}
 use Rattle.vet_base.specs.declared.key_id.KeyId.{KeyId}
-use Rattle.app_model.specs.Members.{In}
-use Rattle.app_model.specs.Names.{Name}
-use Rattle.app_model.specs.Heap.{Value, without, labelled, blank}
-use Rattle.app_model.specs.State.{World, Component_state, value_or_blank}
-use Rattle.app_model.specs.Calls.{is_caught, unwinds}
-use Rattle.app_model.specs.Events.{IsApplication, Comes, lives, is_born, calls_back, is_clicked, is_handed, layout, labels_at, Parameters, no_more, one_more, Parameter, is_blank, set_component}
-use Rattle.app_model.specs.Run.{begins, frame_of}
+use Rattle.vet_base.specs.Members.{In}
+use Rattle.app_machine.specs.Names.{Name}
+use Rattle.app_machine.specs.Heap.{Value, without, labelled, blank}
+use Rattle.app_machine.specs.State.{World, Component_state, value_or_blank}
+use Rattle.app_machine.specs.Calls.{is_caught, unwinds}
+use Rattle.app_machine.specs.Events.{IsApplication, Comes, lives, is_born, calls_back, is_clicked, is_handed, layout, labels_at, Parameters, no_more, one_more, Parameter, is_blank, set_component}
+use Rattle.app_machine.specs.Run.{begins, frame_of}
 use Rattle.machine_witness.specs.Witnesses.{StrongUpdateForgets, ElementsStay, RaisesGoToHandlers, RaisesGoToCallers, RaisesGoNowhereElse, AbsentComponentsAreOnlyBorn, OthersWaitForTheApplication, HandedObjectsAreCalledBack}
 
 -- no entry of the key is left

@@ -2,25 +2,25 @@
 use Rattle.std.proofs.Common.{◌≡◌, ◌==◌, ℕ, zero, suc, List, [], ◌∷◌, true, false, cond, ◌⊎◌, inl, inr, Option, Some, None, refl, ap, sym, subst, arith}
 use Rattle.std.specs.Prelude.{codes, map}
 use Rattle.vet_base.specs.declared.key_id.KeyId.{KeyId}
-use Rattle.app_model.specs.declared.call.CallKind.TheVariants.{Static}
-use Rattle.app_model.specs.declared.method.Method.{Method}
-use Rattle.app_model.specs.declared.method.Act.TheVariants.{Call, TakeResult}
-use Rattle.app_model.specs.declared.component.Kind.TheVariants.{Activity}
-use Rattle.app_model.specs.declared.summary.Gives.TheVariants.{Joined, Blank}
-use Rattle.app_model.specs.declared.summary.Summary.{Summary}
-use Rattle.app_model.specs.declared.lists.SummaryId.TheVariants.{Row}
-use Rattle.app_model.specs.Members.{In}
-use Rattle.app_model.specs.Names.{is_void, is_reference, is_wide, is_array, descriptor_of}
-use Rattle.app_model.specs.Lookups.{ActAt, Goes, HasCode, step_at, target, find_body, up, method_of, method_with, body_named, class_named, is_by_receiver}
-use Rattle.app_model.specs.Summaries.{library_key, summary, row_walk, library_classes, listed_above, listed_class, row_of}
-use Rattle.app_model.specs.Heap.{Value, Object, blank, labelled, Reaches}
-use Rattle.app_model.specs.State.{result_register, write, write_all, Arrival, World, Frame, entered, object_at, new_object}
-use Rattle.app_model.specs.Local.{takes_result}
-use Rattle.app_model.specs.Calls.{by_name}
-use Rattle.app_model.specs.Library.{positions, value_at, AtSink, all_there, of_void, as_labels, Adds, by_put, by_store, by_copy, Library_call, Uses_row}
-use Rattle.app_model.specs.LifeEvents.{LifeEvent, life_events}
-use Rattle.app_model.specs.Events.{IsApplication, LifeEventAt, lives, is_born, set_component, layout, one_more, no_more, is_blank}
-use Rattle.app_model.specs.Run.{Steps, goes_on, calls_library, passes, no_body, begins, start_world, starts, then}
+use Rattle.app_machine.specs.declared.call.CallKind.TheVariants.{Static}
+use Rattle.app_machine.specs.declared.method.Method.{Method}
+use Rattle.app_machine.specs.declared.method.Act.TheVariants.{Call, TakeResult}
+use Rattle.app_machine.specs.declared.component.Kind.TheVariants.{Activity}
+use Rattle.app_machine.specs.declared.summary.Gives.TheVariants.{Joined, Blank}
+use Rattle.app_machine.specs.declared.summary.Summary.{Summary}
+use Rattle.app_machine.specs.declared.lists.SummaryId.TheVariants.{Row}
+use Rattle.vet_base.specs.Members.{In}
+use Rattle.app_machine.specs.Names.{is_void, is_reference, is_wide, is_array, descriptor_of}
+use Rattle.app_machine.specs.Lookups.{ActAt, Goes, HasCode, step_at, target, find_body, up, method_of, method_with, body_named, class_named, is_by_receiver}
+use Rattle.app_machine.specs.Summaries.{library_key, summary, row_walk, library_classes, listed_above, listed_class, row_of}
+use Rattle.app_machine.specs.Heap.{Value, Object, blank, labelled, Reaches}
+use Rattle.app_machine.specs.State.{result_register, write, write_all, Arrival, World, Frame, entered, object_at, new_object}
+use Rattle.app_machine.specs.Local.{takes_result}
+use Rattle.app_machine.specs.Calls.{by_name}
+use Rattle.app_machine.specs.Library.{positions, value_at, AtSink, all_there, of_void, as_labels, Adds, by_put, by_store, by_copy, Library_call, Uses_row}
+use Rattle.app_machine.specs.LifeEvents.{LifeEvent, life_events}
+use Rattle.app_machine.specs.Events.{IsApplication, LifeEventAt, lives, is_born, set_component, layout, one_more, no_more, is_blank}
+use Rattle.app_machine.specs.Run.{Steps, goes_on, calls_library, passes, no_body, begins, start_world, starts, then}
 use Rattle.machine_witness.specs.Apps.{main_class, device_class, net_class, on_create, id, post, step, leaking_steps, leaking_app, small_lists, Leaks}
 
 -- the two events

@@ -1,11 +1,11 @@
 -- What look-ups find in the small apps.
 use Rattle.std.proofs.Common.{◌≡◌, [], None, refl}
 use Rattle.std.specs.Prelude.{IsFalse}
-use Rattle.app_model.specs.declared.method.Act.TheVariants.{Call}
-use Rattle.app_model.specs.declared.call.CallKind.TheVariants.{Static}
-use Rattle.app_model.specs.Lookups.{Body, ActAt, IsNative, target, superclass_of_caller, find_body, up, method_of, class_named, is_by_receiver, step_at}
-use Rattle.app_model.specs.Calls.{by_name}
-use Rattle.app_model.specs.Safe.{native_call}
+use Rattle.app_machine.specs.declared.method.Act.TheVariants.{Call}
+use Rattle.app_machine.specs.declared.call.CallKind.TheVariants.{Static}
+use Rattle.app_machine.specs.Lookups.{Body, ActAt, IsNative, target, superclass_of_caller, find_body, up, method_of, class_named, is_by_receiver, step_at}
+use Rattle.app_machine.specs.Calls.{by_name}
+use Rattle.app_machine.specs.Safe.{native_call}
 use Rattle.machine_witness.specs.Apps.{native_app, StandsAtNative, family, CallsGoUpward, jni}
 
 pub calls_go_upward : CallsGoUpward

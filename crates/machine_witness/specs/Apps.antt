@@ -1,24 +1,24 @@
 -- Small apps, and what the machine should do with them.
 use Rattle.std.specs.Prelude.{◌≡◌, ℕ, Bool, true, false, List, [], ◌∷◌, Option, Some, None, codes}
-use Rattle.app_model.specs.declared.call.MethodRef.{MethodRef}
-use Rattle.app_model.specs.declared.call.CallKind.TheVariants.{Static, Super, Virtual}
-use Rattle.app_model.specs.declared.method.Step.{Step}
-use Rattle.app_model.specs.declared.method.Act.{Act}
-use Rattle.app_model.specs.declared.method.Act.TheVariants.{Blank, Call, Return, TakeResult}
-use Rattle.app_model.specs.declared.method.Method.{Method}
-use Rattle.app_model.specs.declared.component.Kind.TheVariants.{Activity}
-use Rattle.app_model.specs.declared.app.Key.TheVariants.{Elem}
-use Rattle.app_model.specs.declared.app.Class.{Class}
-use Rattle.app_model.specs.declared.app.App.{App}
-use Rattle.app_model.specs.declared.summary.Gives.TheVariants as gives
-use Rattle.app_model.specs.declared.lists.Lists.{Lists}
-use Rattle.app_model.specs.Members.{In}
-use Rattle.app_model.specs.Names.{Name}
-use Rattle.app_model.specs.Lookups.{target, Body, Library}
-use Rattle.app_model.specs.Heap.{Value}
-use Rattle.app_model.specs.State.{Arrival, World, Frame}
-use Rattle.app_model.specs.Run.{Run}
-use Rattle.app_model.specs.Safe.{native, Stands}
+use Rattle.app_machine.specs.declared.call.MethodRef.{MethodRef}
+use Rattle.app_machine.specs.declared.call.CallKind.TheVariants.{Static, Super, Virtual}
+use Rattle.app_machine.specs.declared.method.Step.{Step}
+use Rattle.app_machine.specs.declared.method.Act.{Act}
+use Rattle.app_machine.specs.declared.method.Act.TheVariants.{Blank, Call, Return, TakeResult}
+use Rattle.app_machine.specs.declared.method.Method.{Method}
+use Rattle.app_machine.specs.declared.component.Kind.TheVariants.{Activity}
+use Rattle.app_machine.specs.declared.app.Key.TheVariants.{Elem}
+use Rattle.app_machine.specs.declared.app.Class.{Class}
+use Rattle.app_machine.specs.declared.app.App.{App}
+use Rattle.app_machine.specs.declared.summary.Gives.TheVariants as gives
+use Rattle.app_machine.specs.declared.lists.Lists.{Lists}
+use Rattle.vet_base.specs.Members.{In}
+use Rattle.app_machine.specs.Names.{Name}
+use Rattle.app_machine.specs.Lookups.{target, Body, Library}
+use Rattle.app_machine.specs.Heap.{Value}
+use Rattle.app_machine.specs.State.{Arrival, World, Frame}
+use Rattle.app_machine.specs.Run.{Run}
+use Rattle.app_machine.specs.Safe.{native, Stands}
 
 -- the classes and methods of the small apps
 abbrev pub main_class : Name

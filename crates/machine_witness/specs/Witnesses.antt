@@ -1,17 +1,17 @@
 -- What the machine's definitions should mean, of any app.
 use Rattle.std.specs.Prelude.{◌≡◌, ◌≢◌, ◌-◌, ◌<◌, ◌≤◌, ℕ, List, [], ◌∷◌, length, Option, Some}
 use Rattle.vet_base.specs.declared.key_id.KeyId.{KeyId}
-use Rattle.app_model.specs.declared.app.App.{App}
-use Rattle.app_model.specs.declared.lists.Lists.{Lists}
-use Rattle.app_model.specs.declared.method.Method.{Method}
-use Rattle.app_model.specs.Members.{In}
-use Rattle.app_model.specs.Names.{Name}
-use Rattle.app_model.specs.Lookups.{elem_key, Catches, HasCode}
-use Rattle.app_model.specs.Heap.{Value, Object, EntryAt, ClassAt, put_at}
-use Rattle.app_model.specs.State.{exception_register, write, World, Frame}
-use Rattle.app_model.specs.Calls.{Raises}
-use Rattle.app_model.specs.Events.{IsApplication, HandedAt, Comes, MayInitialise}
-use Rattle.app_model.specs.Run.{Steps}
+use Rattle.app_machine.specs.declared.app.App.{App}
+use Rattle.app_machine.specs.declared.lists.Lists.{Lists}
+use Rattle.app_machine.specs.declared.method.Method.{Method}
+use Rattle.vet_base.specs.Members.{In}
+use Rattle.app_machine.specs.Names.{Name}
+use Rattle.app_machine.specs.Lookups.{elem_key, Catches, HasCode}
+use Rattle.app_machine.specs.Heap.{Value, Object, EntryAt, ClassAt, put_at}
+use Rattle.app_machine.specs.State.{exception_register, write, World, Frame}
+use Rattle.app_machine.specs.Calls.{Raises}
+use Rattle.app_machine.specs.Events.{IsApplication, HandedAt, Comes, MayInitialise}
+use Rattle.app_machine.specs.Run.{Steps}
 
 -- after a put under a field's key no other value stands under it
 abbrev pub StrongUpdateForgets : Type 0

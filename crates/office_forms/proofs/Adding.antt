@@ -1,7 +1,7 @@
 -- How many names there are after those of a list were added that are not among them.
 use Rattle.std.proofs.Common.{◌+◌, ◌≤◌, Bool, true, false, List, [], ◌∷◌, ◌++◌, length, arith, length-append}
 use Rattle.std.specs.Prelude.{is_some, if◌then◌else◌}
-use Rattle.app_model.specs.Names.{Name, same_name}
+use Rattle.app_machine.specs.Names.{Name, same_name}
 use Rattle.office_forms.specs.Places.{place_of}
 use Rattle.office_forms.specs.Each.{with_one, with_new}
 

@@ -2,9 +2,9 @@
 use Rattle.std.proofs.Common.{◌≡◌, ℕ, ◌+◌, ◌*◌, ◌≤◌, List, [], ◌++◌, length, Ok, arith, length-append}
 use Rattle.toml.specs.Data.{Data, Members}
 use Rattle.vet_base.specs.Script.{run}
-use Rattle.app_model.specs.declared.papers.Manifest.{Manifest}
-use Rattle.app_model.specs.declared.papers.Layouts.{Layouts}
-use Rattle.app_model.specs.declared.papers.Declaration.{Declaration}
+use Rattle.app_machine.specs.declared.papers.Manifest.{Manifest}
+use Rattle.app_machine.specs.declared.papers.Layouts.{Layouts}
+use Rattle.app_machine.specs.declared.papers.Declaration.{Declaration}
 use Rattle.office_forms.specs.declared.words.Section.TheVariants as section
 use Rattle.office_forms.specs.declared.words.Key.TheVariants as key
 use Rattle.office_forms.specs.declared.spelling.Spelling.TheVariants as spelling

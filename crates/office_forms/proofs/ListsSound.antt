@@ -6,12 +6,12 @@ use Rattle.std.proofs.lemmas.Bool.{leb-true, eqb-true, and_parts}
 use Rattle.std.proofs.lemmas.List.Elements.{All-nil, All-push}
 use Rattle.toml.specs.Data.{Data, Members}
 use Rattle.vet_base.specs.Script.{run, test}
-use Rattle.app_model.specs.Names.{Name}
-use Rattle.app_model.specs.declared.lists.Lists.{Lists}
-use Rattle.app_model.specs.LibraryWalk.{NumberedLists}
-use Rattle.app_model.specs.declared.lists.LibClass.{LibClass}
-use Rattle.app_model.specs.declared.lists.Callback.{Callback}
-use Rattle.app_model.specs.declared.summary.Summary.{Summary}
+use Rattle.app_machine.specs.Names.{Name}
+use Rattle.app_machine.specs.declared.lists.Lists.{Lists}
+use Rattle.app_machine.specs.SoundLists.{SoundLists}
+use Rattle.app_machine.specs.declared.lists.LibClass.{LibClass}
+use Rattle.app_machine.specs.declared.lists.Callback.{Callback}
+use Rattle.app_machine.specs.declared.summary.Summary.{Summary}
 use Rattle.office_forms.specs.declared.fault.Fault.TheVariants.{Range}
 use Rattle.office_forms.specs.declared.words.Section.TheVariants as section
 use Rattle.office_forms.specs.declared.words.Key.TheVariants as key
@@ -29,7 +29,7 @@ use Rattle.office_forms.specs.Positions.{flag_at, pairs_at, named_at, listed_at}
 use Rattle.office_forms.specs.Methods.{proto_at, count_of, gives_at, sink_at, signature_at, summary_of, method_row, methods_of}
 use Rattle.office_forms.specs.Callbacks.{callback_row, callbacks_of}
 use Rattle.office_forms.specs.Lists.{are_categories, categories_at, shared_row, shared_of, rows_of, rows_once, lists_form}
-use Rattle.office_forms.specs.Sound.{SoundGives, TwoPositions, NamedPosition, SoundSink, SoundClass, SoundSummary, SoundCallback, SoundLists}
+use Rattle.app_machine.specs.SoundLists.{SoundGives, TwoPositions, NamedPosition, SoundSink, SoundClass, SoundSummary, SoundCallback, SoundLists}
 use Rattle.office_forms.proofs.Yields.{Yields, yields_value, yields_tested, yields_then, yields_past, yields_each}
 use Rattle.office_forms.proofs.FieldYields.{number_within, tables_few, texts_few}
 use Rattle.office_forms.proofs.Adding.{with_new_more}
@@ -246,7 +246,3 @@ lists_sound t =
 
 pub sound_lists : (t : Members) (d : Lists) → run (lists_form t) ≡ Ok d → SoundLists d
 sound_lists t d e = (lists_sound t).at d e
-
--- and so short enough to be numbered
-pub numbered_lists : (lists : Lists) → SoundLists lists → NumberedLists lists
-numbered_lists lists sound = record { classes = omega (arith, sound.few_classes); methods = omega (arith, sound.few_methods) }

@@ -2,7 +2,7 @@
 use Rattle.std.proofs.Common.{◌≡◌, ℕ, ◌+◌, ◌<◌, ◌≤◌, List, [], ◌∷◌, length, drop, get_or, add-one, refl, ap, sym, ◌∙◌}
 use Rattle.std.proofs.lemmas.List.{drop_all}
 use Rattle.std.proofs.Math.Seq.{drop-cons}
-use Rattle.app_model.specs.Names.{Name}
+use Rattle.app_machine.specs.Names.{Name}
 use Rattle.office_forms.specs.Each.{with_one, with_new}
 
 -- of the names, the first `i` are added to `seen`, which gave `all`

@@ -6,7 +6,7 @@ use Rattle.std.proofs.lemmas.Bool.{ltb-true, eqb-true, and_parts}
 use Rattle.std.proofs.lemmas.List.Elements.{All-get_or}
 use Rattle.toml.specs.Data.{Data, string, integer, float, boolean, datetime, array, table, Members}
 use Rattle.vet_base.specs.Script.{Value, ◌>>=◌, test}
-use Rattle.app_model.specs.Names.{Name, same_name}
+use Rattle.app_machine.specs.Names.{Name, same_name}
 use Rattle.office_forms.specs.declared.fault.Fault.TheVariants.{Wrong, Range}
 use Rattle.office_forms.specs.declared.words.Section.{Section}
 use Rattle.office_forms.specs.declared.words.Section.TheVariants as section

@@ -3,10 +3,10 @@ use Rattle.std.specs.Prelude.{nat_le, false, codes, List, [], ◌∷◌, ◌++�
 use Rattle.std.specs.Str.{bytes_eq}
 use Rattle.toml.specs.Data.{Data, Members}
 use Rattle.vet_base.specs.Script.{Script, Value, Test, ◌>>=◌, test}
-use Rattle.app_model.specs.Names.{Name, same_name}
-use Rattle.app_model.specs.declared.lists.LibClass.{LibClass}
-use Rattle.app_model.specs.declared.lists.FallbackWord.{FallbackWord}
-use Rattle.app_model.specs.declared.lists.FallbackWord.TheVariants.{Blank, Joined, Mixed}
+use Rattle.app_machine.specs.Names.{Name, same_name}
+use Rattle.app_machine.specs.declared.lists.LibClass.{LibClass}
+use Rattle.app_machine.specs.declared.lists.FallbackWord.{FallbackWord}
+use Rattle.app_machine.specs.declared.lists.FallbackWord.TheVariants.{Blank, Joined, Mixed}
 use Rattle.office_forms.specs.declared.fault.Fault.{Fault}
 use Rattle.office_forms.specs.declared.fault.Fault.TheVariants.{Wrong, Range}
 use Rattle.office_forms.specs.declared.words.Section.TheVariants as section

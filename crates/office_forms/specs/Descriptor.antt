@@ -2,8 +2,8 @@
 -- Android documentation, Dalvik Executable format: "TypeDescriptor semantics", "proto_id_item".
 use Rattle.std.specs.Prelude.{ℕ, ◌+◌, ◌==◌, ◌&&◌, ◌||◌, not, nat_le, nat_lt, Bool, false, List, [], length, take, drop, slice_index, position, Option, Some, None, if◌then◌else◌}
 use Rattle.vet_base.specs.Script.{Script, Value, Test, ◌>>=◌, test, sweep}
-use Rattle.app_model.specs.Names.{Name}
-use Rattle.app_model.specs.declared.call.Proto.{Proto}
+use Rattle.app_machine.specs.Names.{Name}
+use Rattle.app_machine.specs.declared.call.Proto.{Proto}
 use Rattle.office_forms.specs.declared.fault.Fault.{Fault}
 use Rattle.office_forms.specs.declared.fault.Fault.TheVariants.{Range}
 use Rattle.office_forms.specs.declared.words.Section.{Section}

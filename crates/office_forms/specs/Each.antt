@@ -1,7 +1,7 @@
 -- One row after the other, each in the state that the rows before it left.
 use Rattle.std.specs.Prelude.{List, [], ◌∷◌, ◌++◌, is_none, is_some, if◌then◌else◌}
 use Rattle.vet_base.specs.Script.{Script, Value, ◌>>=◌, test}
-use Rattle.app_model.specs.Names.{Name, same_name}
+use Rattle.app_machine.specs.Names.{Name, same_name}
 use Rattle.office_forms.specs.declared.fault.Fault.{Fault}
 use Rattle.office_forms.specs.declared.fault.Fault.TheVariants.{Twice}
 use Rattle.office_forms.specs.Places.{place_of}

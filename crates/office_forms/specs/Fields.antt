@@ -4,7 +4,7 @@ use Rattle.std.specs.List.{list_any, list_all}
 use Rattle.std.specs.Str.{bytes_eq}
 use Rattle.toml.specs.Data.{Data, string, integer, table, Members, no_members, member, get_member}
 use Rattle.vet_base.specs.Script.{Script, Value, Test, ◌>>=◌, test, walk}
-use Rattle.app_model.specs.Names.{Name}
+use Rattle.app_machine.specs.Names.{Name}
 use Rattle.office_forms.specs.declared.fault.Fault.{Fault}
 use Rattle.office_forms.specs.declared.fault.Fault.TheVariants.{Missing, Wrong, Unknown, Range}
 use Rattle.office_forms.specs.declared.words.Section.{Section}

@@ -2,8 +2,8 @@
 use Rattle.std.specs.Prelude.{List, [], ◌++◌}
 use Rattle.toml.specs.Data.{Data, Members}
 use Rattle.vet_base.specs.Script.{Script, Value, ◌>>=◌, walk}
-use Rattle.app_model.specs.Names.{Name}
-use Rattle.app_model.specs.declared.papers.Layouts.{Layouts}
+use Rattle.app_machine.specs.Names.{Name}
+use Rattle.app_machine.specs.declared.papers.Layouts.{Layouts}
 use Rattle.office_forms.specs.declared.layouts.Found.{Found}
 use Rattle.office_forms.specs.declared.fault.Fault.{Fault}
 use Rattle.office_forms.specs.declared.words.Section.TheVariants as section

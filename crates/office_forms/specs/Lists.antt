@@ -2,8 +2,8 @@
 use Rattle.std.specs.Prelude.{◌==◌, ◌&&◌, nat_le, Bool, List, [], ◌∷◌, ◌++◌, length, map}
 use Rattle.toml.specs.Data.{Data, Members}
 use Rattle.vet_base.specs.Script.{Script, Value, ◌>>=◌, test}
-use Rattle.app_model.specs.Names.{Name}
-use Rattle.app_model.specs.declared.lists.Lists.{Lists}
+use Rattle.app_machine.specs.Names.{Name}
+use Rattle.app_machine.specs.declared.lists.Lists.{Lists}
 use Rattle.office_forms.specs.declared.fault.Fault.{Fault}
 use Rattle.office_forms.specs.declared.fault.Fault.TheVariants.{Range}
 use Rattle.office_forms.specs.declared.words.Section.TheVariants as section

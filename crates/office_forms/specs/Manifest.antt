@@ -4,10 +4,10 @@ use Rattle.std.specs.Prelude.{false, codes, List, [], Option, Some, None, if◌t
 use Rattle.std.specs.Str.{bytes_eq}
 use Rattle.toml.specs.Data.{Data, Members}
 use Rattle.vet_base.specs.Script.{Script, Value, Test, ◌>>=◌, walk}
-use Rattle.app_model.specs.Names.{Name}
-use Rattle.app_model.specs.declared.papers.Manifest.{Manifest}
-use Rattle.app_model.specs.declared.papers.Word.{Word}
-use Rattle.app_model.specs.declared.papers.Word.TheVariants.{Activity, Service, Receiver, Provider}
+use Rattle.app_machine.specs.Names.{Name}
+use Rattle.app_machine.specs.declared.papers.Manifest.{Manifest}
+use Rattle.app_machine.specs.declared.papers.Word.{Word}
+use Rattle.app_machine.specs.declared.papers.Word.TheVariants.{Activity, Service, Receiver, Provider}
 use Rattle.office_forms.specs.declared.fault.Fault.{Fault}
 use Rattle.office_forms.specs.declared.fault.Fault.TheVariants.{Missing, Wrong}
 use Rattle.office_forms.specs.declared.words.Section.TheVariants as section

@@ -3,11 +3,11 @@ use Rattle.std.specs.Prelude.{ℕ, ◌+◌, ◌==◌, not, Bool, true, false, co
 use Rattle.std.specs.Str.{bytes_eq}
 use Rattle.toml.specs.Data.{Data, Members}
 use Rattle.vet_base.specs.Script.{Script, Value, Test, ◌>>=◌, test}
-use Rattle.app_model.specs.Names.{Name, same_name}
-use Rattle.app_model.specs.declared.call.Proto.{Proto}
-use Rattle.app_model.specs.declared.summary.Gives.{Gives}
-use Rattle.app_model.specs.declared.summary.Gives.TheVariants as gives
-use Rattle.app_model.specs.declared.summary.Summary.{Summary}
+use Rattle.app_machine.specs.Names.{Name, same_name}
+use Rattle.app_machine.specs.declared.call.Proto.{Proto}
+use Rattle.app_machine.specs.declared.summary.Gives.{Gives}
+use Rattle.app_machine.specs.declared.summary.Gives.TheVariants as gives
+use Rattle.app_machine.specs.declared.summary.Summary.{Summary}
 use Rattle.office_forms.specs.declared.fault.Fault.{Fault}
 use Rattle.office_forms.specs.declared.fault.Fault.TheVariants.{Wrong, Range, Twice}
 use Rattle.office_forms.specs.declared.words.Section.{Section}

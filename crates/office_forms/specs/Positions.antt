@@ -3,7 +3,7 @@
 use Rattle.std.specs.Prelude.{ℕ, pos, ◌&&◌, ◌==◌, nat_lt, Bool, false, List, [], length, Option, Some, None, is_some, slice_get}
 use Rattle.toml.specs.Data.{Data, string, integer, boolean, Members}
 use Rattle.vet_base.specs.Script.{Script, Value, Test, ◌>>=◌, test, walk}
-use Rattle.app_model.specs.Names.{Name, same_name}
+use Rattle.app_machine.specs.Names.{Name, same_name}
 use Rattle.office_forms.specs.declared.fault.Fault.{Fault}
 use Rattle.office_forms.specs.declared.fault.Fault.TheVariants.{Wrong, Range}
 use Rattle.office_forms.specs.declared.words.Section.{Section}

@@ -1,7 +1,7 @@
 -- How the texts of the forms are spelled.
 use Rattle.std.specs.Prelude.{ℕ, ◌-◌, ◌==◌, ◌&&◌, ◌||◌, nat_le, Bool, true, length, slice_index}
 use Rattle.std.specs.List.{list_all}
-use Rattle.app_model.specs.Names.{Name}
+use Rattle.app_machine.specs.Names.{Name}
 use Rattle.office_forms.specs.declared.spelling.Spelling.{Spelling}
 use Rattle.office_forms.specs.declared.spelling.Spelling.TheVariants as spelling
 

@@ -1,6 +1,6 @@
 -- The tables of the forms, and the keys of each in the order in which they are tested.
 use Rattle.std.specs.Prelude.{codes, List, [], ◌∷◌, ◌++◌}
-use Rattle.app_model.specs.Names.{Name}
+use Rattle.app_machine.specs.Names.{Name}
 use Rattle.office_forms.specs.declared.words.Section.{Section}
 use Rattle.office_forms.specs.declared.words.Section.TheVariants as section
 use Rattle.office_forms.specs.declared.words.Key.{Key}

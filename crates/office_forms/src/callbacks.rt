@@ -13,7 +13,7 @@ use crate::signature::{MethodKey, count_of, proto_at};
 use crate::spelling::Spelling;
 use crate::tree::{items_in, known};
 use crate::{Fault, Key, Section};
-use app_model::Callback;
+use app_machine::Callback;
 use std::alloc::Global;
 use toml::{Table, Value};
 use vet_base::{Name, Seq, Stop};

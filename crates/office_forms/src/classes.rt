@@ -11,7 +11,7 @@ use crate::once::with_new;
 use crate::spelling::Spelling;
 use crate::tree::{known, value_at};
 use crate::{Fault, Key, Section};
-use app_model::{FallbackWord, LibClass};
+use app_machine::{FallbackWord, LibClass};
 use std::alloc::Global;
 use std::marker::Model;
 use toml::{Table, Value};
@@ -26,7 +26,7 @@ pub struct Classes {
 
 impl Model for Classes {
     ghost use Rattle.std.specs.Prelude.{◌≡◌, List, map};
-    ghost use Rattle.app_model.specs.declared.lists.LibClass.{LibClass};
+    ghost use Rattle.app_machine.specs.declared.lists.LibClass.{LibClass};
     ghost use Rattle.office_forms.specs.Classes.{class_name};
 
     ghost Value = { List LibClass };

@@ -4,7 +4,7 @@ ghost use Rattle.office_forms.specs.Descriptor.{is_primitive, first_semicolon, b
 ghost use Rattle.vet_base.specs.Script.{Gives};
 
 use crate::{Fault, Key, Section};
-use app_model::Proto;
+use app_machine::Proto;
 use std::alloc::Global;
 use vet_base::{Name, Seq, Stop};
 

@@ -8,7 +8,7 @@ use crate::fields::word_at;
 use crate::index::Index;
 use crate::positions::{has_key, listed_at, positions_at};
 use crate::{Fault, Key, Section};
-use app_model::Gives;
+use app_machine::Gives;
 use std::alloc::Global;
 use toml::Table;
 use vet_base::{Name, Seq, Stop};

@@ -2,7 +2,7 @@
 ghost use Rattle.std.specs.Prelude.{◌≡◌, ◌≢◌, ◌≤◌, ◌+◌, IsTrue, IfOk, IfErr, length, map};
 ghost use Rattle.office_forms.specs.Form.{IsForm, FirstFormFault};
 ghost use Rattle.office_forms.specs.Lists.{are_categories, categories_at, shared_row, shared_of, rows_of, rows_once, lists_form};
-ghost use Rattle.office_forms.specs.Sound.{SoundLists};
+ghost use Rattle.app_machine.specs.SoundLists.{SoundLists};
 ghost use Rattle.toml.specs.View.{table_view, view};
 ghost use Rattle.vet_base.specs.Script.{Gives};
 
@@ -17,7 +17,7 @@ use crate::spelling::Spelling;
 use crate::told::told_of;
 use crate::tree::{known, read_tree};
 use crate::{Fault, FormFault, Key, Section};
-use app_model::{LibClass, Lists};
+use app_machine::{LibClass, Lists};
 use std::alloc::Global;
 use toml::{Table, Value};
 use vet_base::{Name, Seq, Stop};

@@ -13,7 +13,7 @@ use crate::spelling::Spelling;
 use crate::told::told_of;
 use crate::tree::{known, read_tree};
 use crate::{Fault, FormFault, Key, Section};
-use app_model::{Manifest, Word};
+use app_machine::{Manifest, Word};
 use std::alloc::Global;
 use toml::{Table, Value};
 use vet_base::{Name, Seq, Stop};

@@ -13,7 +13,7 @@ use crate::signature::{MethodKey, Signature, count_of, proto_at};
 use crate::spelling::Spelling;
 use crate::tree::known;
 use crate::{Fault, Key, Section};
-use app_model::Summary;
+use app_machine::Summary;
 use std::alloc::Global;
 use toml::{Table, Value};
 use vet_base::{Name, Seq, Stop};

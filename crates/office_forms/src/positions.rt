@@ -3,7 +3,7 @@
 ghost use Rattle.std.specs.Prelude.{◌≡◌, ◌<◌, ◌≤◌, map, length, option_map, IfOk, IfSome};
 ghost use Rattle.office_forms.specs.Positions.{has_key, flag_at, position_of, items_at, position_row, position_rows, positions_at, pair_row, pair_rows, pairs_at, name_at, position_at, are_two, named_row, named_rows, named_at, listed_at};
 ghost use Rattle.office_forms.specs.Places.{place_of};
-ghost use Rattle.app_model.specs.Names.{same_name};
+ghost use Rattle.app_machine.specs.Names.{same_name};
 ghost use Rattle.toml.specs.View.{table_view, view};
 ghost use Rattle.vet_base.specs.Script.{Gives};
 

@@ -11,7 +11,7 @@ use crate::fields::text_at;
 use crate::index::Index;
 use crate::spelling::Spelling;
 use crate::{Fault, Key, Section};
-use app_model::Proto;
+use app_machine::Proto;
 use std::alloc::Global;
 use toml::Table;
 use vet_base::{Memory, Name, Stop};

@@ -3,20 +3,20 @@ use Rattle.std.proofs.Common.{◌≡◌, ◌==◌, ℕ, zero, suc, ◌-◌, ◌<
 use Rattle.std.specs.Prelude.{slice_get, find, flat_map, nat_lt, nat_le, if◌then◌else◌}
 use Rattle.std.proofs.lemmas.List.{get_or-replicate, length-replicate}
 use Rattle.std.proofs.lemmas.Bool.{and_parts, eqb-true, false≢true}
-use Rattle.app_model.specs.declared.app.App.{App}
-use Rattle.app_model.specs.declared.lists.Callback.{Callback}
-use Rattle.app_model.specs.declared.lists.Lists.{Lists}
-use Rattle.app_model.specs.declared.method.Method.{Method}
-use Rattle.app_model.specs.declared.method.Step.{Step}
-use Rattle.app_model.specs.Members.{In, IsAt}
-use Rattle.app_model.specs.Names.{Name, is_wide}
-use Rattle.app_model.specs.Lookups.{HasCode}
-use Rattle.app_model.specs.Summaries.{Below}
-use Rattle.app_model.specs.Heap.{Value, Object, blank, ClassAt}
-use Rattle.app_model.specs.State.{World, Frame, Component_state, result_register, value_or_blank, entered, new_object}
-use Rattle.app_model.specs.LifeEvents.{LifeEvent}
-use Rattle.app_model.specs.Events.{set_component, after_event, Comes, lives, is_born, calls_back, is_clicked, is_handed, layout, Parameter, is_blank, is_fresh, is_given, Parameters, no_more, one_more}
-use Rattle.app_model.specs.Run.{frame_of}
+use Rattle.app_machine.specs.declared.app.App.{App}
+use Rattle.app_machine.specs.declared.lists.Callback.{Callback}
+use Rattle.app_machine.specs.declared.lists.Lists.{Lists}
+use Rattle.app_machine.specs.declared.method.Method.{Method}
+use Rattle.app_machine.specs.declared.method.Step.{Step}
+use Rattle.vet_base.specs.Members.{In, IsAt}
+use Rattle.app_machine.specs.Names.{Name, is_wide}
+use Rattle.app_machine.specs.Lookups.{HasCode}
+use Rattle.app_machine.specs.Summaries.{Below}
+use Rattle.app_machine.specs.Heap.{Value, Object, blank, ClassAt}
+use Rattle.app_machine.specs.State.{World, Frame, Component_state, result_register, value_or_blank, entered, new_object}
+use Rattle.app_machine.specs.LifeEvents.{LifeEvent}
+use Rattle.app_machine.specs.Events.{set_component, after_event, Comes, lives, is_born, calls_back, is_clicked, is_handed, layout, Parameter, is_blank, is_fresh, is_given, Parameters, no_more, one_more}
+use Rattle.app_machine.specs.Run.{frame_of}
 use Rattle.straight_line.specs.Straight.{bundle_class, begin_at_zero, are_in_line, is_line}
 use Rattle.straight_line.specs.Flow.{found_along, unknown_at, findings, unknown}
 use Rattle.straight_line.proofs.Lines.{Parts, same-some, none-some}

@@ -4,25 +4,25 @@ use Rattle.std.specs.Prelude.{slice_get, nat_lt, if◌then◌else◌, option_map
 use Rattle.std.specs.Option.{option_and_then, option_map_or}
 use Rattle.std.proofs.lemmas.Bool.{and_parts, ltb-true, false≢true, true≢false, not-true, cond-true, cond-false}
 use Rattle.vet_base.specs.declared.key_id.KeyId.{KeyId}
-use Rattle.app_model.specs.declared.app.App.{App}
-use Rattle.app_model.specs.declared.app.Class.{Class}
-use Rattle.app_model.specs.declared.call.CallKind.{CallKind}
-use Rattle.app_model.specs.declared.call.CallKind.TheVariants.{Static}
-use Rattle.app_model.specs.declared.call.MethodRef.{MethodRef}
-use Rattle.app_model.specs.declared.lists.Lists.{Lists}
-use Rattle.app_model.specs.declared.lists.SummaryId.{SummaryId}
-use Rattle.app_model.specs.declared.method.Act.TheVariants.{Call}
-use Rattle.app_model.specs.declared.summary.Gives.{Gives}
-use Rattle.app_model.specs.declared.summary.Gives.TheVariants as gives
-use Rattle.app_model.specs.declared.summary.Summary.{Summary}
-use Rattle.app_model.specs.Members.{In, first_given}
-use Rattle.app_model.specs.Names.{Name, same_name, is_void}
-use Rattle.app_model.specs.Lookups.{Target, Library, body_or, ActAt, up, find_body, method_of, target, is_by_receiver, is_static_call, elem_key}
-use Rattle.app_model.specs.Summaries.{library_key, summary, Below}
-use Rattle.app_model.specs.Heap.{Value, Object, blank, labelled, add_all}
-use Rattle.app_model.specs.State.{Arrival, World, Frame, Component_state}
-use Rattle.app_model.specs.Calls.{Calls_to, by_name, by_nothing, by_class}
-use Rattle.app_model.specs.Library.{positions, first_registers, with_receiver, value_at, AtSink, shared_named, result_shared, Makes_shared, all_there, is_there, is_made, Joins, joined_object, Results, of_void, as_blank, as_same, as_taken, as_shared, as_labels, as_object, Adds, by_put, by_store, by_copy, Library_call, Uses_row}
+use Rattle.app_machine.specs.declared.app.App.{App}
+use Rattle.app_machine.specs.declared.app.Class.{Class}
+use Rattle.app_machine.specs.declared.call.CallKind.{CallKind}
+use Rattle.app_machine.specs.declared.call.CallKind.TheVariants.{Static}
+use Rattle.app_machine.specs.declared.call.MethodRef.{MethodRef}
+use Rattle.app_machine.specs.declared.lists.Lists.{Lists}
+use Rattle.app_machine.specs.declared.lists.SummaryId.{SummaryId}
+use Rattle.app_machine.specs.declared.method.Act.TheVariants.{Call}
+use Rattle.app_machine.specs.declared.summary.Gives.{Gives}
+use Rattle.app_machine.specs.declared.summary.Gives.TheVariants as gives
+use Rattle.app_machine.specs.declared.summary.Summary.{Summary}
+use Rattle.vet_base.specs.Members.{In, first_given}
+use Rattle.app_machine.specs.Names.{Name, same_name, is_void}
+use Rattle.app_machine.specs.Lookups.{Target, Library, body_or, ActAt, up, find_body, method_of, target, is_by_receiver, is_static_call, elem_key}
+use Rattle.app_machine.specs.Summaries.{library_key, summary, Below}
+use Rattle.app_machine.specs.Heap.{Value, Object, blank, labelled, add_all}
+use Rattle.app_machine.specs.State.{Arrival, World, Frame, Component_state}
+use Rattle.app_machine.specs.Calls.{Calls_to, by_name, by_nothing, by_class}
+use Rattle.app_machine.specs.Library.{positions, first_registers, with_receiver, value_at, AtSink, shared_named, result_shared, Makes_shared, all_there, is_there, is_made, Joins, joined_object, Results, of_void, as_blank, as_same, as_taken, as_shared, as_labels, as_object, Adds, by_put, by_store, by_copy, Library_call, Uses_row}
 use Rattle.straight_line.specs.Straight.{bundle_class, has_none, row_of_call, is_plain_result, is_plain_row, is_bundle, is_plain_call, is_plain_act, are_below}
 use Rattle.straight_line.specs.Flow.{label_at, label_of_position, arrival, arrivals_at, arrivals_in, source_of, sink_of, findings}
 use Rattle.straight_line.proofs.Lines.{Parts, empty-is, up-none, is_bundle-below}

@@ -2,24 +2,24 @@
 use Rattle.std.proofs.Common.{◌≡◌, ◌==◌, ℕ, ◌<◌, ◌≤◌, List, [], ◌∷◌, length, map, Bool, true, false, cond, inl, Option, Some, None, refl, ap, sym, ◌∙◌, subst, arith}
 use Rattle.std.specs.Prelude.{is_none, nat_lt, filter_map}
 use Rattle.std.proofs.lemmas.Bool.{and_parts, ltb-true, ne_eqb, false≢true}
-use Rattle.app_model.specs.declared.app.App.{App}
-use Rattle.app_model.specs.declared.app.Class.{Class}
-use Rattle.app_model.specs.declared.call.CallKind.{CallKind}
-use Rattle.app_model.specs.declared.call.CallKind.TheVariants.{Virtual, Super, Direct, Static, Interface}
-use Rattle.app_model.specs.declared.call.MethodRef.{MethodRef}
-use Rattle.app_model.specs.declared.lists.Lists.{Lists}
-use Rattle.app_model.specs.declared.method.Method.{Method}
-use Rattle.app_model.specs.declared.method.Act.{Act}
-use Rattle.app_model.specs.declared.method.Act.TheVariants.{Skip, Join, Move, Blank, New, Fill, Get, Put, GetStatic, PutStatic, Call, Return, Throw, TakeResult, TakeException, Go}
-use Rattle.app_model.specs.Members.{In}
-use Rattle.app_model.specs.Lookups.{Body, Library, ActAt, Goes, Initialises, initialisers, initialisers_from, initialiser_of, class_initialised}
-use Rattle.app_model.specs.Heap.{Value, Object, blank}
-use Rattle.app_model.specs.State.{Arrival, World, Frame, value_or_blank, write, write_all, holds, object_at, result_register}
-use Rattle.app_model.specs.Calls.{Calls_to, returned, hand}
-use Rattle.app_model.specs.Events.{layout, labels_at, Parameters}
-use Rattle.app_model.specs.Local.{Local, skips, goes, blanks, moves, takes_result, takes_exception, joins, makes, fills, gets, puts, gets_static, puts_static}
-use Rattle.app_model.specs.Run.{Steps, goes_on, raises, throws, calls, calls_library, library_raises, initialises, ends, passes, begins, begins_initialiser, Run, starts, then}
-use Rattle.app_model.specs.Safe.{Stands, native_call, without_row, at_reflection, native_initialiser, native_event, native_class}
+use Rattle.app_machine.specs.declared.app.App.{App}
+use Rattle.app_machine.specs.declared.app.Class.{Class}
+use Rattle.app_machine.specs.declared.call.CallKind.{CallKind}
+use Rattle.app_machine.specs.declared.call.CallKind.TheVariants.{Virtual, Super, Direct, Static, Interface}
+use Rattle.app_machine.specs.declared.call.MethodRef.{MethodRef}
+use Rattle.app_machine.specs.declared.lists.Lists.{Lists}
+use Rattle.app_machine.specs.declared.method.Method.{Method}
+use Rattle.app_machine.specs.declared.method.Act.{Act}
+use Rattle.app_machine.specs.declared.method.Act.TheVariants.{Skip, Join, Move, Blank, New, Fill, Get, Put, GetStatic, PutStatic, Call, Return, Throw, TakeResult, TakeException, Go}
+use Rattle.vet_base.specs.Members.{In}
+use Rattle.app_machine.specs.Lookups.{Body, Library, ActAt, Goes, Initialises, initialisers, initialisers_from, initialiser_of, class_initialised}
+use Rattle.app_machine.specs.Heap.{Value, Object, blank}
+use Rattle.app_machine.specs.State.{Arrival, World, Frame, value_or_blank, write, write_all, holds, object_at, result_register}
+use Rattle.app_machine.specs.Calls.{Calls_to, returned, hand}
+use Rattle.app_machine.specs.Events.{layout, labels_at, Parameters}
+use Rattle.app_machine.specs.Local.{Local, skips, goes, blanks, moves, takes_result, takes_exception, joins, makes, fills, gets, puts, gets_static, puts_static}
+use Rattle.app_machine.specs.Run.{Steps, goes_on, raises, throws, calls, calls_library, library_raises, initialises, ends, passes, begins, begins_initialiser, Run, starts, then}
+use Rattle.app_machine.specs.Safe.{Stands, native_call, without_row, at_reflection, native_initialiser, native_event, native_class}
 use Rattle.straight_line.specs.Straight.{IsStraight, bundle_class, is_plain_act, is_return_void, are_below}
 use Rattle.straight_line.specs.Flow.{label_at, written, registers_after, result_after, findings, unknown}
 use Rattle.straight_line.specs.Coverage.{StandsListed, CoversRuns, SafeIfDeclared}

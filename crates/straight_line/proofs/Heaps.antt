@@ -1,13 +1,13 @@
 -- Heaps whose entries hold no places, and values whose label is known in them.
 use Rattle.std.proofs.Common.{◌≡◌, ℕ, zero, suc, ◌<◌, List, [], ◌∷◌, ◌++◌, length, ◌⊎◌, inl, inr, Option, Some, None, refl, ap, sym, ◌∙◌, subst, arith}
 use Rattle.vet_base.specs.declared.key_id.KeyId.{KeyId}
-use Rattle.app_model.specs.declared.app.App.{App}
-use Rattle.app_model.specs.declared.lists.Lists.{Lists}
-use Rattle.app_model.specs.Members.{In}
-use Rattle.app_model.specs.Names.{Name}
-use Rattle.app_model.specs.Summaries.{Below}
-use Rattle.app_model.specs.Heap.{Value, Object, blank, labelled, EntryAt, ClassAt, Reaches}
-use Rattle.app_model.specs.State.{object_at}
+use Rattle.app_machine.specs.declared.app.App.{App}
+use Rattle.app_machine.specs.declared.lists.Lists.{Lists}
+use Rattle.vet_base.specs.Members.{In}
+use Rattle.app_machine.specs.Names.{Name}
+use Rattle.app_machine.specs.Summaries.{Below}
+use Rattle.app_machine.specs.Heap.{Value, Object, blank, labelled, EntryAt, ClassAt, Reaches}
+use Rattle.app_machine.specs.State.{object_at}
 use Rattle.straight_line.specs.Straight.{bundle_class}
 use Rattle.straight_line.proofs.Lines.{none-some, same-some}
 

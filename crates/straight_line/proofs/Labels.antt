@@ -4,11 +4,11 @@ use Rattle.std.specs.Prelude.{slice_get, slice_set, nat_lt, filter_map, drop, if
 use Rattle.std.specs.List.{list_all, cons_option}
 use Rattle.std.proofs.lemmas.List.{get_or-set_same, get_or-set_other, length-set}
 use Rattle.std.proofs.lemmas.Bool.{and_parts, ltb-true, eqb-true, eqb-false, ne_eqb, cond-true, cond-false}
-use Rattle.app_model.specs.Members.{In}
-use Rattle.app_model.specs.Names.{Name, is_wide}
-use Rattle.app_model.specs.Heap.{Value, Object}
-use Rattle.app_model.specs.State.{holds, write_all}
-use Rattle.app_model.specs.Library.{first_registers}
+use Rattle.vet_base.specs.Members.{In}
+use Rattle.app_machine.specs.Names.{Name, is_wide}
+use Rattle.app_machine.specs.Heap.{Value, Object}
+use Rattle.app_machine.specs.State.{holds, write_all}
+use Rattle.app_machine.specs.Library.{first_registers}
 use Rattle.straight_line.specs.Straight.{are_below}
 use Rattle.straight_line.specs.Flow.{label_at, written}
 use Rattle.straight_line.proofs.Heaps.{Fits}

@@ -4,15 +4,15 @@ use Rattle.std.specs.Prelude.{IsTrue, find, codes, nat_le}
 use Rattle.std.specs.List.{list_any}
 use Rattle.std.proofs.lemmas.Bool.{and_parts, and_from, leb-true, or_left, or_right, or_cases, not-true, eqb-true, false≢true, cond-true, cond-false}
 use Rattle.std.proofs.lemmas.Slice.Eq.{bytes_eq-Decides}
-use Rattle.app_model.specs.declared.app.App.{App}
-use Rattle.app_model.specs.declared.app.Class.{Class}
-use Rattle.app_model.specs.declared.component.Component.{Component}
-use Rattle.app_model.specs.declared.method.Method.{Method}
-use Rattle.app_model.specs.declared.lists.Lists.{Lists}
-use Rattle.app_model.specs.Names.{Name, same_name, same_names, object_class}
-use Rattle.app_model.specs.Members.{In}
-use Rattle.app_model.specs.Lookups.{class_named, directly_above, up_within, up}
-use Rattle.app_model.specs.Summaries.{listed_above, Below, is_same, is_object, is_through, is_listed}
+use Rattle.app_machine.specs.declared.app.App.{App}
+use Rattle.app_machine.specs.declared.app.Class.{Class}
+use Rattle.app_machine.specs.declared.component.Component.{Component}
+use Rattle.app_machine.specs.declared.method.Method.{Method}
+use Rattle.app_machine.specs.declared.lists.Lists.{Lists}
+use Rattle.app_machine.specs.Names.{Name, same_name, same_names, object_class}
+use Rattle.vet_base.specs.Members.{In}
+use Rattle.app_machine.specs.Lookups.{class_named, directly_above, up_within, up}
+use Rattle.app_machine.specs.Summaries.{listed_above, Below, is_same, is_object, is_through, is_listed}
 use Rattle.straight_line.specs.Straight.{bundle_class, only, has_none, is_straight, IsStraight, are_straight_parts, is_on_create, is_line, is_activity, is_bundle, is_listed_bundle}
 
 -- a test of equality on names that is passed

@@ -2,18 +2,18 @@
 use Rattle.std.proofs.Common.{◌≡◌, ◌==◌, ℕ, zero, suc, ◌<◌, ◌≤◌, List, [], ◌∷◌, length, true, false, inl, inr, Option, Some, None, refl, ap, sym, ◌∙◌, subst, arith}
 use Rattle.std.specs.Prelude.{slice_get, find, flat_map, nat_lt}
 use Rattle.std.proofs.lemmas.Bool.{and_parts, ltb-true, eqb-true, eq-eqb, ne_eqb, false≢true, cond-true, cond-false}
-use Rattle.app_model.specs.declared.app.App.{App}
-use Rattle.app_model.specs.declared.call.CallKind.{CallKind}
-use Rattle.app_model.specs.declared.call.CallKind.TheVariants.{Virtual, Super, Direct, Static, Interface}
-use Rattle.app_model.specs.declared.lists.Lists.{Lists}
-use Rattle.app_model.specs.declared.method.Method.{Method}
-use Rattle.app_model.specs.declared.method.Step.{Step}
-use Rattle.app_model.specs.declared.method.Act.{Act}
-use Rattle.app_model.specs.Members.{In}
-use Rattle.app_model.specs.Lookups.{step_at, ActAt, Goes, HasCode, IsNative, is_static_call}
-use Rattle.app_model.specs.Heap.{Value, Object}
-use Rattle.app_model.specs.State.{Arrival, World, Frame, result_register}
-use Rattle.app_model.specs.Calls.{Raises, is_caught, unwinds, ends_event}
+use Rattle.app_machine.specs.declared.app.App.{App}
+use Rattle.app_machine.specs.declared.call.CallKind.{CallKind}
+use Rattle.app_machine.specs.declared.call.CallKind.TheVariants.{Virtual, Super, Direct, Static, Interface}
+use Rattle.app_machine.specs.declared.lists.Lists.{Lists}
+use Rattle.app_machine.specs.declared.method.Method.{Method}
+use Rattle.app_machine.specs.declared.method.Step.{Step}
+use Rattle.app_machine.specs.declared.method.Act.{Act}
+use Rattle.vet_base.specs.Members.{In}
+use Rattle.app_machine.specs.Lookups.{step_at, ActAt, Goes, HasCode, IsNative, is_static_call}
+use Rattle.app_machine.specs.Heap.{Value, Object}
+use Rattle.app_machine.specs.State.{Arrival, World, Frame, result_register}
+use Rattle.app_machine.specs.Calls.{Raises, is_caught, unwinds, ends_event}
 use Rattle.straight_line.specs.Straight.{has_none, head, is_plain_act, is_return_void, goes_only_to, is_in_line, are_in_line}
 use Rattle.straight_line.specs.Flow.{label_at, registers_after, result_after, found_at, found_along, unknown_at, findings, unknown}
 use Rattle.straight_line.proofs.Lines.{Parts, IsEntry, entry_of, same-some, none-some, empty-is}

@@ -1,12 +1,12 @@
 -- What the flow says of the app's runs.
 use Rattle.std.specs.Prelude.{◌≡◌, ℕ, List, []}
-use Rattle.app_model.specs.declared.lists.Lists.{Lists}
-use Rattle.app_model.specs.declared.papers.Declaration.{Declaration}
-use Rattle.app_model.specs.declared.app.App.{App}
-use Rattle.app_model.specs.Members.{In}
-use Rattle.app_model.specs.State.{Arrival, World, Frame}
-use Rattle.app_model.specs.Run.{Run}
-use Rattle.app_model.specs.Safe.{no_summary, Stands, Declared, Safe}
+use Rattle.app_machine.specs.declared.lists.Lists.{Lists}
+use Rattle.app_machine.specs.declared.papers.Declaration.{Declaration}
+use Rattle.app_machine.specs.declared.app.App.{App}
+use Rattle.vet_base.specs.Members.{In}
+use Rattle.app_machine.specs.State.{Arrival, World, Frame}
+use Rattle.app_machine.specs.Run.{Run}
+use Rattle.app_machine.specs.Safe.{no_summary, Stands, Declared, Safe}
 
 -- the machine stands at a listed pc of the app's first method, for want of a row
 pub record StandsListed (unknown : List ℕ) (method pc cause : ℕ) : Type 0 where

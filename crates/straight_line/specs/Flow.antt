@@ -1,16 +1,16 @@
 -- The flow of labels along a straight line. Nothing is joined there, so that a register holds one label at most.
 use Rattle.std.specs.Prelude.{ℕ, true, if◌then◌else◌, List, [], ◌∷◌, ◌++◌, replicate, Option, Some, None, option_map, is_none, slice_get, slice_index_or, slice_set, filter_map, flat_map}
 use Rattle.std.specs.Option.{option_and_then}
-use Rattle.app_model.specs.declared.call.MethodRef.{MethodRef}
-use Rattle.app_model.specs.declared.method.Step.{Step}
-use Rattle.app_model.specs.declared.method.Act.{Act}
-use Rattle.app_model.specs.declared.method.Act.TheVariants.{Move, Blank, Call, TakeResult}
-use Rattle.app_model.specs.declared.lists.Lists.{Lists}
-use Rattle.app_model.specs.declared.app.App.{App}
-use Rattle.app_model.specs.Names.{is_void}
-use Rattle.app_model.specs.Summaries.{library_key}
-use Rattle.app_model.specs.Library.{first_registers}
-use Rattle.app_model.specs.State.{Arrival}
+use Rattle.app_machine.specs.declared.call.MethodRef.{MethodRef}
+use Rattle.app_machine.specs.declared.method.Step.{Step}
+use Rattle.app_machine.specs.declared.method.Act.{Act}
+use Rattle.app_machine.specs.declared.method.Act.TheVariants.{Move, Blank, Call, TakeResult}
+use Rattle.app_machine.specs.declared.lists.Lists.{Lists}
+use Rattle.app_machine.specs.declared.app.App.{App}
+use Rattle.app_machine.specs.Names.{is_void}
+use Rattle.app_machine.specs.Summaries.{library_key}
+use Rattle.app_machine.specs.Library.{first_registers}
+use Rattle.app_machine.specs.State.{Arrival}
 use Rattle.straight_line.specs.Straight.{row_of_call}
 
 -- the label that a register holds

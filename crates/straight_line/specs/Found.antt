@@ -1,6 +1,6 @@
 -- Findings as the arrivals that they stand for.
 use Rattle.std.specs.Prelude.{List, map}
-use Rattle.app_model.specs.State.{Arrival}
+use Rattle.app_machine.specs.State.{Arrival}
 use Rattle.straight_line.specs.declared.flow.Finding.{Finding}
 
 -- a finding is an arrival in the app's first method

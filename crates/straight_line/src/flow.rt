@@ -1,10 +1,10 @@
 ghost use Rattle.std.specs.Prelude.{◌≡◌, ◌++◌, true, IfOk, OnOk, drop, is_none, replicate};
 ghost use Rattle.std.specs.Option.{option_copied};
-ghost use Rattle.app_model.specs.Sound.{SoundApp};
-ghost use Rattle.app_model.specs.LibraryWalk.{NumberedLists};
-ghost use Rattle.app_model.specs.Library.{first_registers};
-ghost use Rattle.app_model.specs.Names.{is_void, is_wide};
-ghost use Rattle.app_model.specs.Summaries.{library_key};
+ghost use Rattle.app_machine.specs.Sound.{SoundApp};
+ghost use Rattle.app_machine.specs.SoundLists.{SoundLists};
+ghost use Rattle.app_machine.specs.Library.{first_registers};
+ghost use Rattle.app_machine.specs.Names.{is_void, is_wide};
+ghost use Rattle.app_machine.specs.Summaries.{library_key};
 ghost use Rattle.straight_line.specs.Coverage.{CoversRuns, SafeIfDeclared};
 ghost use Rattle.straight_line.specs.Flow.{arrivals_at, findings, found_along, found_at, label_at, label_of_position, registers_after, result_after, sink_of, source_of, unknown, unknown_along, unknown_at, written};
 ghost use Rattle.straight_line.specs.Found.{arrivals_of};
@@ -38,7 +38,7 @@ pub struct Flow {
 pub fn flow_of(alloc: Global, app: &App, lists: &Lists) -> Result<Flow, Memory>
     requires straight { IsStraight app.now lists.now }
     requires sound { SoundApp app.now }
-    requires numbered { NumberedLists lists.now }
+    requires lists { SoundLists lists.now }
     ensures findings { IfOk result (λ f. arrivals_of f.findings ≡ findings app.now lists.now) }
     ensures unknown { IfOk result (λ f. f.unknown ≡ unknown app.now lists.now) }
     ensures covers { IfOk result (λ f. CoversRuns app.now lists.now (arrivals_of f.findings) f.unknown) }
@@ -51,7 +51,7 @@ pub fn flow_of(alloc: Global, app: &App, lists: &Lists) -> Result<Flow, Memory>
 #[tactic(auto, unfolding(crate::specs::Flow::findings, crate::specs::Flow::unknown))]
 fn flow_of_first(alloc: Global, app: &App, lists: &Lists) -> Result<Flow, Memory>
     requires sound { SoundApp app.now }
-    requires numbered { NumberedLists lists.now }
+    requires lists { SoundLists lists.now }
     ensures findings { IfOk result (λ f. arrivals_of f.findings ≡ findings app.now lists.now) }
     ensures unknown { IfOk result (λ f. f.unknown ≡ unknown app.now lists.now) }
 {
@@ -67,7 +67,7 @@ fn flow_of_first(alloc: Global, app: &App, lists: &Lists) -> Result<Flow, Memory
 /// The flow along the method's steps. At its beginning no register holds a label.
 fn flow_along(alloc: Global, app: &App, lists: &Lists, method: &Method) -> Result<Flow, Memory>
     requires sound { SoundApp app.now }
-    requires numbered { NumberedLists lists.now }
+    requires lists { SoundLists lists.now }
     ensures findings { IfOk result (λ f. arrivals_of f.findings ≡ found_along app.now lists.now (replicate method.now.registers None) None method.now.steps) }
     ensures unknown { IfOk result (λ f. f.unknown ≡ unknown_along app.now lists.now method.now.steps) }
 {
@@ -96,7 +96,7 @@ fn find_arrivals(
     findings: &mut Seq<Finding>,
 ) -> Result<(), Memory>
     requires sound { SoundApp app.now }
-    requires numbered { NumberedLists lists.now }
+    requires lists { SoundLists lists.now }
     ensures { OnOk result (arrivals_of findings.new ≡ arrivals_of findings.old ++ found_at app.now lists.now registers.now step.now.pc step.now.act) }
 {
     match &step.act {
@@ -136,7 +136,7 @@ fn add_arrivals(
 /// Adds the step's address where it is a call of which the lists say nothing.
 fn find_unknown(app: &App, lists: &Lists, step: &Step, unknown: &mut Seq<u32>) -> Result<(), Memory>
     requires sound { SoundApp app.now }
-    requires numbered { NumberedLists lists.now }
+    requires lists { SoundLists lists.now }
     ensures { OnOk result (unknown.new ≡ unknown.old ++ unknown_at app.now lists.now step.now.pc step.now.act) }
 {
     match &step.act {
@@ -147,7 +147,7 @@ fn find_unknown(app: &App, lists: &Lists, step: &Step, unknown: &mut Seq<u32>) -
 
 fn is_unlisted(app: &App, lists: &Lists, at: &MethodRef) -> bool
     requires sound { SoundApp app.now }
-    requires numbered { NumberedLists lists.now }
+    requires lists { SoundLists lists.now }
     ensures { result ≡ is_none (library_key app.now lists.now at.now.class at.now.name at.now.proto true) }
 {
     library_key(app, lists, &at.class, &at.name, &at.proto, true).is_none()
@@ -171,7 +171,7 @@ fn write_labels(registers: &mut [Option<u8>], last: Option<u8>, act: &Act)
 /// The label of the last call's result after the act.
 fn last_after(app: &App, lists: &Lists, last: Option<u8>, act: &Act) -> Option<u8>
     requires sound { SoundApp app.now }
-    requires numbered { NumberedLists lists.now }
+    requires lists { SoundLists lists.now }
     ensures { result ≡ result_after app.now lists.now last act.now }
 {
     match act {
@@ -245,14 +245,14 @@ fn without_first(registers: &[u32]) -> &[u32]
     }
 }
 
-#[tactic(auto, unfolding(app_model::specs::Names::is_wide))]
+#[tactic(auto, unfolding(app_machine::specs::Names::is_wide))]
 fn is_wide(kind: &Name) -> bool
     ensures { result ≡ is_wide kind.now }
 {
     kind.as_bytes() == b"J".as_slice() || kind.as_bytes() == b"D".as_slice()
 }
 
-#[tactic(auto, unfolding(app_model::specs::Names::is_void))]
+#[tactic(auto, unfolding(app_machine::specs::Names::is_void))]
 fn is_void(kind: &Name) -> bool
     ensures { result ≡ is_void kind.now }
 {
@@ -263,7 +263,7 @@ fn is_void(kind: &Name) -> bool
 #[tactic(auto, unfolding(crate::specs::Flow::source_of))]
 fn source_of(app: &App, lists: &Lists, at: &MethodRef) -> Option<u8>
     requires sound { SoundApp app.now }
-    requires numbered { NumberedLists lists.now }
+    requires lists { SoundLists lists.now }
     ensures { result ≡ source_of app.now lists.now at.now }
 {
     if is_void(&at.proto.ret) {
@@ -279,7 +279,7 @@ fn source_of(app: &App, lists: &Lists, at: &MethodRef) -> Option<u8>
 #[tactic(auto, unfolding(crate::specs::Flow::sink_of))]
 fn sink_of<'a>(app: &App, lists: &'a Lists, at: &MethodRef) -> Option<&'a (u8, Seq<u32>)>
     requires sound { SoundApp app.now }
-    requires numbered { NumberedLists lists.now }
+    requires lists { SoundLists lists.now }
     ensures { option_copied result ≡ sink_of app.now lists.now at.now }
 {
     match row_of_call(app, lists, at) {

@@ -1,11 +1,12 @@
 ghost use Rattle.std.specs.Prelude.{◌≡◌, [], ◌∷◌, true, option_map};
 ghost use Rattle.std.specs.List.{list_any};
 ghost use Rattle.std.specs.Option.{option_copied, option_map_or};
-ghost use Rattle.app_model.specs.Lookups.{directly_above};
-ghost use Rattle.app_model.specs.Names.{same_name, same_names};
-ghost use Rattle.app_model.specs.Sound.{SoundApp};
-ghost use Rattle.app_model.specs.LibraryWalk.{NumberedLists, shown_summary};
-ghost use Rattle.app_model.specs.Summaries.{listed_class};
+ghost use Rattle.app_machine.specs.Lookups.{directly_above};
+ghost use Rattle.app_machine.specs.Names.{same_name, same_names};
+ghost use Rattle.app_machine.specs.Sound.{SoundApp};
+ghost use Rattle.app_machine.specs.SoundLists.{SoundLists};
+ghost use Rattle.app_model.specs.LibraryWalk.{shown_summary};
+ghost use Rattle.app_machine.specs.Summaries.{listed_class};
 ghost use Rattle.straight_line.specs.Straight.{are_below, are_in_line, begin_at_zero, bundle_class, goes_only_to, head, is_activity, is_bundle, is_in_line, is_line, is_listed_bundle, is_on_create, is_plain_act, is_plain_call, is_plain_result, is_plain_row, is_return_void, is_straight, only, row_of_call};
 
 use app_model::{
@@ -23,7 +24,7 @@ use vet_base::Name;
 #[tactic(auto, unfolding(crate::specs::Straight::is_straight))]
 pub fn is_straight(app: &App, lists: &Lists) -> bool
     requires sound { SoundApp app.now }
-    requires numbered { NumberedLists lists.now }
+    requires lists { SoundLists lists.now }
     ensures { result ≡ is_straight app.now lists.now }
 {
     if !lists.callbacks.is_empty() {
@@ -95,7 +96,7 @@ fn is_activity(class: &Class, component: &Component) -> bool
 #[tactic(auto, unfolding(crate::specs::Straight::is_line))]
 fn is_line(app: &App, lists: &Lists, class: &Class, method: &Method) -> bool
     requires sound { SoundApp app.now }
-    requires numbered { NumberedLists lists.now }
+    requires lists { SoundLists lists.now }
     ensures { result ≡ is_line app.now lists.now class.now method.now }
 {
     let steps = method.steps.as_slice();
@@ -113,7 +114,7 @@ fn begin_at_zero(steps: &[Step]) -> bool
 
 fn are_in_line(app: &App, lists: &Lists, class: &Class, registers: u32, steps: &[Step]) -> bool
     requires sound { SoundApp app.now }
-    requires numbered { NumberedLists lists.now }
+    requires lists { SoundLists lists.now }
     ensures { result ≡ are_in_line app.now lists.now class.now registers steps.now }
 {
     let mut rest = steps;
@@ -136,7 +137,7 @@ fn is_in_line(
     following: Option<&Step>,
 ) -> bool
     requires sound { SoundApp app.now }
-    requires numbered { NumberedLists lists.now }
+    requires lists { SoundLists lists.now }
     ensures { result ≡ is_in_line app.now lists.now class.now registers step.now (option_copied following.entry) }
 {
     match following {
@@ -168,7 +169,7 @@ fn goes_only_to(pc: u32, next: &[u32]) -> bool
 /// Whether an instruction before the last may do this, in a method with so many registers.
 fn is_plain_act(app: &App, lists: &Lists, class: &Class, registers: u32, act: &Act) -> bool
     requires sound { SoundApp app.now }
-    requires numbered { NumberedLists lists.now }
+    requires lists { SoundLists lists.now }
     ensures { result ≡ is_plain_act app.now lists.now class.now registers act.now }
 {
     match act {
@@ -195,7 +196,7 @@ fn are_below(limit: u32, registers: &[u32]) -> bool
 #[tactic(auto, unfolding(crate::specs::Straight::is_plain_call))]
 fn is_plain_call(app: &App, lists: &Lists, class: &Class, at: &MethodRef) -> bool
     requires sound { SoundApp app.now }
-    requires numbered { NumberedLists lists.now }
+    requires lists { SoundLists lists.now }
     ensures { result ≡ is_plain_call app.now lists.now class.now at.now }
 {
     at.class != class.name
@@ -206,7 +207,7 @@ fn is_plain_call(app: &App, lists: &Lists, class: &Class, at: &MethodRef) -> boo
 #[tactic(auto, unfolding(crate::specs::Straight::is_plain_row))]
 fn has_plain_row(app: &App, lists: &Lists, at: &MethodRef) -> bool
     requires sound { SoundApp app.now }
-    requires numbered { NumberedLists lists.now }
+    requires lists { SoundLists lists.now }
     ensures { result ≡ option_map_or is_plain_row (row_of_call app.now lists.now at.now) true }
 {
     match row_of_call(app, lists, at) {
@@ -224,7 +225,7 @@ pub(crate) fn row_of_call<'a>(
     at: &MethodRef,
 ) -> Option<SummaryView<'a>>
     requires sound { SoundApp app.now }
-    requires numbered { NumberedLists lists.now }
+    requires lists { SoundLists lists.now }
     ensures { option_map (λ v. shown_summary v at.now true) result ≡ row_of_call app.now lists.now at.now }
 {
     match library_key(app, lists, &at.class, &at.name, &at.proto, true) {
@@ -282,7 +283,7 @@ fn any_listed_bundle(lists: &Lists, names: &[Name]) -> bool
 }
 
 /// Whether the type is `Bundle` or a listed class below it.
-#[tactic(auto, unfolding(crate::specs::Straight::is_listed_bundle, app_model::specs::Summaries::listed_above))]
+#[tactic(auto, unfolding(crate::specs::Straight::is_listed_bundle, app_machine::specs::Summaries::listed_above))]
 fn is_listed_bundle(lists: &Lists, kind: &Name) -> bool
     ensures { result ≡ is_listed_bundle lists.now kind.now }
 {
@@ -302,7 +303,7 @@ fn any_bundle_class(names: &[Name]) -> bool
 }
 
 /// The listed class of this name.
-#[tactic(auto, unfolding(app_model::specs::Summaries::listed_class))]
+#[tactic(auto, unfolding(app_machine::specs::Summaries::listed_class))]
 fn listed<'a>(lists: &'a Lists, name: &Name) -> Option<&'a LibClass>
     ensures { option_copied result ≡ listed_class lists.now name.now }
 {

@@ -8,16 +8,16 @@ use Rattle.std.specs.Ordering.{nat_cmp, ordering_then}
 use Rattle.std.specs.declared.cmp.Ordering.{Ordering}
 use Rattle.std.specs.declared.cmp.Ordering.TheVariants.{Less, Equal, Greater}
 use Rattle.std.proofs.lemmas.Cmp.{tied_itself}
-use Rattle.app_model.specs.declared.app.App.{App}
-use Rattle.app_model.specs.declared.call.MethodRef.{MethodRef}
-use Rattle.app_model.specs.declared.lists.Lists.{Lists}
-use Rattle.app_model.specs.declared.method.Method.{Method}
-use Rattle.app_model.specs.declared.papers.Declaration.{Declaration}
-use Rattle.app_model.specs.Members.{In}
-use Rattle.app_model.specs.Names.{Name, same_name, descriptor_of}
-use Rattle.app_model.specs.Safe.{Declared}
-use Rattle.app_model.specs.Sound.{name_order}
-use Rattle.app_model.specs.State.{Arrival}
+use Rattle.app_machine.specs.declared.app.App.{App}
+use Rattle.app_machine.specs.declared.call.MethodRef.{MethodRef}
+use Rattle.app_machine.specs.declared.lists.Lists.{Lists}
+use Rattle.app_machine.specs.declared.method.Method.{Method}
+use Rattle.app_machine.specs.declared.papers.Declaration.{Declaration}
+use Rattle.vet_base.specs.Members.{In}
+use Rattle.app_machine.specs.Names.{Name, same_name, descriptor_of}
+use Rattle.app_machine.specs.Safe.{Declared}
+use Rattle.app_machine.specs.Sound.{name_order}
+use Rattle.app_machine.specs.State.{Arrival}
 use Rattle.app_model.proofs.NameOrder.{same_equal}
 use Rattle.app_model.proofs.Elements.{one_passes}
 use Rattle.straight_line.specs.declared.flow.Finding.{Finding as Flowed}

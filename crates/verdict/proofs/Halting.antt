@@ -14,11 +14,11 @@ use Rattle.app_link.specs.declared.linking.LinkFault.TheVariants as link_fault
 use Rattle.app_link.specs.FirstLinkFault.{FirstLinkFault}
 use Rattle.app_link.specs.IsApp.{IsApp}
 use Rattle.app_link.specs.OneAnswer.{OnlyApp}
-use Rattle.app_model.specs.declared.app.App.{App}
-use Rattle.app_model.specs.declared.lists.Lists.{Lists}
-use Rattle.app_model.specs.declared.papers.Manifest.{Manifest}
-use Rattle.app_model.specs.declared.papers.Layouts.{Layouts}
-use Rattle.app_model.specs.declared.papers.Declaration.{Declaration}
+use Rattle.app_machine.specs.declared.app.App.{App}
+use Rattle.app_machine.specs.declared.lists.Lists.{Lists}
+use Rattle.app_machine.specs.declared.papers.Manifest.{Manifest}
+use Rattle.app_machine.specs.declared.papers.Layouts.{Layouts}
+use Rattle.app_machine.specs.declared.papers.Declaration.{Declaration}
 use Rattle.office_forms.specs.declared.told.FormFault.{FormFault}
 use Rattle.office_forms.specs.declared.told.FormFault.TheVariants as told
 use Rattle.office_forms.specs.Form.{IsForm, FirstFormFault}
@@ -26,8 +26,7 @@ use Rattle.office_forms.specs.Manifest.{manifest_form}
 use Rattle.office_forms.specs.Layouts.{layouts_form}
 use Rattle.office_forms.specs.Declaration.{declaration_form}
 use Rattle.office_forms.specs.Lists.{lists_form}
-use Rattle.office_forms.specs.Sound.{SoundManifest, SoundLayouts, SoundLists}
-use Rattle.app_model.specs.LibraryWalk.{NumberedLists}
+use Rattle.office_forms.specs.Sound.{SoundManifest, SoundLayouts}
 use Rattle.straight_line.specs.Straight.{is_straight}
 use Rattle.verdict.specs.declared.outcome.Part.TheVariants as part
 use Rattle.verdict.specs.declared.outcome.Reason.TheVariants as reason
@@ -38,13 +37,6 @@ use Rattle.verdict.specs.Halts.{Halts, HaltsForm, HaltsFault, HaltsLink}
 use Rattle.verdict.specs.OneVerdict.{RefusesOnly}
 use Rattle.verdict.specs.Refuses.{HasManifest, HasPapers, AreDex, Refuses, bad_manifest, other_count, bad_layouts, bad_declaration, bad_lists, bad_dex, bad_app}
 use Rattle.verdict.proofs.OneVerdict.{fault_only, unbuilt_only}
-
--- lists that were read are short enough to be numbered
-pub numbered : (lists : Lists) → SoundLists lists → NumberedLists lists
-numbered lists sound = record { classes = below_all (length lists.classes) sound.few_classes; methods = below_all (length lists.methods) sound.few_methods }
-  where
-    below_all : (n : ℕ) → n ≤ 65536 → n < 4294967296
-    below_all n few = omega arith
 
 -- a refusal that is this one
 is_this : (parts : Parts) (r this : Refusal) → r ≡ this → RefusesOnly parts this.part this.reason → RefusesOnly parts r.part r.reason

@@ -6,11 +6,11 @@ use Rattle.vet_base.specs.Script.{Script}
 use Rattle.dex_reader.specs.declared.dex.Dex.{Dex}
 use Rattle.dex_reader.specs.declared.fault.Fault.{Fault}
 use Rattle.dex_reader.specs.Told.{shown}
-use Rattle.app_model.specs.declared.app.App.{App}
-use Rattle.app_model.specs.declared.lists.Lists.{Lists}
-use Rattle.app_model.specs.declared.papers.Manifest.{Manifest}
-use Rattle.app_model.specs.declared.papers.Layouts.{Layouts}
-use Rattle.app_model.specs.declared.papers.Declaration.{Declaration}
+use Rattle.app_machine.specs.declared.app.App.{App}
+use Rattle.app_machine.specs.declared.lists.Lists.{Lists}
+use Rattle.app_machine.specs.declared.papers.Manifest.{Manifest}
+use Rattle.app_machine.specs.declared.papers.Layouts.{Layouts}
+use Rattle.app_machine.specs.declared.papers.Declaration.{Declaration}
 use Rattle.app_link.specs.declared.linking.LinkFault.{LinkFault}
 use Rattle.app_link.specs.FirstLinkFault.{FirstLinkFault, shown as shown_link}
 use Rattle.app_link.specs.IsApp.{IsApp}

@@ -4,13 +4,13 @@ use Rattle.std.proofs.lemmas.Option.{slice_get_read}
 use Rattle.std.specs.Prelude.{slice_get}
 use Rattle.dex_reader.specs.declared.dex.Dex.{Dex}
 use Rattle.app_link.specs.IsApp.{IsApp}
-use Rattle.app_model.specs.declared.app.App.{App}
-use Rattle.app_model.specs.declared.app.Class.{Class}
-use Rattle.app_model.specs.declared.lists.Lists.{Lists}
-use Rattle.app_model.specs.declared.method.Method.{Method}
-use Rattle.app_model.specs.declared.papers.Declaration.{Declaration}
-use Rattle.app_model.specs.Safe.{Safe}
-use Rattle.app_model.specs.State.{Arrival}
+use Rattle.app_machine.specs.declared.app.App.{App}
+use Rattle.app_machine.specs.declared.app.Class.{Class}
+use Rattle.app_machine.specs.declared.lists.Lists.{Lists}
+use Rattle.app_machine.specs.declared.method.Method.{Method}
+use Rattle.app_machine.specs.declared.papers.Declaration.{Declaration}
+use Rattle.app_machine.specs.Safe.{Safe}
+use Rattle.app_machine.specs.State.{Arrival}
 use Rattle.straight_line.specs.declared.flow.Finding.{Finding as Flowed}
 use Rattle.straight_line.specs.Coverage.{SafeIfDeclared}
 use Rattle.straight_line.specs.Flow.{findings, unknown}

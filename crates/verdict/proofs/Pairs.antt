@@ -8,8 +8,8 @@ use Rattle.std.specs.declared.cmp.Ordering.{Ordering}
 use Rattle.std.specs.declared.cmp.Ordering.TheVariants.{Less, Equal, Greater}
 use Rattle.std.specs.BTreeMap.{is_at}
 use Rattle.std.proofs.lemmas.Cmp.{on_total, then_total}
-use Rattle.app_model.specs.Names.{Name, same_name}
-use Rattle.app_model.specs.Sound.{name_order}
+use Rattle.app_machine.specs.Names.{Name, same_name}
+use Rattle.app_machine.specs.Sound.{name_order}
 use Rattle.verdict.specs.Ascending.{ascending}
 use Rattle.verdict.specs.Findings.{names_pair}
 use Rattle.verdict.proofs.Sorting.{any_ascending}

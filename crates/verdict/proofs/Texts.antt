@@ -3,8 +3,8 @@ use Rattle.std.proofs.Common.{◌≡◌, ℕ, zero, suc, ◌+◌, ◌<◌, List,
 use Rattle.std.specs.List.{flat_map}
 use Rattle.std.proofs.lemmas.List.{append-nil}
 use Rattle.std.specs.Prelude.{codes}
-use Rattle.app_model.specs.declared.call.Proto.{Proto}
-use Rattle.app_model.specs.Names.{Name, joined, descriptor_of}
+use Rattle.app_machine.specs.declared.call.Proto.{Proto}
+use Rattle.app_machine.specs.Names.{Name, joined, descriptor_of}
 use Rattle.verdict.specs.Printed.{escaped, escaped_byte}
 
 pub escaped_append : (a b : Name) → escaped (a ++ b) ≡ escaped a ++ escaped b

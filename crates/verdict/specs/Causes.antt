@@ -2,10 +2,10 @@
 -- that a layout names.
 use Rattle.std.specs.Prelude.{Bool, List, ◌++◌, map, filter}
 use Rattle.std.specs.List.{list_any}
-use Rattle.app_model.specs.declared.app.App.{App}
-use Rattle.app_model.specs.declared.app.Class.{Class}
-use Rattle.app_model.specs.Names.{Name, same_name}
-use Rattle.app_model.specs.Sound.{name_order}
+use Rattle.app_machine.specs.declared.app.App.{App}
+use Rattle.app_machine.specs.declared.app.Class.{Class}
+use Rattle.app_machine.specs.Names.{Name, same_name}
+use Rattle.app_machine.specs.Sound.{name_order}
 use Rattle.verdict.specs.declared.outcome.Place.{Place}
 use Rattle.verdict.specs.declared.outcome.Cause.{Cause}
 use Rattle.verdict.specs.declared.outcome.Cause.TheVariants.{NoSummary, Provider, LayoutClass}

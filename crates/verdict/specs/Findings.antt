@@ -3,13 +3,13 @@ use Rattle.std.specs.Prelude.{ℕ, Bool, true, false, ◌&&◌, not, nat_lt, Lis
 use Rattle.std.specs.List.{list_any}
 use Rattle.std.specs.Ordering.{nat_cmp, ordering_then}
 use Rattle.std.specs.declared.cmp.Ordering.{Ordering}
-use Rattle.app_model.specs.declared.app.App.{App}
-use Rattle.app_model.specs.declared.lists.Lists.{Lists}
-use Rattle.app_model.specs.declared.papers.Declaration.{Declaration}
-use Rattle.app_model.specs.Names.{Name, same_name}
-use Rattle.app_model.specs.Sound.{name_order}
-use Rattle.app_model.specs.State.{Arrival}
-use Rattle.app_model.specs.declared.call.MethodRef.{MethodRef}
+use Rattle.app_machine.specs.declared.app.App.{App}
+use Rattle.app_machine.specs.declared.lists.Lists.{Lists}
+use Rattle.app_machine.specs.declared.papers.Declaration.{Declaration}
+use Rattle.app_machine.specs.Names.{Name, same_name}
+use Rattle.app_machine.specs.Sound.{name_order}
+use Rattle.app_machine.specs.State.{Arrival}
+use Rattle.app_machine.specs.declared.call.MethodRef.{MethodRef}
 use Rattle.straight_line.specs.declared.flow.Finding.{Finding as Flowed}
 use Rattle.verdict.specs.declared.outcome.Finding.{Finding}
 use Rattle.verdict.specs.Ascending.{ascending}

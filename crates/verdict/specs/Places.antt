@@ -2,11 +2,11 @@
 use Rattle.std.specs.Prelude.{ℕ, [], Option, Some, None, slice_get}
 use Rattle.std.specs.Ordering.{nat_cmp, ordering_then}
 use Rattle.std.specs.declared.cmp.Ordering.{Ordering}
-use Rattle.app_model.specs.declared.app.App.{App}
-use Rattle.app_model.specs.declared.call.MethodRef.{MethodRef}
-use Rattle.app_model.specs.declared.method.Method.{Method}
-use Rattle.app_model.specs.Names.{descriptor_of}
-use Rattle.app_model.specs.Sound.{name_order}
+use Rattle.app_machine.specs.declared.app.App.{App}
+use Rattle.app_machine.specs.declared.call.MethodRef.{MethodRef}
+use Rattle.app_machine.specs.declared.method.Method.{Method}
+use Rattle.app_machine.specs.Names.{descriptor_of}
+use Rattle.app_machine.specs.Sound.{name_order}
 use Rattle.verdict.specs.declared.outcome.Place.{Place}
 
 abbrev pub place_at : MethodRef → ℕ → Place

@@ -2,8 +2,8 @@
 use Rattle.std.specs.Prelude.{ℕ, ◌+◌, ◌/◌, ◌%◌, Bool, ◌&&◌, ◌==◌, not, nat_le, nat_lt, List, [], ◌∷◌, ◌++◌, codes, if◌then◌else◌}
 use Rattle.std.specs.List.{flat_map}
 use Rattle.std.specs.Fmt.{decimal}
-use Rattle.app_model.specs.declared.call.MethodRef.{MethodRef}
-use Rattle.app_model.specs.Names.{Name, descriptor_of}
+use Rattle.app_machine.specs.declared.call.MethodRef.{MethodRef}
+use Rattle.app_machine.specs.Names.{Name, descriptor_of}
 use Rattle.verdict.specs.declared.outcome.Finding.{Finding}
 use Rattle.verdict.specs.declared.outcome.Place.{Place}
 

@@ -5,7 +5,7 @@ use Rattle.app_link.specs.declared.linking.LinkFault.{LinkFault}
 use Rattle.app_link.specs.declared.linking.LinkFault.TheVariants as links
 use Rattle.dex_code.specs.declared.fault.CodeFault.{CodeFault}
 use Rattle.dex_code.specs.declared.fault.CodeFault.TheVariants as code
-use Rattle.app_model.specs.Names.{Name}
+use Rattle.app_machine.specs.Names.{Name}
 use Rattle.dex_reader.specs.declared.told.DexFault.{DexFault}
 use Rattle.dex_reader.specs.declared.told.DexFault.TheVariants as told
 use Rattle.office_forms.specs.declared.told.FormFault.{FormFault}

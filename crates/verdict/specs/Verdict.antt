@@ -1,10 +1,10 @@
 -- What the parts of an app come to, and when they make an app that is safe.
 use Rattle.std.specs.Prelude.{◌≡◌, true, List, map}
 use Rattle.dex_reader.specs.declared.dex.Dex.{Dex}
-use Rattle.app_model.specs.declared.app.App.{App}
-use Rattle.app_model.specs.declared.lists.Lists.{Lists}
-use Rattle.app_model.specs.declared.papers.Declaration.{Declaration}
-use Rattle.app_model.specs.Safe.{Safe}
+use Rattle.app_machine.specs.declared.app.App.{App}
+use Rattle.app_machine.specs.declared.lists.Lists.{Lists}
+use Rattle.app_machine.specs.declared.papers.Declaration.{Declaration}
+use Rattle.app_machine.specs.Safe.{Safe}
 use Rattle.app_link.specs.IsApp.{IsApp}
 use Rattle.straight_line.specs.Flow.{findings, unknown}
 use Rattle.straight_line.specs.Straight.{is_straight}

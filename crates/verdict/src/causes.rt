@@ -1,7 +1,7 @@
 //! Why nothing certain can be said of an app.
 
 ghost use Rattle.std.specs.Prelude.{◌≡◌, ◌++◌, IfOk, take, map, filter};
-ghost use Rattle.app_model.specs.Sound.{name_order};
+ghost use Rattle.app_machine.specs.Sound.{name_order};
 ghost use Rattle.verdict.specs.Ascending.{ascending};
 ghost use Rattle.verdict.specs.Causes.{is_app_class, no_summaries, providers, layout_classes, causes_of};
 ghost use Rattle.verdict.specs.Places.{place_at};

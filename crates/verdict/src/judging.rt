@@ -5,9 +5,9 @@ ghost use Rattle.app_link.specs.IsApp.{IsApp};
 ghost use Rattle.app_link.specs.OneAnswer.{OnlyApp};
 ghost use Rattle.dex_reader.specs.Sound.{SoundDex};
 ghost use Rattle.office_forms.specs.Sound.{SoundManifest, SoundLayouts};
-ghost use Rattle.app_model.specs.LibraryWalk.{NumberedLists};
-ghost use Rattle.app_model.specs.Safe.{Safe};
-ghost use Rattle.app_model.specs.Sound.{SoundApp};
+ghost use Rattle.app_machine.specs.SoundLists.{SoundLists};
+ghost use Rattle.app_machine.specs.Safe.{Safe};
+ghost use Rattle.app_machine.specs.Sound.{SoundApp};
 ghost use Rattle.straight_line.specs.Straight.{IsStraight};
 ghost use Rattle.verdict.specs.Halts.{Halts, HaltsLink};
 ghost use Rattle.verdict.specs.OneVerdict.{OnlyOutcome, RefusesOnly};
@@ -65,7 +65,7 @@ fn check_straight(parts: &Parts, papers: &Papers, dexes: &[Dex], app: &App) -> R
     requires app { IsApp dexes.now papers.now.manifest papers.now.layouts app.now }
     requires only { OnlyApp dexes.now papers.now.manifest papers.now.layouts app.now }
     requires sound { SoundApp app.now }
-    requires numbered { NumberedLists papers.now.lists }
+    requires lists { SoundLists papers.now.lists }
     ensures straight { OnOk result (IsStraight app.now papers.now.lists) }
     ensures err { IfErr result (λ h. Halts (RefusesOnly parts.now) h) }
 {
@@ -95,7 +95,7 @@ fn outcome_with(causes: Vec<Cause>, findings: Vec<Finding>) -> Outcome
 fn outcome_in(alloc: Global, app: &App, papers: &Papers) -> Result<Outcome, Memory>
     requires straight { IsStraight app.now papers.now.lists }
     requires sound { SoundApp app.now }
-    requires numbered { NumberedLists papers.now.lists }
+    requires lists { SoundLists papers.now.lists }
     ensures value { IfOk result (λ o. o ≡ outcome_for app.now papers.now.lists papers.now.declaration) }
     ensures safe { IfOk result (λ o. o ≡ Outcome.Clear → Safe app.now papers.now.lists papers.now.declaration) }
 {

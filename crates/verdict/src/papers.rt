@@ -1,7 +1,7 @@
 //! What the forms say: manifest, layouts, declaration and lists.
 
 ghost use Rattle.std.specs.Prelude.{◌≡◌, IfOk, IfErr};
-ghost use Rattle.app_model.specs.LibraryWalk.{NumberedLists};
+ghost use Rattle.app_machine.specs.SoundLists.{SoundLists};
 ghost use Rattle.office_forms.specs.Form.{IsForm};
 ghost use Rattle.office_forms.specs.Manifest.{manifest_form};
 ghost use Rattle.office_forms.specs.Layouts.{layouts_form};
@@ -107,7 +107,6 @@ fn declaration_of(
     }
 }
 
-#[tactic(auto, using(crate::proofs::Halting::numbered))]
 fn lists_of(
     alloc: Global,
     parts: &Parts,
@@ -119,7 +118,7 @@ fn lists_of(
     requires layouts { IsForm layouts_form parts.now.layouts layouts.now }
     requires declaration { IsForm declaration_form parts.now.declaration declaration.now }
     ensures ok { IfOk result (λ ls. IsForm lists_form parts.now.lists ls) }
-    ensures numbered { IfOk result NumberedLists }
+    ensures lists { IfOk result SoundLists }
     ensures err { IfErr result (λ h. Halts (RefusesOnly parts.now) h) }
 {
     match read_lists(alloc, parts.lists.as_slice()) {
@@ -133,7 +132,7 @@ pub fn papers_of(alloc: Global, parts: &Parts) -> Result<Papers, Halt>
     ensures ok { IfOk result (λ p. HasPapers parts.now p) }
     ensures manifest { IfOk result (λ p. SoundManifest p.manifest) }
     ensures layouts { IfOk result (λ p. SoundLayouts p.layouts) }
-    ensures numbered { IfOk result (λ p. NumberedLists p.lists) }
+    ensures lists { IfOk result (λ p. SoundLists p.lists) }
     ensures err { IfErr result (λ h. Halts (RefusesOnly parts.now) h) }
 {
     let manifest = manifest_of(alloc, parts)?;

@@ -3,7 +3,7 @@
 
 ghost use Rattle.std.specs.Prelude.{◌≡◌, ◌<◌, ◌++◌, [], ◌∷◌, codes, take, flat_map, OnOk, IfOk};
 ghost use Rattle.std.specs.Fmt.{decimal};
-ghost use Rattle.app_model.specs.Names.{joined, descriptor_of};
+ghost use Rattle.app_machine.specs.Names.{joined, descriptor_of};
 ghost use Rattle.verdict.specs.Printed.{hexadecimal, is_plain, escaped_byte, escaped, method_text, place_text, finding_line, place_line, class_line, counted_line};
 
 use crate::{Finding, Place};

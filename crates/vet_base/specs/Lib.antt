@@ -1,3 +1,5 @@
+pub mod Ascending
+pub mod Members
 pub mod MemoryFiles
 pub mod MemorySink
 pub mod Numbers

@@ -3,7 +3,7 @@ use Rattle.std.proofs.Common.{◌≡◌, ◌⊎◌, ℕ, List, Option, Result, O
 use Rattle.std.specs.Prelude.{IsTrue, is_some, IsErr}
 use Rattle.vet_base.specs.Outside.{Told, held_by}
 use Rattle.vet_base.specs.Script.{run}
-use Rattle.app_model.specs.declared.papers.Manifest.{Manifest}
+use Rattle.app_machine.specs.declared.papers.Manifest.{Manifest}
 use Rattle.office_forms.specs.declared.told.FormFault.{FormFault}
 use Rattle.office_forms.specs.Form.{IsForm, FirstFormFault}
 use Rattle.office_forms.specs.Manifest.{manifest_form}

@@ -1,7 +1,7 @@
 -- The files of a folder, and what they give: the parts of an app, or the first refusal.
 use Rattle.std.specs.Prelude.{◌≡◌, ℕ, ◌+◌, ◌≤◌, false, nat_le, List, [], ◌∷◌, ◌++◌, length, Option, Some, None, Result, Ok, Err, codes}
 use Rattle.vet_base.specs.Script.{Script, Value, Test, ◌>>=◌, run, rows}
-use Rattle.app_model.specs.declared.papers.Manifest.{Manifest}
+use Rattle.app_machine.specs.declared.papers.Manifest.{Manifest}
 use Rattle.office_forms.specs.declared.told.FormFault.{FormFault}
 use Rattle.office_forms.specs.Form.{IsForm, FirstFormFault}
 use Rattle.office_forms.specs.Manifest.{manifest_form}

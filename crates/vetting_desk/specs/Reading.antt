@@ -5,7 +5,7 @@ use Rattle.vet_base.specs.Script.{Script, run, Fails}
 use Rattle.vet_base.specs.declared.outside.FailedCall.TheVariants.{Read}
 use Rattle.vet_base.specs.declared.stop.Stop.{Stop}
 use Rattle.vet_base.specs.declared.stop.Stop.TheVariants as stops
-use Rattle.app_model.specs.declared.papers.Manifest.{Manifest}
+use Rattle.app_machine.specs.declared.papers.Manifest.{Manifest}
 use Rattle.office_forms.specs.declared.told.FormFault.{FormFault}
 use Rattle.office_forms.specs.Form.{IsForm, FirstFormFault}
 use Rattle.office_forms.specs.Manifest.{manifest_form}

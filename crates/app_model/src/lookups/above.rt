@@ -1,10 +1,10 @@
 ghost use Rattle.std.specs.Prelude.{◌≡◌, ◌≤◌, ◌↔◌, [], ◌∷◌, IsTrue, flat_map, length};
 ghost use Rattle.std.specs.List.{list_any};
-ghost use Rattle.app_model.specs.Lookups.{above_within, all_above};
+ghost use Rattle.app_machine.specs.Lookups.{above_within, all_above};
 ghost use Rattle.app_model.specs.Marks.{is_marked};
 ghost use Rattle.app_model.specs.Met.{Adds};
-ghost use Rattle.app_model.specs.Sound.{SoundApp};
-ghost use Rattle.app_model.specs.Summaries.{Below};
+ghost use Rattle.app_machine.specs.Sound.{SoundApp};
+ghost use Rattle.app_machine.specs.Summaries.{Below};
 ghost use Rattle.app_model.specs.Above.{has, any_listed_below, has_bare, has_below, is_below};
 
 use crate::lookups::classes::{class_of, number_of};
@@ -45,7 +45,7 @@ fn is_below(app: &App, lists: &Lists, class: &[u8], kind: &[u8]) -> bool
 
 /// Whether the class, or an app class or interface above it, has the quality. Each class is asked
 /// once, where they are few enough to be marked.
-#[tactic(auto, unfolding(crate::specs::Lookups::all_above), using(crate::proofs::Above::any_outside))]
+#[tactic(auto, unfolding(app_machine::specs::Lookups::all_above), using(crate::proofs::Above::any_outside))]
 pub(super) fn any_above(app: &App, class: &[u8], quality: Quality) -> bool
     requires { SoundApp app.now }
     ensures { result ≡ list_any (has quality.entry) (all_above app.now class.now) }
@@ -113,7 +113,7 @@ fn add(app: &App, name: &[u8], seen: &mut Marks, waiting: &mut Marks)
 
 /// The same for more classes than can be marked: by every way upward, so that a class is asked as
 /// often as ways lead to it.
-#[tactic(auto, unfolding(crate::specs::Lookups::all_above))]
+#[tactic(auto, unfolding(app_machine::specs::Lookups::all_above))]
 fn any_by_all_ways(app: &App, class: &[u8], quality: Quality) -> bool
     requires { SoundApp app.now }
     ensures { result ≡ list_any (has quality.entry) (all_above app.now class.now) }

@@ -1,7 +1,7 @@
 ghost use Rattle.std.specs.Prelude.{◌≡◌, ◌<◌, IfNone, IfSome, None, length, slice_get};
 ghost use Rattle.std.specs.Option.{option_copied};
-ghost use Rattle.app_model.specs.Lookups.{class_named};
-ghost use Rattle.app_model.specs.Sound.{SoundApp};
+ghost use Rattle.app_machine.specs.Lookups.{class_named};
+ghost use Rattle.app_machine.specs.Sound.{SoundApp};
 
 use crate::{App, Class};
 

@@ -1,8 +1,8 @@
 ghost use Rattle.std.specs.Prelude.{◌≡◌, ◌<◌, length, ◌++◌, [], ◌∷◌, List, ℕ, IfOk, IfErr, MatchOption};
 ghost use Rattle.std.specs.Ordering.{nat_cmp};
 ghost use Rattle.std.specs.Cmp.Lexicographic.{slice_cmp};
-ghost use Rattle.app_model.specs.Names.{descriptor_of};
-ghost use Rattle.app_model.specs.Sound.{name_order};
+ghost use Rattle.app_machine.specs.Names.{descriptor_of};
+ghost use Rattle.app_machine.specs.Sound.{name_order};
 ghost use Rattle.app_model.specs.DescriptorText.{later_parts, text_left, BeginAlike, Differ};
 
 use crate::Proto;
@@ -43,7 +43,7 @@ pub(super) fn compare_descriptor(proto: &Proto, text: &[u8]) -> Ordering
     }
 }
 
-#[tactic(auto, unfolding(crate::specs::Names::descriptor_of))]
+#[tactic(auto, unfolding(app_machine::specs::Names::descriptor_of))]
 fn text_of(proto: &Proto) -> Text<'_>
     ensures { text_left result ≡ descriptor_of proto.now }
 {

@@ -1,5 +1,5 @@
 ghost use Rattle.std.specs.Prelude.{◌≡◌};
-ghost use Rattle.app_model.specs.Names.{same_proto};
+ghost use Rattle.app_machine.specs.Names.{same_proto};
 
 use crate::Proto;
 

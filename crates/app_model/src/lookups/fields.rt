@@ -1,6 +1,6 @@
 ghost use Rattle.std.specs.Prelude.{◌≡◌, drop};
 ghost use Rattle.std.specs.Ordering.{ordering_then};
-ghost use Rattle.app_model.specs.Sound.{SoundApp, field_order};
+ghost use Rattle.app_machine.specs.Sound.{SoundApp, field_order};
 ghost use Rattle.app_model.specs.Search.{field_key};
 ghost use Rattle.app_model.specs.Upward.{field_of};
 

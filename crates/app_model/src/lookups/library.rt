@@ -1,13 +1,14 @@
 ghost use Rattle.std.specs.Prelude.{◌≡◌, ◌<◌, Bool, option_map, length, slice_get};
 ghost use Rattle.std.specs.Option.{option_copied};
 ghost use Rattle.vet_base.specs.declared.name.Name.{Name};
-ghost use Rattle.app_model.specs.declared.call.MethodRef.{MethodRef};
-ghost use Rattle.app_model.specs.Members.{first_given};
-ghost use Rattle.app_model.specs.Names.{is_array, object_class};
-ghost use Rattle.app_model.specs.Sound.{SoundApp};
-ghost use Rattle.app_model.specs.Summaries.{row_of, default_of, listed_class, listed_above, row_walk, library_key, summary};
+ghost use Rattle.app_machine.specs.declared.call.MethodRef.{MethodRef};
+ghost use Rattle.vet_base.specs.Members.{first_given};
+ghost use Rattle.app_machine.specs.Names.{is_array, object_class};
+ghost use Rattle.app_machine.specs.Sound.{SoundApp};
+ghost use Rattle.app_machine.specs.Summaries.{row_of, default_of, listed_class, listed_above, row_walk, library_key, summary};
 ghost use Rattle.app_model.specs.Above.{is_among, is_listed_below};
-ghost use Rattle.app_model.specs.LibraryWalk.{NumberedLists, found, found_above, is_row, shown_summary};
+ghost use Rattle.app_machine.specs.SoundLists.{SoundLists};
+ghost use Rattle.app_model.specs.LibraryWalk.{found, found_above, is_row, shown_summary};
 
 use crate::lookups::classes::class_of;
 use crate::lookups::equality::is_same_proto;
@@ -35,7 +36,7 @@ pub enum SummaryView<'a> {
 /// What a library call of the method on the class does: the first row of that name, descriptor and
 /// static word at a listed class above a library class of the class, else the first default there.
 /// None exactly where there is neither.
-#[tactic(auto, unfolding(crate::specs::Summaries::library_key))]
+#[tactic(auto, unfolding(app_machine::specs::Summaries::library_key))]
 pub fn library_key(
     app: &App,
     lists: &Lists,
@@ -45,7 +46,7 @@ pub fn library_key(
     is_static: bool,
 ) -> Option<SummaryId>
     requires sound { SoundApp app.now }
-    requires numbered { NumberedLists lists.now }
+    requires lists { SoundLists lists.now }
     ensures { result ≡ library_key app.now lists.now class.now name.now proto.now is_static }
 {
     match on_walk(app, lists, class, Wanted::Row(name, proto, is_static)) {
@@ -58,7 +59,7 @@ pub fn library_key(
 }
 
 /// What the lists say under the key. None exactly where they have no such row or default.
-#[tactic(auto, unfolding(crate::specs::Summaries::summary))]
+#[tactic(auto, unfolding(app_machine::specs::Summaries::summary))]
 pub fn summary_of(lists: &Lists, key: SummaryId) -> Option<SummaryView<'_>>
     ensures { (at : MethodRef) (is_static : Bool) → option_map (λ s. shown_summary s at is_static) result ≡ summary lists.now key at is_static }
 {
@@ -78,10 +79,10 @@ pub fn summary_of(lists: &Lists, key: SummaryId) -> Option<SummaryView<'_>>
 }
 
 /// The first that is found on the walk of the class.
-#[tactic(auto, unfolding(crate::specs::Summaries::row_walk, crate::specs::Summaries::library_classes, crate::specs::LibraryWalk::found_above), using(crate::proofs::First::given_of_each))]
+#[tactic(auto, unfolding(app_machine::specs::Summaries::row_walk, app_machine::specs::Summaries::library_classes, crate::specs::LibraryWalk::found_above), using(crate::proofs::First::given_of_each))]
 fn on_walk(app: &App, lists: &Lists, class: &Name, wanted: Wanted) -> Option<u32>
     requires sound { SoundApp app.now }
-    requires numbered { NumberedLists lists.now }
+    requires lists { SoundLists lists.now }
     ensures { result ≡ first_given (found lists.now wanted.entry) (row_walk app.now lists.now class.now) }
 {
     match class_of(app, class.as_bytes()) {
@@ -94,7 +95,7 @@ fn on_walk(app: &App, lists: &Lists, class: &Name, wanted: Wanted) -> Option<u32
 /// The first that is found at a listed class above one of these.
 #[tactic(auto, using(crate::proofs::First::nothing_before, crate::proofs::First::nothing_up_to, crate::proofs::First::given_at, crate::proofs::First::nothing_at_all))]
 fn above_each(lists: &Lists, classes: &[Name], wanted: Wanted) -> Option<u32>
-    requires { NumberedLists lists.now }
+    requires { SoundLists lists.now }
     ensures { result ≡ first_given (found_above lists.now wanted.entry) classes.now }
 {
     for class in classes {
@@ -106,9 +107,9 @@ fn above_each(lists: &Lists, classes: &[Name], wanted: Wanted) -> Option<u32>
 }
 
 /// The first that is found at a listed class above this one.
-#[tactic(auto, unfolding(crate::specs::LibraryWalk::found_above, crate::specs::Summaries::listed_above))]
+#[tactic(auto, unfolding(crate::specs::LibraryWalk::found_above, app_machine::specs::Summaries::listed_above))]
 fn above(lists: &Lists, class: &[u8], wanted: Wanted) -> Option<u32>
-    requires { NumberedLists lists.now }
+    requires { SoundLists lists.now }
     ensures { result ≡ found_above lists.now wanted.entry class.now }
 {
     match listed(lists, class) {
@@ -120,7 +121,7 @@ fn above(lists: &Lists, class: &[u8], wanted: Wanted) -> Option<u32>
 /// The first that is found at one of these classes.
 #[tactic(auto, using(crate::proofs::First::nothing_before, crate::proofs::First::nothing_up_to, crate::proofs::First::given_at, crate::proofs::First::nothing_at_all))]
 fn at_each(lists: &Lists, classes: &[Name], wanted: Wanted) -> Option<u32>
-    requires { NumberedLists lists.now }
+    requires { SoundLists lists.now }
     ensures { result ≡ first_given (found lists.now wanted.entry) classes.now }
 {
     for class in classes {
@@ -133,7 +134,7 @@ fn at_each(lists: &Lists, classes: &[Name], wanted: Wanted) -> Option<u32>
 
 /// What is found at the class itself.
 fn at(lists: &Lists, class: &Name, wanted: Wanted) -> Option<u32>
-    requires { NumberedLists lists.now }
+    requires { SoundLists lists.now }
     ensures { result ≡ found lists.now wanted.entry class.now }
 {
     match wanted {
@@ -143,9 +144,9 @@ fn at(lists: &Lists, class: &Name, wanted: Wanted) -> Option<u32>
 }
 
 /// The number of the class's row of the method.
-#[tactic(auto, unfolding(crate::specs::Summaries::row_of, crate::specs::LibraryWalk::is_row), using(crate::proofs::First::none_before, crate::proofs::First::none_up_to, crate::proofs::First::first_at, crate::proofs::First::none_at_all))]
+#[tactic(auto, unfolding(app_machine::specs::Summaries::row_of, crate::specs::LibraryWalk::is_row), using(crate::proofs::First::none_before, crate::proofs::First::none_up_to, crate::proofs::First::first_at, crate::proofs::First::none_at_all))]
 fn row_at(lists: &Lists, class: &Name, name: &Name, proto: &Proto, is_static: bool) -> Option<u32>
-    requires { NumberedLists lists.now }
+    requires { SoundLists lists.now }
     ensures { result ≡ row_of lists.now class.now name.now proto.now is_static }
 {
     for (i, row) in lists.methods.as_slice().iter().enumerate() {
@@ -167,9 +168,9 @@ fn is_row(row: &Summary, class: &Name, name: &Name, proto: &Proto, is_static: bo
 }
 
 /// The number of the listed class, where it has a default.
-#[tactic(auto, unfolding(crate::specs::Summaries::default_of), using(crate::proofs::First::none_before, crate::proofs::First::none_up_to, crate::proofs::First::first_at, crate::proofs::First::none_at_all))]
+#[tactic(auto, unfolding(app_machine::specs::Summaries::default_of), using(crate::proofs::First::none_before, crate::proofs::First::none_up_to, crate::proofs::First::first_at, crate::proofs::First::none_at_all))]
 fn default_at(lists: &Lists, class: &Name) -> Option<u32>
-    requires { NumberedLists lists.now }
+    requires { SoundLists lists.now }
     ensures { result ≡ default_of lists.now class.now }
 {
     for (i, listed) in lists.classes.as_slice().iter().enumerate() {
@@ -181,7 +182,7 @@ fn default_at(lists: &Lists, class: &Name) -> Option<u32>
 }
 
 /// Whether the two names are the same, or the lists have the second one above the first.
-#[tactic(auto, unfolding(crate::specs::Above::is_listed_below, crate::specs::Above::is_among, crate::specs::Summaries::listed_above))]
+#[tactic(auto, unfolding(crate::specs::Above::is_listed_below, crate::specs::Above::is_among, app_machine::specs::Summaries::listed_above))]
 pub(super) fn is_listed_below(lists: &Lists, class: &[u8], kind: &[u8]) -> bool
     ensures { result ≡ is_listed_below lists.now class.now kind.now }
 {
@@ -203,7 +204,7 @@ fn is_among(names: &[Name], name: &[u8]) -> bool
 }
 
 /// The listed class of this name.
-#[tactic(auto, unfolding(crate::specs::Summaries::listed_class), using(crate::proofs::First::none_before, crate::proofs::First::none_up_to, crate::proofs::First::first_at, crate::proofs::First::none_at_all))]
+#[tactic(auto, unfolding(app_machine::specs::Summaries::listed_class), using(crate::proofs::First::none_before, crate::proofs::First::none_up_to, crate::proofs::First::first_at, crate::proofs::First::none_at_all))]
 fn listed<'a>(lists: &'a Lists, name: &[u8]) -> Option<&'a LibClass>
     ensures { option_copied result ≡ listed_class lists.now name.now }
 {
@@ -216,7 +217,7 @@ fn listed<'a>(lists: &'a Lists, name: &[u8]) -> Option<&'a LibClass>
 }
 
 /// Whether the type is an array.
-#[tactic(auto, unfolding(crate::specs::Names::is_array))]
+#[tactic(auto, unfolding(app_machine::specs::Names::is_array))]
 fn starts_array(name: &[u8]) -> bool
     ensures { result ≡ is_array name.now }
 {
@@ -226,7 +227,7 @@ fn starts_array(name: &[u8]) -> bool
     }
 }
 
-#[tactic(auto, unfolding(crate::specs::Names::object_class))]
+#[tactic(auto, unfolding(app_machine::specs::Names::object_class))]
 pub(super) fn object_name() -> &'static [u8]
     ensures { result.now ≡ object_class }
 {

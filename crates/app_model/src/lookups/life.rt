@@ -1,12 +1,12 @@
 ghost use Rattle.std.specs.Prelude.{◌≡◌, map};
-ghost use Rattle.app_model.specs.LifeEvents.{life_events};
+ghost use Rattle.app_machine.specs.LifeEvents.{life_events};
 ghost use Rattle.app_model.specs.EventTable.{shown_event};
 
 use crate::{EventRow, Kind};
 
 /// The events in the life of a component of the kind. The state 0 is absent and 1 is made; the
 /// numbers of the others are those of `LifeEvents` in the specifications.
-#[tactic(auto, unfolding(crate::specs::LifeEvents::life_events))]
+#[tactic(auto, unfolding(app_machine::specs::LifeEvents::life_events))]
 pub fn event_rows(kind: Kind) -> &'static [EventRow]
     ensures { map shown_event result.now ≡ life_events kind }
 {

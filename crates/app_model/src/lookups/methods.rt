@@ -1,8 +1,8 @@
 ghost use Rattle.std.specs.Prelude.{◌≡◌};
 ghost use Rattle.std.specs.Ordering.{ordering_then};
-ghost use Rattle.app_model.specs.Lookups.{method_of, method_with};
-ghost use Rattle.app_model.specs.Names.{descriptor_of};
-ghost use Rattle.app_model.specs.Sound.{SoundApp, field_order, name_order};
+ghost use Rattle.app_machine.specs.Lookups.{method_of, method_with};
+ghost use Rattle.app_machine.specs.Names.{descriptor_of};
+ghost use Rattle.app_machine.specs.Sound.{SoundApp, field_order, name_order};
 ghost use Rattle.app_model.specs.Search.{method_key};
 
 use crate::lookups::descriptor::{compare_descriptor, compare_descriptors};
@@ -11,7 +11,7 @@ use crate::{App, Method, Proto};
 use std::cmp::Ordering;
 
 /// The number of the method that the class itself defines, with code or as native.
-#[tactic(auto, unfolding(crate::specs::Lookups::method_of))]
+#[tactic(auto, unfolding(app_machine::specs::Lookups::method_of))]
 pub(super) fn method_of(app: &App, class: &[u8], name: &[u8], proto: &Proto) -> Option<u32>
     requires { SoundApp app.now }
     ensures { result ≡ method_of app.now class.now name.now proto.now }
@@ -30,7 +30,7 @@ pub(super) fn method_of(app: &App, class: &[u8], name: &[u8], proto: &Proto) -> 
 }
 
 /// The same by the text of the descriptor.
-#[tactic(auto, unfolding(crate::specs::Lookups::method_with))]
+#[tactic(auto, unfolding(app_machine::specs::Lookups::method_with))]
 pub(super) fn method_with(app: &App, class: &[u8], name: &[u8], descriptor: &[u8]) -> Option<u32>
     requires { SoundApp app.now }
     ensures { result ≡ method_with app.now class.now name.now descriptor.now }

@@ -1,7 +1,7 @@
 ghost use Rattle.std.specs.Prelude.{◌≡◌, ◌<◌, length, option_map};
 ghost use Rattle.std.specs.Option.{option_copied};
-ghost use Rattle.app_model.specs.Lookups.{target, virtual_target, superclass_of_caller, lists_bare, find_body, body_or, Library};
-ghost use Rattle.app_model.specs.Sound.{SoundApp};
+ghost use Rattle.app_machine.specs.Lookups.{target, virtual_target, superclass_of_caller, lists_bare, find_body, body_or, Library};
+ghost use Rattle.app_machine.specs.Sound.{SoundApp};
 ghost use Rattle.app_model.specs.Targets.{shown_target};
 
 use crate::lookups::above::{Quality, any_above};
@@ -13,7 +13,7 @@ use vet_base::Name;
 /// What a call of the kind comes to, in the method numbered `caller`, by the class of the
 /// receiver's object where the receiver has a place. The name of a library class is that of `at`
 /// or `class`.
-#[tactic(auto, unfolding(crate::specs::Lookups::target))]
+#[tactic(auto, unfolding(app_machine::specs::Lookups::target))]
 pub fn target<'a>(
     app: &App,
     kind: CallKind,
@@ -50,7 +50,7 @@ fn body_from<'a>(app: &App, class: &Name, at: &MethodRef, library: &'a Name) -> 
 }
 
 /// The superclass of the class in which the method numbered `caller` stands.
-#[tactic(auto, unfolding(crate::specs::Lookups::superclass_of_caller))]
+#[tactic(auto, unfolding(app_machine::specs::Lookups::superclass_of_caller))]
 fn superclass_of(app: &App, caller: u32) -> Option<&Name>
     requires sound { SoundApp app.now }
     requires caller { caller < length app.now.methods }
@@ -85,7 +85,7 @@ fn without_receiver<'a>(app: &App, at: &'a MethodRef) -> Target<'a>
 }
 
 /// Whether the class, or an app class or interface above it, has the method without code.
-#[tactic(auto, unfolding(crate::specs::Lookups::lists_bare, crate::specs::Above::has_bare))]
+#[tactic(auto, unfolding(app_machine::specs::Lookups::lists_bare, crate::specs::Above::has_bare))]
 fn lists_bare(app: &App, at: &MethodRef) -> bool
     requires { SoundApp app.now }
     ensures { result ≡ lists_bare app.now at.now.class at.now.name at.now.proto }

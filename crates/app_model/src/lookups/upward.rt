@@ -1,7 +1,7 @@
 ghost use Rattle.std.specs.Prelude.{◌≡◌};
-ghost use Rattle.app_model.specs.Members.{first_given};
-ghost use Rattle.app_model.specs.Lookups.{find_body, body_named, instance_key, up};
-ghost use Rattle.app_model.specs.Sound.{SoundApp};
+ghost use Rattle.vet_base.specs.Members.{first_given};
+ghost use Rattle.app_machine.specs.Lookups.{find_body, body_named, instance_key, up};
+ghost use Rattle.app_machine.specs.Sound.{SoundApp};
 ghost use Rattle.app_model.specs.Upward.{defined};
 
 use crate::lookups::classes::class_of;
@@ -23,7 +23,7 @@ enum Member<'a> {
 
 /// The number of the method of the first class, from `class` upward along superclasses, that
 /// defines it with code or as native. None exactly where no app class on the way does.
-#[tactic(auto, unfolding(crate::specs::Lookups::find_body))]
+#[tactic(auto, unfolding(app_machine::specs::Lookups::find_body))]
 pub fn find_body(app: &App, class: &Name, name: &Name, proto: &Proto) -> Option<u32>
     requires { SoundApp app.now }
     ensures { result ≡ find_body app.now class.now name.now proto.now }
@@ -36,7 +36,7 @@ pub fn find_body(app: &App, class: &Name, name: &Name, proto: &Proto) -> Option<
 }
 
 /// As `find_body`, with the name and the text of the descriptor as bytes.
-#[tactic(auto, unfolding(crate::specs::Lookups::body_named))]
+#[tactic(auto, unfolding(app_machine::specs::Lookups::body_named))]
 pub fn body_named(app: &App, class: &Name, name: &[u8], descriptor: &[u8]) -> Option<u32>
     requires { SoundApp app.now }
     ensures { result ≡ body_named app.now class.now name.now descriptor.now }

@@ -1,5 +1,5 @@
 use Rattle.std.proofs.Common.{List, sym, subst, take}
-use Rattle.app_model.specs.Names.{Name}
+use Rattle.app_machine.specs.Names.{Name}
 use Rattle.app_link.specs.Circle.{LeastAmong}
 use Rattle.app_link.proofs.Best.{front_grows}
 use Rattle.app_link.proofs.circle.least_circle.Goals as goal

@@ -1,5 +1,5 @@
 use Rattle.std.proofs.Common.{◌≡◌, ◌+◌, drop}
-use Rattle.app_model.specs.Names.{widths}
+use Rattle.app_machine.specs.Names.{widths}
 use Rattle.app_link.proofs.coded.take_registers.Given as goal
 
 abbrev pub invariant-loop-kind : goal.invariant-loop-kind

@@ -1,7 +1,7 @@
 use Rattle.std.proofs.Common.{cond, List, Some, sym, ◌∙◌, ap}
 use Rattle.std.specs.BTreeMap.{is_at}
-use Rattle.app_model.specs.Names.{Name}
-use Rattle.app_model.specs.Sound.{name_order}
+use Rattle.app_machine.specs.Names.{Name}
+use Rattle.app_machine.specs.Sound.{name_order}
 use Rattle.app_link.specs.Orders.{named}
 use Rattle.app_link.proofs.Settling.{settles}
 use Rattle.app_link.proofs.hierarchy.settle.Goals as goal

@@ -1,5 +1,5 @@
 use Rattle.std.proofs.Common.{Ok, sym, ap, inl}
-use Rattle.app_model.specs.declared.app.App.{App}
+use Rattle.app_machine.specs.declared.app.App.{App}
 use Rattle.app_link.proofs.OneAnswer.{no_app, one_answer, told_alone}
 use Rattle.app_link.proofs.linking.link.Goals as goal
 

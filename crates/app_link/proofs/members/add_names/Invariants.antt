@@ -1,5 +1,5 @@
 use Rattle.std.proofs.Common.{◌++◌}
-use Rattle.app_model.specs.Names.{joined}
+use Rattle.app_machine.specs.Names.{joined}
 use Rattle.app_link.proofs.Joined.{Joins}
 use Rattle.app_link.proofs.members.add_names.Given as goal
 

@@ -1,6 +1,6 @@
 -- The registers so far, and those of the parameters that are left, are those of all parameters.
 use Rattle.std.specs.Prelude.{◌≡◌, ◌++◌, length}
-use Rattle.app_model.specs.Library.{first_registers}
+use Rattle.app_machine.specs.Library.{first_registers}
 use Rattle.straight_line.proofs.flow.first_registers.Given as goal
 
 abbrev pub invariant-loop-kind : goal.invariant-loop-kind

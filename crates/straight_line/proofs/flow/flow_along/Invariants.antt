@@ -1,8 +1,8 @@
 -- What was found so far, and what the steps that are left find, is what all steps find.
 use Rattle.std.specs.Prelude.{◌≡◌, ◌++◌, ℕ, List, Option, None, length, replicate}
-use Rattle.app_model.specs.declared.app.App.{App}
-use Rattle.app_model.specs.declared.lists.Lists.{Lists}
-use Rattle.app_model.specs.declared.method.Step.{Step}
+use Rattle.app_machine.specs.declared.app.App.{App}
+use Rattle.app_machine.specs.declared.lists.Lists.{Lists}
+use Rattle.app_machine.specs.declared.method.Step.{Step}
 use Rattle.straight_line.specs.Flow.{found_along, unknown_along}
 use Rattle.straight_line.specs.Found.{arrivals_of}
 use Rattle.straight_line.specs.declared.flow.Finding.{Finding}

@@ -2,7 +2,7 @@
 use Rattle.std.proofs.Common.{◌≡◌, List, subst, sym}
 use Rattle.std.specs.Prelude.{Result, Ok, Err, IfOk, ℕ}
 use Rattle.vet_base.specs.declared.memory.Memory.{Memory}
-use Rattle.app_model.specs.State.{Arrival}
+use Rattle.app_machine.specs.State.{Arrival}
 use Rattle.straight_line.specs.declared.flow.Flow.{Flow}
 use Rattle.straight_line.specs.Coverage.{CoversRuns, SafeIfDeclared}
 use Rattle.straight_line.specs.Flow.{findings, unknown}

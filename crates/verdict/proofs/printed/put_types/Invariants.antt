@@ -1,5 +1,5 @@
 use Rattle.std.proofs.Common.{◌≡◌, ◌++◌, take}
-use Rattle.app_model.specs.Names.{joined}
+use Rattle.app_machine.specs.Names.{joined}
 use Rattle.verdict.specs.Printed.{escaped}
 use Rattle.verdict.proofs.printed.put_types.Given as goal
 

@@ -1,5 +1,5 @@
 use Rattle.std.proofs.Common.{◌+◌, ◌*◌}
-use Rattle.app_model.specs.Lookups.{above_within}
+use Rattle.app_machine.specs.Lookups.{above_within}
 use Rattle.app_model.specs.Above.{has}
 use Rattle.app_model.proofs.Above.{NoneOfFirst}
 use Rattle.app_model.proofs.lookups.above.+upward.Given as goal

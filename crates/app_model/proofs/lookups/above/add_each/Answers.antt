@@ -1,6 +1,6 @@
 use Rattle.std.proofs.Common.{◌≡◌, ◌+◌, [], ◌∷◌, ◌++◌, take, sym, ◌∙◌, ap, arith}
 use Rattle.std.proofs.lemmas.List.{take_more}
-use Rattle.app_model.specs.Names.{Name}
+use Rattle.app_machine.specs.Names.{Name}
 use Rattle.app_model.specs.Marks.{is_marked}
 use Rattle.app_model.proofs.Searches.{adds_both}
 use Rattle.app_model.proofs.lookups.above.add_each.Goals as goal

@@ -1,8 +1,8 @@
 use Rattle.std.proofs.Common.{rules}
 use Rattle.std.proofs.lemmas.Fn.{always_returns_same}
-use Rattle.app_model.specs.declared.app.Class.{Class}
-use Rattle.app_model.specs.Lookups.{class_named}
-use Rattle.app_model.specs.Sound.{name_order}
+use Rattle.app_machine.specs.declared.app.Class.{Class}
+use Rattle.app_machine.specs.Lookups.{class_named}
+use Rattle.app_machine.specs.Sound.{name_order}
 use Rattle.app_model.proofs.Classes.{class_at, class_missing}
 use Rattle.app_model.proofs.lookups.classes.number_of.Goals as goal
 

@@ -1,5 +1,5 @@
 use Rattle.std.proofs.Common.{sym, ◌∙◌, ◌++◌, arith}
-use Rattle.app_model.specs.Names.{joined}
+use Rattle.app_machine.specs.Names.{joined}
 use Rattle.app_model.specs.DescriptorText.{later_parts, text_left}
 use Rattle.app_model.proofs.Descriptors.{no_text, ends_first, differs_on, alike_further, alike_part}
 use Rattle.app_model.proofs.lookups.descriptor.after.Goals as goal

@@ -1,6 +1,6 @@
 use Rattle.std.proofs.Common.{◌≡◌, ◌≢◌, ◌∙◌, sym, take, arith}
 use Rattle.std.specs.declared.cmp.Ordering.TheVariants.{Equal}
-use Rattle.app_model.specs.Sound.{name_order}
+use Rattle.app_machine.specs.Sound.{name_order}
 use Rattle.app_model.proofs.Descriptors.{alike_taken, differ_taken}
 use Rattle.app_model.proofs.lookups.descriptor.after_common.Goals as goal
 

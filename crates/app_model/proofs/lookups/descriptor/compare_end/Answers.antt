@@ -1,5 +1,5 @@
 use Rattle.std.proofs.Common.{sym, ◌∙◌}
-use Rattle.app_model.specs.Names.{joined}
+use Rattle.app_machine.specs.Names.{joined}
 use Rattle.app_model.specs.DescriptorText.{later_parts}
 use Rattle.app_model.proofs.Descriptors.{above_empty}
 use Rattle.app_model.proofs.lookups.descriptor.compare_end.Goals as goal

@@ -1,5 +1,5 @@
 use Rattle.std.proofs.Common.{◌≡◌, length}
-use Rattle.app_model.specs.Sound.{name_order}
+use Rattle.app_machine.specs.Sound.{name_order}
 use Rattle.app_model.specs.DescriptorText.{later_parts, text_left}
 use Rattle.app_model.proofs.lookups.descriptor.compare_texts.Given as goal
 

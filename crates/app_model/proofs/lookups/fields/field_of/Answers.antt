@@ -1,8 +1,8 @@
 use Rattle.std.proofs.Common.{rules, sym, subst, Err}
 use Rattle.std.specs.List.Sorted.{IsBinarySearchResult}
 use Rattle.std.proofs.lemmas.Fn.{always_returns_same}
-use Rattle.app_model.specs.declared.app.Key.{Key}
-use Rattle.app_model.specs.Sound.{field_order}
+use Rattle.app_machine.specs.declared.app.Key.{Key}
+use Rattle.app_machine.specs.Sound.{field_order}
 use Rattle.app_model.specs.Search.{field_key}
 use Rattle.app_model.proofs.Fields.{field_there, field_missing}
 use Rattle.app_model.proofs.lookups.fields.field_of.Goals as goal

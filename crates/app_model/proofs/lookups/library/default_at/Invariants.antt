@@ -1,7 +1,7 @@
 use Rattle.std.proofs.Common.{◌&&◌}
 use Rattle.std.specs.Prelude.{is_some}
-use Rattle.app_model.specs.declared.lists.LibClass.{LibClass}
-use Rattle.app_model.specs.Names.{same_name}
+use Rattle.app_machine.specs.declared.lists.LibClass.{LibClass}
+use Rattle.app_machine.specs.Names.{same_name}
 use Rattle.app_model.proofs.First.{NoneBefore}
 use Rattle.app_model.proofs.lookups.library.default_at.Given as goal
 

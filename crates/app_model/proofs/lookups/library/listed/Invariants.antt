@@ -1,5 +1,5 @@
-use Rattle.app_model.specs.declared.lists.LibClass.{LibClass}
-use Rattle.app_model.specs.Names.{same_name}
+use Rattle.app_machine.specs.declared.lists.LibClass.{LibClass}
+use Rattle.app_machine.specs.Names.{same_name}
 use Rattle.app_model.proofs.First.{NoneBefore}
 use Rattle.app_model.proofs.lookups.library.listed.Given as goal
 

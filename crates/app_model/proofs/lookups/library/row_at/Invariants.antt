@@ -1,5 +1,5 @@
 use Rattle.app_model.specs.LibraryWalk.{is_row}
-use Rattle.app_model.specs.declared.summary.Summary.{Summary}
+use Rattle.app_machine.specs.declared.summary.Summary.{Summary}
 use Rattle.app_model.proofs.First.{NoneBefore}
 use Rattle.app_model.proofs.lookups.library.row_at.Given as goal
 

@@ -1,9 +1,9 @@
 use Rattle.std.proofs.Common.{rules, ◌≡◌, true, false, sym, ◌∙◌, ap}
 use Rattle.std.proofs.lemmas.Fn.{always_returns_same}
-use Rattle.app_model.specs.declared.method.Method.{Method}
-use Rattle.app_model.specs.Names.{same_proto, descriptor_of}
-use Rattle.app_model.specs.Lookups.{method_of}
-use Rattle.app_model.specs.Sound.{field_order}
+use Rattle.app_machine.specs.declared.method.Method.{Method}
+use Rattle.app_machine.specs.Names.{same_proto, descriptor_of}
+use Rattle.app_machine.specs.Lookups.{method_of}
+use Rattle.app_machine.specs.Sound.{field_order}
 use Rattle.app_model.specs.Search.{method_key}
 use Rattle.app_model.proofs.Methods.{method_there, method_differs, method_missing}
 use Rattle.app_model.proofs.lookups.methods.method_of.Goals as goal

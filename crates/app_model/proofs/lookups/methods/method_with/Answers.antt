@@ -1,8 +1,8 @@
 use Rattle.std.proofs.Common.{rules, sym}
 use Rattle.std.proofs.lemmas.Fn.{always_returns_same}
-use Rattle.app_model.specs.declared.method.Method.{Method}
-use Rattle.app_model.specs.Lookups.{method_with}
-use Rattle.app_model.specs.Sound.{field_order}
+use Rattle.app_machine.specs.declared.method.Method.{Method}
+use Rattle.app_machine.specs.Lookups.{method_with}
+use Rattle.app_machine.specs.Sound.{field_order}
 use Rattle.app_model.specs.Search.{method_key}
 use Rattle.app_model.proofs.Methods.{text_there, text_missing}
 use Rattle.app_model.proofs.lookups.methods.method_with.Goals as goal

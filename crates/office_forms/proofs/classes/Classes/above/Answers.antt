@@ -1,5 +1,5 @@
 use Rattle.std.proofs.Common.{Some, ap, sym, ◌∙◌, List, option_copied}
-use Rattle.app_model.specs.declared.lists.LibClass.{LibClass}
+use Rattle.app_machine.specs.declared.lists.LibClass.{LibClass}
 use Rattle.office_forms.specs.Classes.{above_in}
 use Rattle.office_forms.proofs.Above.{none_above, some_above}
 use Rattle.office_forms.proofs.classes.Classes.above.Goals as goal

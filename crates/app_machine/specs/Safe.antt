@@ -1,21 +1,21 @@
 -- What a run brings to sinks, where it leaves the modelled part of the app, and what it is to be safe.
 use Rattle.std.specs.Prelude.{◌≡◌, ℕ, true, List, [], ◌∷◌, Option, Some, None}
-use Rattle.app_model.specs.declared.call.MethodRef.{MethodRef}
-use Rattle.app_model.specs.declared.call.CallKind.{CallKind}
-use Rattle.app_model.specs.declared.method.Act.TheVariants.{Call}
-use Rattle.app_model.specs.declared.summary.Summary.{Summary}
-use Rattle.app_model.specs.declared.lists.SummaryId.{SummaryId}
-use Rattle.app_model.specs.declared.lists.Lists.{Lists}
-use Rattle.app_model.specs.declared.papers.Declaration.{Declaration}
-use Rattle.app_model.specs.declared.app.App.{App}
-use Rattle.app_model.specs.Members.{In, IsAt}
-use Rattle.app_model.specs.Names.{Name}
-use Rattle.app_model.specs.Lookups.{Body, Library, ActAt, IsNative, Initialises, is_static_call}
-use Rattle.app_model.specs.Summaries.{library_key, summary}
-use Rattle.app_model.specs.State.{Arrival, World, Frame}
-use Rattle.app_model.specs.Calls.{Calls_to}
-use Rattle.app_model.specs.Events.{Comes, MayInitialise}
-use Rattle.app_model.specs.Run.{Run}
+use Rattle.app_machine.specs.declared.call.MethodRef.{MethodRef}
+use Rattle.app_machine.specs.declared.call.CallKind.{CallKind}
+use Rattle.app_machine.specs.declared.method.Act.TheVariants.{Call}
+use Rattle.app_machine.specs.declared.summary.Summary.{Summary}
+use Rattle.app_machine.specs.declared.lists.SummaryId.{SummaryId}
+use Rattle.app_machine.specs.declared.lists.Lists.{Lists}
+use Rattle.app_machine.specs.declared.papers.Declaration.{Declaration}
+use Rattle.app_machine.specs.declared.app.App.{App}
+use Rattle.vet_base.specs.Members.{In, IsAt}
+use Rattle.app_machine.specs.Names.{Name}
+use Rattle.app_machine.specs.Lookups.{Body, Library, ActAt, IsNative, Initialises, is_static_call}
+use Rattle.app_machine.specs.Summaries.{library_key, summary}
+use Rattle.app_machine.specs.State.{Arrival, World, Frame}
+use Rattle.app_machine.specs.Calls.{Calls_to}
+use Rattle.app_machine.specs.Events.{Comes, MayInitialise}
+use Rattle.app_machine.specs.Run.{Run}
 
 -- the causes
 abbrev pub no_summary : ℕ

@@ -1,10 +1,10 @@
 -- The state of the machine.
 use Rattle.std.specs.Prelude.{◌==◌, ◌+◌, ◌-◌, ◌&&◌, ℕ, Bool, nat_le, nat_lt, if◌then◌else◌, List, [], length, Option, Some, None, slice_get}
 use Rattle.std.specs.List.{list_any}
-use Rattle.app_model.specs.declared.method.Method.{Method}
-use Rattle.app_model.specs.declared.app.App.{App}
-use Rattle.app_model.specs.Names.{Name}
-use Rattle.app_model.specs.Heap.{Value, Object, blank}
+use Rattle.app_machine.specs.declared.method.Method.{Method}
+use Rattle.app_machine.specs.declared.app.App.{App}
+use Rattle.app_machine.specs.Names.{Name}
+use Rattle.app_machine.specs.Heap.{Value, Object, blank}
 
 -- RES, which holds the result of the last call or filled array, and EXC, which holds the exception. The registers of a
 -- method are below them.

@@ -1,21 +1,21 @@
 -- A library call, by what the lists say of it. Every value is read from the state before the call.
 use Rattle.std.specs.Prelude.{◌≡◌, ◌⊎◌, ◌↔◌, ℕ, false, IsTrue, IsFalse, if◌then◌else◌, List, [], ◌∷◌, ◌++◌, length, drop, map, Option, Some, None, slice_get}
 use Rattle.vet_base.specs.declared.key_id.KeyId.{KeyId}
-use Rattle.app_model.specs.declared.call.MethodRef.{MethodRef}
-use Rattle.app_model.specs.declared.call.CallKind.{CallKind}
-use Rattle.app_model.specs.declared.summary.Gives.{Gives}
-use Rattle.app_model.specs.declared.summary.Gives.TheVariants.{Blank, Same, Taken, Joined, Shared}
-use Rattle.app_model.specs.declared.summary.Summary.{Summary}
-use Rattle.app_model.specs.declared.lists.SummaryId.{SummaryId}
-use Rattle.app_model.specs.declared.lists.Lists.{Lists}
-use Rattle.app_model.specs.declared.app.App.{App}
-use Rattle.app_model.specs.Members.{In}
-use Rattle.app_model.specs.Names.{Name, is_wide, is_reference, is_void}
-use Rattle.app_model.specs.Lookups.{elem_key, is_static_call, Library}
-use Rattle.app_model.specs.Summaries.{library_key, summary}
-use Rattle.app_model.specs.Heap.{Value, Object, blank, labelled, EntryAt, Reaches, add_all, Gets}
-use Rattle.app_model.specs.State.{write, shared_static, Arrival, World, Frame, object_at, new_object}
-use Rattle.app_model.specs.Calls.{Calls_to}
+use Rattle.app_machine.specs.declared.call.MethodRef.{MethodRef}
+use Rattle.app_machine.specs.declared.call.CallKind.{CallKind}
+use Rattle.app_machine.specs.declared.summary.Gives.{Gives}
+use Rattle.app_machine.specs.declared.summary.Gives.TheVariants.{Blank, Same, Taken, Joined, Shared}
+use Rattle.app_machine.specs.declared.summary.Summary.{Summary}
+use Rattle.app_machine.specs.declared.lists.SummaryId.{SummaryId}
+use Rattle.app_machine.specs.declared.lists.Lists.{Lists}
+use Rattle.app_machine.specs.declared.app.App.{App}
+use Rattle.vet_base.specs.Members.{In}
+use Rattle.app_machine.specs.Names.{Name, is_wide, is_reference, is_void}
+use Rattle.app_machine.specs.Lookups.{elem_key, is_static_call, Library}
+use Rattle.app_machine.specs.Summaries.{library_key, summary}
+use Rattle.app_machine.specs.Heap.{Value, Object, blank, labelled, EntryAt, Reaches, add_all, Gets}
+use Rattle.app_machine.specs.State.{write, shared_static, Arrival, World, Frame, object_at, new_object}
+use Rattle.app_machine.specs.Calls.{Calls_to}
 
 -- The first register of each position of a call: of the receiver, where there is one, and of each argument.
 abbrev pub first_registers : List Name → List ℕ → List ℕ

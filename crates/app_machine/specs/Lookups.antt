@@ -3,20 +3,20 @@
 use Rattle.std.specs.Prelude.{◌≡◌, ℕ, zero, suc, Bool, true, false, ◌&&◌, ◌||◌, List, [], ◌∷◌, ◌++◌, length, Option, Some, None, option_map, option_to_list, slice_get, find, flat_map, filter_map, is_some, if◌then◌else◌, ◌==◌}
 use Rattle.std.specs.List.{list_any}
 use Rattle.vet_base.specs.declared.key_id.KeyId.{KeyId}
-use Rattle.app_model.specs.declared.call.Proto.{Proto}
-use Rattle.app_model.specs.declared.call.MethodRef.{MethodRef}
-use Rattle.app_model.specs.declared.call.CallKind.{CallKind}
-use Rattle.app_model.specs.declared.call.CallKind.TheVariants.{Virtual, Super, Direct, Static, Interface}
-use Rattle.app_model.specs.declared.method.Method.{Method}
-use Rattle.app_model.specs.declared.method.Step.{Step}
-use Rattle.app_model.specs.declared.method.Act.{Act}
-use Rattle.app_model.specs.declared.method.Act.TheVariants.{Skip, Join, Move, Blank, New, Fill, Get, Put, GetStatic, PutStatic, Call, Return, Throw, TakeResult, TakeException, Go}
-use Rattle.app_model.specs.declared.app.Key.{Key}
-use Rattle.app_model.specs.declared.app.Key.TheVariants.{Elem, Field}
-use Rattle.app_model.specs.declared.app.Class.{Class}
-use Rattle.app_model.specs.declared.app.App.{App}
-use Rattle.app_model.specs.Members.{In, first_given, first_index}
-use Rattle.app_model.specs.Names.{Name, same_name, same_proto, descriptor_of, initialiser_name, initialiser_proto}
+use Rattle.app_machine.specs.declared.call.Proto.{Proto}
+use Rattle.app_machine.specs.declared.call.MethodRef.{MethodRef}
+use Rattle.app_machine.specs.declared.call.CallKind.{CallKind}
+use Rattle.app_machine.specs.declared.call.CallKind.TheVariants.{Virtual, Super, Direct, Static, Interface}
+use Rattle.app_machine.specs.declared.method.Method.{Method}
+use Rattle.app_machine.specs.declared.method.Step.{Step}
+use Rattle.app_machine.specs.declared.method.Act.{Act}
+use Rattle.app_machine.specs.declared.method.Act.TheVariants.{New, GetStatic, PutStatic, Call}
+use Rattle.app_machine.specs.declared.app.Key.{Key}
+use Rattle.app_machine.specs.declared.app.Key.TheVariants.{Elem, Field}
+use Rattle.app_machine.specs.declared.app.Class.{Class}
+use Rattle.app_machine.specs.declared.app.App.{App}
+use Rattle.vet_base.specs.Members.{In, first_given, first_index}
+use Rattle.app_machine.specs.Names.{Name, same_name, same_proto, descriptor_of, initialiser_name, initialiser_proto}
 
 -- the class of the app with this name
 abbrev pub class_among : List Class → Name → Option Class
@@ -148,22 +148,7 @@ class_initialised app (New d class) = Some class
 class_initialised app (GetStatic ds g) = class_of_static app g
 class_initialised app (PutStatic g x) = class_of_static app g
 class_initialised app (Call Static at args) = Some at.class
-class_initialised app (Call Virtual at args) = None
-class_initialised app (Call Super at args) = None
-class_initialised app (Call Direct at args) = None
-class_initialised app (Call Interface at args) = None
-class_initialised app Skip = None
-class_initialised app (Join ds xs) = None
-class_initialised app (Move ds x) = None
-class_initialised app (Blank ds) = None
-class_initialised app (Fill xs class) = None
-class_initialised app (Get ds o k) = None
-class_initialised app (Put o k x) = None
-class_initialised app (Return x) = None
-class_initialised app (Throw x) = None
-class_initialised app (TakeResult ds) = None
-class_initialised app (TakeException d) = None
-class_initialised app Go = None
+class_initialised app act = None
 
 -- the initialisers that may run before the act
 unfoldable pub initialisers : App → Act → List ℕ

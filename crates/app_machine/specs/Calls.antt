@@ -1,14 +1,14 @@
 -- What a call comes to, and where a raised value leads.
 -- Android documentation, Dalvik bytecode: the notes on `invoke-kind`; Java Virtual Machine Specification, "Exceptions".
 use Rattle.std.specs.Prelude.{◌≡◌, ℕ, IsTrue, IsFalse, List, [], ◌∷◌, map, Option, Some, None}
-use Rattle.app_model.specs.declared.call.MethodRef.{MethodRef}
-use Rattle.app_model.specs.declared.call.CallKind.{CallKind}
-use Rattle.app_model.specs.declared.app.App.{App}
-use Rattle.app_model.specs.Members.{IsAt}
-use Rattle.app_model.specs.Names.{Name}
-use Rattle.app_model.specs.Lookups.{Target, target, is_by_receiver, Catches}
-use Rattle.app_model.specs.Heap.{Value, Object, blank, ClassAt}
-use Rattle.app_model.specs.State.{exception_register, write, Frame}
+use Rattle.app_machine.specs.declared.call.MethodRef.{MethodRef}
+use Rattle.app_machine.specs.declared.call.CallKind.{CallKind}
+use Rattle.app_machine.specs.declared.app.App.{App}
+use Rattle.vet_base.specs.Members.{IsAt}
+use Rattle.app_machine.specs.Names.{Name}
+use Rattle.app_machine.specs.Lookups.{Target, target, is_by_receiver, Catches}
+use Rattle.app_machine.specs.Heap.{Value, Object, blank, ClassAt}
+use Rattle.app_machine.specs.State.{exception_register, write, Frame}
 
 -- The target of a call in the running frame: by the class of the receiver's object in a virtual or interface call, where the
 -- receiver has a place.

@@ -3,7 +3,7 @@
 use Rattle.std.specs.Prelude.{ℕ, ◌+◌, Bool, false, ◌&&◌, ◌||◌, ◌==◌, nat_eq, if◌then◌else◌, List, [], ◌∷◌, ◌++◌, codes}
 use Rattle.std.specs.Cmp.Lexicographic.{pointwise}
 pub use Rattle.vet_base.specs.declared.name.Name.{Name}
-use Rattle.app_model.specs.declared.call.Proto.{Proto}
+use Rattle.app_machine.specs.declared.call.Proto.{Proto}
 
 -- the same bytes
 abbrev pub same_name : Name → Name → Bool

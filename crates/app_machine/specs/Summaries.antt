@@ -1,21 +1,21 @@
 -- What the lists say of library classes and of calls of their methods.
 use Rattle.std.specs.Prelude.{◌≡◌, ℕ, zero, suc, ◌+◌, Bool, true, false, ◌&&◌, List, [], ◌∷◌, length, map, Option, Some, None, option_map, slice_get, find, flat_map, is_some, if◌then◌else◌}
-use Rattle.app_model.specs.declared.call.Proto.{Proto}
-use Rattle.app_model.specs.declared.call.MethodRef.{MethodRef}
-use Rattle.app_model.specs.declared.app.Class.{Class}
-use Rattle.app_model.specs.declared.app.App.{App}
-use Rattle.app_model.specs.declared.summary.Gives.{Gives}
-use Rattle.app_model.specs.declared.summary.Gives.TheVariants as gives
-use Rattle.app_model.specs.declared.summary.Summary.{Summary}
-use Rattle.app_model.specs.declared.lists.FallbackWord.{FallbackWord}
-use Rattle.app_model.specs.declared.lists.FallbackWord.TheVariants as fallback
-use Rattle.app_model.specs.declared.lists.SummaryId.{SummaryId}
-use Rattle.app_model.specs.declared.lists.SummaryId.TheVariants.{Row, Fallback}
-use Rattle.app_model.specs.declared.lists.LibClass.{LibClass}
-use Rattle.app_model.specs.declared.lists.Lists.{Lists}
-use Rattle.app_model.specs.Members.{In, first_given, first_index}
-use Rattle.app_model.specs.Names.{Name, same_name, same_proto, is_array, object_class}
-use Rattle.app_model.specs.Lookups.{class_named, directly_above}
+use Rattle.app_machine.specs.declared.call.Proto.{Proto}
+use Rattle.app_machine.specs.declared.call.MethodRef.{MethodRef}
+use Rattle.app_machine.specs.declared.app.Class.{Class}
+use Rattle.app_machine.specs.declared.app.App.{App}
+use Rattle.app_machine.specs.declared.summary.Gives.{Gives}
+use Rattle.app_machine.specs.declared.summary.Gives.TheVariants as gives
+use Rattle.app_machine.specs.declared.summary.Summary.{Summary}
+use Rattle.app_machine.specs.declared.lists.FallbackWord.{FallbackWord}
+use Rattle.app_machine.specs.declared.lists.FallbackWord.TheVariants as fallback
+use Rattle.app_machine.specs.declared.lists.SummaryId.{SummaryId}
+use Rattle.app_machine.specs.declared.lists.SummaryId.TheVariants.{Row, Fallback}
+use Rattle.app_machine.specs.declared.lists.LibClass.{LibClass}
+use Rattle.app_machine.specs.declared.lists.Lists.{Lists}
+use Rattle.vet_base.specs.Members.{In, first_given, first_index}
+use Rattle.app_machine.specs.Names.{Name, same_name, same_proto, is_array, object_class}
+use Rattle.app_machine.specs.Lookups.{class_named, directly_above}
 
 -- the listed class of this name
 unfoldable pub listed_class : Lists → Name → Option LibClass

@@ -25,14 +25,3 @@ pub enum CallKind {
     Static,
     Interface,
 }
-
-/// What a call comes to.
-#[derive(Clone, Copy, Debug)]
-pub enum Target<'a> {
-    /// The number of a method of the app.
-    Body(u32),
-    /// A class of the library.
-    Library(&'a Name),
-    /// The call can only raise.
-    Nothing,
-}

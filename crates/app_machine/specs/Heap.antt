@@ -1,9 +1,9 @@
 -- Values, objects, and what is reached from a value.
 use Rattle.std.specs.Prelude.{◌≡◌, ◌==◌, ℕ, zero, suc, if◌then◌else◌, List, [], ◌∷◌, Option, Some, None}
 use Rattle.vet_base.specs.declared.key_id.KeyId.{KeyId}
-use Rattle.app_model.specs.Members.{In}
-use Rattle.app_model.specs.Names.{Name}
-use Rattle.app_model.specs.Lookups.{elem_key}
+use Rattle.vet_base.specs.Members.{In}
+use Rattle.app_machine.specs.Names.{Name}
+use Rattle.app_machine.specs.Lookups.{elem_key}
 
 -- A place in the heap, where there is one, and the categories with which the value is labelled. Numbers have no value.
 pub record Value : Type 0 where

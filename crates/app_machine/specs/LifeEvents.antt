@@ -1,9 +1,9 @@
 -- The events in the life of each kind of component, as the system calls them.
 -- Android documentation: "Application", "The activity lifecycle", "Services overview", "Broadcasts overview".
 use Rattle.std.specs.Prelude.{ℕ, List, [], ◌∷◌, codes}
-use Rattle.app_model.specs.declared.component.Kind.{Kind}
-use Rattle.app_model.specs.declared.component.Kind.TheVariants.{Application, Activity, Service, Receiver}
-use Rattle.app_model.specs.Names.{Name}
+use Rattle.app_machine.specs.declared.component.Kind.{Kind}
+use Rattle.app_machine.specs.declared.component.Kind.TheVariants.{Application, Activity, Service, Receiver}
+use Rattle.app_machine.specs.Names.{Name}
 
 -- the state before, the method that runs with its descriptor, and the state after
 pub record LifeEvent : Type 0 where

@@ -1,19 +1,19 @@
 -- Steps of the machine, and runs.
 use Rattle.std.specs.Prelude.{◌≡◌, ℕ, Bool, true, false, List, [], ◌∷◌, map, Option, Some, None}
-use Rattle.app_model.specs.declared.call.MethodRef.{MethodRef}
-use Rattle.app_model.specs.declared.call.CallKind.{CallKind}
-use Rattle.app_model.specs.declared.method.Method.{Method}
-use Rattle.app_model.specs.declared.method.Act.TheVariants.{Call, Return, Throw}
-use Rattle.app_model.specs.declared.summary.Summary.{Summary}
-use Rattle.app_model.specs.declared.lists.Lists.{Lists}
-use Rattle.app_model.specs.declared.app.App.{App}
-use Rattle.app_model.specs.Lookups.{Body, ActAt, Goes, HasCode, IsNative, Initialises}
-use Rattle.app_model.specs.Heap.{Value, Object, blank}
-use Rattle.app_model.specs.State.{result_register, write, World, Frame, entered}
-use Rattle.app_model.specs.Local.{Local}
-use Rattle.app_model.specs.Calls.{Calls_to, arguments, Raises, returned, hand}
-use Rattle.app_model.specs.Library.{positions, Library_call, Uses_row}
-use Rattle.app_model.specs.Events.{Comes, MayInitialise, labels_at, layout, Parameters}
+use Rattle.app_machine.specs.declared.call.MethodRef.{MethodRef}
+use Rattle.app_machine.specs.declared.call.CallKind.{CallKind}
+use Rattle.app_machine.specs.declared.method.Method.{Method}
+use Rattle.app_machine.specs.declared.method.Act.TheVariants.{Call, Return, Throw}
+use Rattle.app_machine.specs.declared.summary.Summary.{Summary}
+use Rattle.app_machine.specs.declared.lists.Lists.{Lists}
+use Rattle.app_machine.specs.declared.app.App.{App}
+use Rattle.app_machine.specs.Lookups.{Body, ActAt, Goes, HasCode, IsNative, Initialises}
+use Rattle.app_machine.specs.Heap.{Value, Object, blank}
+use Rattle.app_machine.specs.State.{result_register, write, World, Frame, entered}
+use Rattle.app_machine.specs.Local.{Local}
+use Rattle.app_machine.specs.Calls.{Calls_to, arguments, Raises, returned, hand}
+use Rattle.app_machine.specs.Library.{positions, Library_call, Uses_row}
+use Rattle.app_machine.specs.Events.{Comes, MayInitialise, labels_at, layout, Parameters}
 
 -- the frame of a body that begins with these argument values
 abbrev pub frame_of : ℕ → Method → List Value → Bool → Frame

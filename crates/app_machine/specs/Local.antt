@@ -2,13 +2,13 @@
 -- Android documentation, Dalvik bytecode: "Summary of bytecode set".
 use Rattle.std.specs.Prelude.{◌≡◌, ◌↔◌, ℕ, List, [], ◌∷◌, ◌++◌, length, Some}
 use Rattle.vet_base.specs.declared.key_id.KeyId.{KeyId}
-use Rattle.app_model.specs.declared.app.App.{App}
-use Rattle.app_model.specs.declared.method.Act.TheVariants.{Skip, Join, Move, Blank, New, Fill, Get, Put, GetStatic, PutStatic, TakeResult, TakeException, Go}
-use Rattle.app_model.specs.Members.{In}
-use Rattle.app_model.specs.Names.{Name}
-use Rattle.app_model.specs.Lookups.{elem_key, ActAt, Goes}
-use Rattle.app_model.specs.Heap.{Value, blank, labelled, put_to, Gets}
-use Rattle.app_model.specs.State.{result_register, exception_register, write_all, write, World, Frame, object_at, new_object}
+use Rattle.app_machine.specs.declared.app.App.{App}
+use Rattle.app_machine.specs.declared.method.Act.TheVariants.{Skip, Join, Move, Blank, New, Fill, Get, Put, GetStatic, PutStatic, TakeResult, TakeException, Go}
+use Rattle.vet_base.specs.Members.{In}
+use Rattle.app_machine.specs.Names.{Name}
+use Rattle.app_machine.specs.Lookups.{elem_key, ActAt, Goes}
+use Rattle.app_machine.specs.Heap.{Value, blank, labelled, put_to, Gets}
+use Rattle.app_machine.specs.State.{result_register, exception_register, write_all, write, World, Frame, object_at, new_object}
 
 -- the elements of a filled array are the values of the registers
 abbrev pub AreElements : Frame → List ℕ → List (KeyId × Value) → Type 0

@@ -2,18 +2,18 @@
 -- Android documentation: as in `LifeEvents`; "Input events overview" for clicks; "Processes and threads" for callbacks.
 use Rattle.std.specs.Prelude.{◌≡◌, ◌≢◌, ◌==◌, ◌⊎◌, ℕ, ◌+◌, IsTrue, if◌then◌else◌, List, [], ◌∷◌, ◌++◌, length, Option, Some, None, filter_map}
 use Rattle.vet_base.specs.declared.key_id.KeyId.{KeyId}
-use Rattle.app_model.specs.declared.component.Kind.TheVariants.{Application, Activity}
-use Rattle.app_model.specs.declared.component.Component.{Component}
-use Rattle.app_model.specs.declared.lists.Callback.{Callback}
-use Rattle.app_model.specs.declared.lists.Lists.{Lists}
-use Rattle.app_model.specs.declared.app.App.{App}
-use Rattle.app_model.specs.Members.{In, IsAt}
-use Rattle.app_model.specs.Names.{Name, is_wide, is_reference, click_descriptor}
-use Rattle.app_model.specs.Lookups.{find_body, body_named, initialisers_from, elem_key}
-use Rattle.app_model.specs.Summaries.{Below}
-use Rattle.app_model.specs.Heap.{Value, Object, labelled, ClassAt}
-use Rattle.app_model.specs.State.{World, Component_state, new_object}
-use Rattle.app_model.specs.LifeEvents.{LifeEvent, life_events}
+use Rattle.app_machine.specs.declared.component.Kind.TheVariants.{Application, Activity}
+use Rattle.app_machine.specs.declared.component.Component.{Component}
+use Rattle.app_machine.specs.declared.lists.Callback.{Callback}
+use Rattle.app_machine.specs.declared.lists.Lists.{Lists}
+use Rattle.app_machine.specs.declared.app.App.{App}
+use Rattle.vet_base.specs.Members.{In, IsAt}
+use Rattle.app_machine.specs.Names.{Name, is_wide, is_reference, click_descriptor}
+use Rattle.app_machine.specs.Lookups.{find_body, body_named, initialisers_from, elem_key}
+use Rattle.app_machine.specs.Summaries.{Below}
+use Rattle.app_machine.specs.Heap.{Value, Object, labelled, ClassAt}
+use Rattle.app_machine.specs.State.{World, Component_state, new_object}
+use Rattle.app_machine.specs.LifeEvents.{LifeEvent, life_events}
 
 -- the component is the application object
 pub record IsApplication (app : App) (c : ℕ) : Type 0 where

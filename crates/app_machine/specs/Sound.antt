@@ -3,27 +3,21 @@ use Rattle.std.specs.Prelude.{◌≡◌, ◌<◌, ◌≤◌, ◌+◌, ℕ, Bool,
 use Rattle.std.specs.Ordering.{nat_cmp, ordering_then}
 use Rattle.std.specs.Cmp.Lexicographic.{slice_cmp}
 use Rattle.std.specs.declared.cmp.Ordering.{Ordering}
-use Rattle.std.specs.declared.cmp.Ordering.TheVariants.{Less}
-use Rattle.app_model.specs.declared.call.Proto.{Proto}
-use Rattle.app_model.specs.declared.method.Method.{Method}
-use Rattle.app_model.specs.declared.method.Step.{Step}
-use Rattle.app_model.specs.declared.method.Act.{Act}
-use Rattle.app_model.specs.declared.method.Act.TheVariants.{Skip, Join, Move, Blank, New, Fill, Get, Put, GetStatic, PutStatic, Call, Return, Throw, TakeResult, TakeException, Go}
-use Rattle.app_model.specs.declared.component.Component.{Component}
-use Rattle.app_model.specs.declared.app.Key.{Key}
-use Rattle.app_model.specs.declared.app.Key.TheVariants.{Elem, Field}
-use Rattle.app_model.specs.declared.app.Class.{Class}
-use Rattle.app_model.specs.declared.app.App.{App}
-use Rattle.app_model.specs.Members.{In}
-use Rattle.app_model.specs.Names.{Name, widths, descriptor_of}
-use Rattle.app_model.specs.Lookups.{directly_above, is_static_call}
-use Rattle.app_model.specs.Events.{IsApplication}
-
--- each element stands before the next, so that none stands twice
-abbrev pub Ascends : {A : Type 0} → (A → A → Ordering) → List A → Type 0
-Ascends order [] = Unit {0}
-Ascends order (x ∷ []) = Unit {0}
-Ascends order (x ∷ y ∷ ys) = (order x y ≡ Less) × Ascends order (y ∷ ys)
+use Rattle.app_machine.specs.declared.call.Proto.{Proto}
+use Rattle.app_machine.specs.declared.method.Method.{Method}
+use Rattle.app_machine.specs.declared.method.Step.{Step}
+use Rattle.app_machine.specs.declared.method.Act.{Act}
+use Rattle.app_machine.specs.declared.method.Act.TheVariants.{Join, Move, Blank, New, Fill, Get, Put, GetStatic, PutStatic, Call, Return, Throw, TakeResult, TakeException}
+use Rattle.app_machine.specs.declared.component.Component.{Component}
+use Rattle.app_machine.specs.declared.app.Key.{Key}
+use Rattle.app_machine.specs.declared.app.Key.TheVariants.{Elem, Field}
+use Rattle.app_machine.specs.declared.app.Class.{Class}
+use Rattle.app_machine.specs.declared.app.App.{App}
+use Rattle.vet_base.specs.Ascending.{Ascends}
+use Rattle.vet_base.specs.Members.{In}
+use Rattle.app_machine.specs.Names.{Name, widths, descriptor_of}
+use Rattle.app_machine.specs.Lookups.{directly_above, is_static_call}
+use Rattle.app_machine.specs.Events.{IsApplication}
 
 abbrev pub name_order : Name → Name → Ordering
 name_order = slice_cmp nat_cmp
@@ -53,9 +47,8 @@ pub data IsAbove (app : App) : Name → Name → Type 0 where
 abbrev pub taken : Bool → Proto → ℕ
 taken is_static proto = if is_static then widths proto.params else 1 + widths proto.params
 
--- the registers, keys and statics that an act names
+-- the registers that an act names
 abbrev pub registers_of : Act → List ℕ
-registers_of Skip = []
 registers_of (Join ds xs) = ds ++ xs
 registers_of (Move ds x) = x ∷ ds
 registers_of (Blank ds) = ds
@@ -70,69 +63,36 @@ registers_of (Return x) = option_to_list x
 registers_of (Throw x) = x ∷ []
 registers_of (TakeResult ds) = ds
 registers_of (TakeException d) = d ∷ []
-registers_of Go = []
+registers_of act = []
 
-abbrev pub KeyBelow : Act → ℕ → Type 0
-KeyBelow (Get ds o k) n = k.0 < n
-KeyBelow (Put o k x) n = k.0 < n
-KeyBelow Skip n = Unit {0}
-KeyBelow (Join ds xs) n = Unit {0}
-KeyBelow (Move ds x) n = Unit {0}
-KeyBelow (Blank ds) n = Unit {0}
-KeyBelow (New d class) n = Unit {0}
-KeyBelow (Fill xs class) n = Unit {0}
-KeyBelow (GetStatic ds g) n = Unit {0}
-KeyBelow (PutStatic g x) n = Unit {0}
-KeyBelow (Call kind at args) n = Unit {0}
-KeyBelow (Return x) n = Unit {0}
-KeyBelow (Throw x) n = Unit {0}
-KeyBelow (TakeResult ds) n = Unit {0}
-KeyBelow (TakeException d) n = Unit {0}
-KeyBelow Go n = Unit {0}
+-- the keys that it names
+abbrev pub keys_of : Act → List ℕ
+keys_of (Get ds o k) = k.0 ∷ []
+keys_of (Put o k x) = k.0 ∷ []
+keys_of act = []
 
-abbrev pub StaticBelow : Act → ℕ → Type 0
-StaticBelow (GetStatic ds g) n = g < n
-StaticBelow (PutStatic g x) n = g < n
-StaticBelow Skip n = Unit {0}
-StaticBelow (Join ds xs) n = Unit {0}
-StaticBelow (Move ds x) n = Unit {0}
-StaticBelow (Blank ds) n = Unit {0}
-StaticBelow (New d class) n = Unit {0}
-StaticBelow (Fill xs class) n = Unit {0}
-StaticBelow (Get ds o k) n = Unit {0}
-StaticBelow (Put o k x) n = Unit {0}
-StaticBelow (Call kind at args) n = Unit {0}
-StaticBelow (Return x) n = Unit {0}
-StaticBelow (Throw x) n = Unit {0}
-StaticBelow (TakeResult ds) n = Unit {0}
-StaticBelow (TakeException d) n = Unit {0}
-StaticBelow Go n = Unit {0}
+-- the statics that it names
+abbrev pub statics_of : Act → List ℕ
+statics_of (GetStatic ds g) = g ∷ []
+statics_of (PutStatic g x) = g ∷ []
+statics_of act = []
+
+-- each of the numbers is below n
+abbrev pub AllBelow : ℕ → List ℕ → Type 0
+AllBelow n [] = Unit {0}
+AllBelow n (x ∷ xs) = (x < n) × AllBelow n xs
 
 -- a call has the registers that its reference takes
 abbrev pub TakesItsRegisters : Act → Type 0
 TakesItsRegisters (Call kind at args) = length args ≡ taken (is_static_call kind) at.proto
-TakesItsRegisters Skip = Unit {0}
-TakesItsRegisters (Join ds xs) = Unit {0}
-TakesItsRegisters (Move ds x) = Unit {0}
-TakesItsRegisters (Blank ds) = Unit {0}
-TakesItsRegisters (New d class) = Unit {0}
-TakesItsRegisters (Fill xs class) = Unit {0}
-TakesItsRegisters (Get ds o k) = Unit {0}
-TakesItsRegisters (Put o k x) = Unit {0}
-TakesItsRegisters (GetStatic ds g) = Unit {0}
-TakesItsRegisters (PutStatic g x) = Unit {0}
-TakesItsRegisters (Return x) = Unit {0}
-TakesItsRegisters (Throw x) = Unit {0}
-TakesItsRegisters (TakeResult ds) = Unit {0}
-TakesItsRegisters (TakeException d) = Unit {0}
-TakesItsRegisters Go = Unit {0}
+TakesItsRegisters act = Unit {0}
 
 pub record SoundStep (app : App) (m : Method) (step : Step) : Type 0 where
   pub next : (pc : ℕ) → In pc step.next → In pc (map (λ (s : Step). s.pc) m.steps)
   pub catches : (pc : ℕ) → In pc step.catches → In pc (map (λ (s : Step). s.pc) m.steps)
   pub registers : (r : ℕ) → In r (registers_of step.act) → r < m.registers
-  pub key : KeyBelow step.act (length app.keys)
-  pub static : StaticBelow step.act (length app.statics)
+  pub keys : AllBelow (length app.keys) (keys_of step.act)
+  pub statics : AllBelow (length app.statics) (statics_of step.act)
   pub call : TakesItsRegisters step.act
 
 -- the steps stand by ascending pc, the first at 0

@@ -1,0 +1,14 @@
+pub mod Calls
+pub mod Events
+pub mod Heap
+pub mod Library
+pub mod LifeEvents
+pub mod Local
+pub mod Lookups
+pub mod Names
+pub mod Run
+pub mod Safe
+pub mod Sound
+pub mod SoundLists
+pub mod State
+pub mod Summaries
