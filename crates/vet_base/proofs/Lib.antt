@@ -1,2 +1,14 @@
+pub mod Ascending
+pub mod Bools
+pub mod Eaches
+pub mod Firsts
+pub mod Lists
+pub mod Members
+pub mod Options
+pub mod Orders
+pub mod Results
+pub mod Runs
 pub mod Scripts
 pub mod Stored
+pub mod Texts
+pub mod Throughs
