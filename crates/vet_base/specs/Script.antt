@@ -70,6 +70,14 @@ rows (suc n) i row s = do
   others ← rows n (i + 1) row first.1
   Value (first.0 ∷ others.0, others.1)
 
+-- the same, where a row does not ask for its number
+unfoldable pub repeat : {F S X : Type 0} → ℕ → (S → Script F (X × S)) → S → Script F (List X × S)
+repeat zero row s = Value ([], s)
+repeat (suc n) row s = do
+  first ← row s
+  others ← repeat n row first.1
+  Value (first.0 ∷ others.0, others.1)
+
 -- rows one after the other while there are more, at most so many
 unfoldable pub sweep : {F S X : Type 0} → ℕ → (S → Bool) → (S → Script F (X × S)) → S → Script F (List X × S)
 sweep zero more row s = Value ([], s)
