@@ -26,6 +26,9 @@ bind_ok m f y e = then_ok (run m) f y (sym (run_bind m f) ∙ e)
 pub bind_runs : {F A B : Type 0} (m : Script F A) (x : A) (f : A → Script F B) (r : Result B F) → run m ≡ Ok x → run (f x) ≡ r → run (m >>= f) ≡ r
 bind_runs m x f r first then = rw (run_bind m f, first) then
 
+pub run_after : {F A B : Type 0} (m : Script F A) (x : A) → run m ≡ Ok x → (f : A → Script F B) → run (m >>= f) ≡ run (f x)
+run_after m x first f = bind_runs m x f (run (f x)) first refl
+
 pub bind_agree : {F A B : Type 0} (m : Script F A) (f g : A → Script F B) → ((x : A) → f x ≡ g x) → (m >>= f) ≡ (m >>= g)
 bind_agree (Value x) f g same = same x
 bind_agree (Test holds fault rest) f g same = ap (λ (s : Script _ _). Test holds fault s) (bind_agree rest f g same)
