@@ -4,10 +4,7 @@ use Rattle.app_machine.specs.declared.lists.LibClass.{LibClass}
 use Rattle.app_machine.specs.Names.{Name, same_name}
 use Rattle.office_forms.specs.Places.{place_of}
 use Rattle.office_forms.specs.Classes.{above_in, class_name}
-
-either : (b : Bool) → (b ≡ true) ⊎ (b ≡ false)
-either true = inl refl
-either false = inr refl
+use Rattle.std.proofs.lemmas.Bool.{cases_Bool}
 
 -- the place of a name, where the first is that of the row or not
 place_step : (q : Name) (k : Name) (ks : List Name) (b : Bool) → same_name q k ≡ b → place_of same_name q (k ∷ ks) ≡ cond b (Some 0) (option_map suc (place_of same_name q ks))
@@ -36,7 +33,7 @@ above_is q (c ∷ cs) d =
     (λ e. above_step q c cs true e ∙ sym (ap (λ o. at_place o (c ∷ cs) d) (place_step q c.name (map class_name cs) true e)))
     (λ e. above_step q c cs false e ∙ above_is q cs d ∙ sym (at_suc (place_of same_name q (map class_name cs)) c cs d)
     ∙ sym (ap (λ o. at_place o (c ∷ cs) d) (place_step q c.name (map class_name cs) false e)))
-    (either (same_name q c.name))
+    (cases_Bool (same_name q c.name))
 
 pub none_above : (q : Name) (cs : List LibClass) (names : List Name) → names ≡ map class_name cs → None ≡ place_of same_name q names → above_in cs q ≡ None
 unfolding at_place above_in

@@ -26,7 +26,8 @@ use Rattle.office_forms.specs.Each.{with_new}
 use Rattle.office_forms.specs.Fields.{known, text_at, texts_at, number_at, tables_at, table_in}
 use Rattle.office_forms.specs.Classes.{above_in, parent_row, parents_at, parents_above, fallback_at, class_row, classes_of, class_name}
 use Rattle.office_forms.specs.Positions.{flag_at, pairs_at, named_at, listed_at}
-use Rattle.office_forms.specs.Methods.{proto_at, count_of, gives_at, sink_at, signature_at, summary_of, method_row, methods_of}
+use Rattle.app_machine.specs.Summaries.{position_count}
+use Rattle.office_forms.specs.Methods.{proto_at, gives_at, sink_at, signature_at, summary_of, method_row, methods_of}
 use Rattle.office_forms.specs.Callbacks.{callback_row, callbacks_of}
 use Rattle.office_forms.specs.Lists.{are_categories, categories_at, shared_row, shared_of, rows_of, rows_once, lists_form}
 use Rattle.app_machine.specs.SoundLists.{SoundGives, TwoPositions, NamedPosition, SoundSink, SoundClass, SoundSummary, SoundCallback, SoundLists}
@@ -124,7 +125,7 @@ shared_counted ds = yields_each SharedCounted shared_row shared_row_counted ds 0
 summary_sound : (listed : Listed) (at : Signature) (t : Members) → Yields (SoundSummary (length listed.categories) (length listed.shared)) (summary_of listed at t)
 unfolding summary_of
 summary_sound listed at t =
-    let count : ℕ = count_of at.proto at.is_static in
+    let count : ℕ = position_count at.is_static at.proto in
     yields_then (SoundGives count (length listed.shared)) _ (gives_at listed.shared count t) _ (gives_within listed.shared count t)
     (λ result r. yields_then (All (TwoPositions count)) _ (pairs_at section.Method key.Puts count t) _ (pairs_within section.Method key.Puts count t)
     (λ puts p. yields_then (All (NamedPosition count (length listed.shared))) _ (named_at section.Method key.Stores count listed.shared t) _ (named_are_within section.Method key.Stores count listed.shared t)
@@ -173,7 +174,7 @@ callback_counted categories n d callbacks so_far =
     (λ _. yields_past _ (text_at section.Callback key.Class spelling.Class t) _
     (λ class. yields_past _ (text_at section.Callback key.Name spelling.Text t) _
     (λ name. yields_past _ (proto_at section.Callback t) _
-    (λ proto. yields_then _ _ (named_at section.Callback key.Sources (count_of proto.0 false) categories t) _ (named_are_within section.Callback key.Sources (count_of proto.0 false) categories t)
+    (λ proto. yields_then _ _ (named_at section.Callback key.Sources (position_count false proto.0) categories t) _ (named_are_within section.Callback key.Sources (position_count false proto.0) categories t)
     (λ sources within.
     let callback : Callback = record { class = class; name = name; proto = proto.0; sources = sources } in
     yields_value _ _ (record {

@@ -6,10 +6,7 @@ use Rattle.std.specs.Ordering.{is_eq}
 use Rattle.std.specs.Cmp.{IsEquivalence}
 use Rattle.std.specs.BTreeMap.{BTreeMap, get, Updates}
 use Rattle.office_forms.specs.Places.{place_of, HasPlaces}
-
-either : (b : Bool) → (b ≡ true) ⊎ (b ≡ false)
-either true = inl refl
-either false = inr refl
+use Rattle.std.proofs.lemmas.Bool.{cases_Bool}
 
 module _ {K : Type 0} (same : K → K → Bool) where
   -- where x stands in a list with one key more
@@ -36,7 +33,7 @@ module _ {K : Type 0} (same : K → K → Bool) where
       (λ e. place_step x j (keys ++ k ∷ []) true e ∙ sym (ap (λ o. option_or o after) (place_step x j keys true e)))
       (λ e. place_step x j (keys ++ k ∷ []) false e ∙ ap (option_map suc) (place_last x keys k) ∙ step_or (place_of same x keys) (same x k) (length keys)
       ∙ sym (ap (λ o. option_or o after) (place_step x j keys false e)))
-      (either (same x j))
+      (cases_Bool (same x j))
 
   -- a place is below the length
   below_suc : (o : Option ℕ) (n : ℕ) → IfSome o (λ i. i < n) → IfSome (option_map suc o) (λ i. i < suc n)
@@ -80,7 +77,7 @@ module _ {K : Type 0} (same : K → K → Bool) where
         ∙ sym (place_last q keys k ∙ ap (λ b. option_or (place_of same q keys) (last_place b (length keys))) e ∙ ap (λ o. option_or o (Some (length keys))) gone))
         (λ e. there ∙ ap (λ b. cond b (Some (length keys)) (get cmp m q)) (tested ∙ e) ∙ has.at q
         ∙ sym (place_last q keys k ∙ ap (λ b. option_or (place_of same q keys) (last_place b (length keys))) e ∙ or_None (place_of same q keys)))
-        (either (same q k));
+        (cases_Bool (same q k));
   }
 
   keeps : (o : Option ℕ) (p : Option ℕ) (n : ℕ) → o ≡ Some n → option_or o p ≡ o
@@ -98,7 +95,7 @@ module _ {K : Type 0} (same : K → K → Bool) where
         (λ e. let found : place_of same q keys ≡ Some place = place_same laws q k keys e ∙ sym (has.at k) ∙ there in
         has.at q ∙ sym (place_last q keys k ∙ keeps (place_of same q keys) (last_place (same q k) (length keys)) place found))
         (λ e. has.at q ∙ sym (place_last q keys k ∙ ap (λ b. option_or (place_of same q keys) (last_place b (length keys))) e ∙ or_None (place_of same q keys)))
-        (either (same q k));
+        (cases_Bool (same q k));
   }
 
 pub is_not_there : (r : Option (Bor ℕ)) (o : Option ℕ) → option_copied r ≡ o → is_some r ≡ false → o ≡ None

@@ -8,6 +8,7 @@ use Rattle.toml.specs.declared.value.Value.{Value}
 use Rattle.toml.proofs.Views.{view_of_ref}
 use Rattle.office_forms.specs.declared.shape.Shape.{Shape}
 use Rattle.office_forms.specs.Shape.{has_shape, all_have}
+use Rattle.std.proofs.lemmas.Option.{slice_get-map}
 
 abbrev pub sees : Shape → Value → Bool
 sees s v = has_shape s (view v)
@@ -33,10 +34,5 @@ pub all_do : (s : Shape) (vs : List Value) (i : ℕ) → length vs ≤ i → See
 unfolding all_have
 all_do s vs i le all = sym (list_all-map (has_shape s) view vs ∙ ap (list_all (sees s)) (sym (take_all i vs le)) ∙ all.all)
 
-slice_get_map : (vs : List Value) (i : ℕ) → option_map view (slice_get vs i) ≡ slice_get (map view vs) i
-slice_get_map [] i = refl
-slice_get_map (v ∷ vs) zero = refl
-slice_get_map (v ∷ vs) (suc i) = slice_get_map vs i
-
 pub item_seen : (r : Option (Bor Value)) (vs : List Value) (i : ℕ) → option_copied r ≡ slice_get vs i → option_map (λ v. view v.now) r ≡ slice_get (map view vs) i
-item_seen r vs i e = view_of_ref r ∙ ap (option_map view) e ∙ slice_get_map vs i
+item_seen r vs i e = view_of_ref r ∙ ap (option_map view) e ∙ sym (slice_get-map view vs i)

@@ -3,9 +3,8 @@ use Rattle.std.proofs.Common.{◌≡◌, ℕ, suc, ◌+◌, Bool, true, false, R
 use Rattle.std.specs.Prelude.{IsTrue}
 use Rattle.std.specs.List.{All}
 use Rattle.std.proofs.lemmas.List.Elements.{All-nil, All-cons}
-use Rattle.vet_base.specs.Script.{Script, Value, Test, ◌>>=◌, run, then_run, test, walk}
+use Rattle.vet_base.specs.Script.{Script, Value, Test, ◌>>=◌, run, then_run, test, walk, each}
 use Rattle.vet_base.proofs.Scripts.{run_bind}
-use Rattle.office_forms.specs.Each.{each}
 
 pub record Yields {F A : Type 0} (P : A → Type 0) (s : Script F A) : Type 0 where
   pub at : (x : A) → run s ≡ Ok x → P x

@@ -1,17 +1,17 @@
 -- The methods of app classes that the system calls.
 use Rattle.std.specs.Prelude.{false, List, [], ◌∷◌, ◌++◌}
 use Rattle.toml.specs.Data.{Data}
-use Rattle.vet_base.specs.Script.{Script, Value, ◌>>=◌}
+use Rattle.vet_base.specs.Script.{Script, Value, ◌>>=◌, each}
 use Rattle.app_machine.specs.Names.{Name}
 use Rattle.office_forms.specs.declared.fault.Fault.{Fault}
 use Rattle.office_forms.specs.declared.words.Section.TheVariants as section
 use Rattle.office_forms.specs.declared.words.Key.TheVariants as key
 use Rattle.office_forms.specs.declared.spelling.Spelling.TheVariants as spelling
 use Rattle.office_forms.specs.declared.callbacks.CallbackRows.{CallbackRows}
-use Rattle.office_forms.specs.Each.{each}
 use Rattle.office_forms.specs.Fields.{known, text_at, table_in}
 use Rattle.office_forms.specs.Positions.{named_at}
-use Rattle.office_forms.specs.Methods.{proto_at, count_of}
+use Rattle.app_machine.specs.Summaries.{position_count}
+use Rattle.office_forms.specs.Methods.{proto_at}
 
 -- a row more; a callback is no static method
 unfoldable pub callback_row : List Name → Data → CallbackRows → Script Fault CallbackRows
@@ -21,7 +21,7 @@ callback_row categories d rows = do
   class ← text_at section.Callback key.Class spelling.Class t
   name ← text_at section.Callback key.Name spelling.Text t
   proto ← proto_at section.Callback t
-  sources ← named_at section.Callback key.Sources (count_of proto.0 false) categories t
+  sources ← named_at section.Callback key.Sources (position_count false proto.0) categories t
   Value (record {
     rows = rows.rows ++ record { class = class; name = name; proto = proto.0; sources = sources } ∷ [];
     keys = rows.keys ++ record { class = class; name = name; descriptor = proto.1; is_static = false } ∷ [];

@@ -2,7 +2,7 @@
 use Rattle.std.specs.Prelude.{nat_le, false, codes, List, [], ◌∷◌, ◌++◌, length, Option, Some, None, is_some, unwrap_or, if◌then◌else◌}
 use Rattle.std.specs.Str.{bytes_eq}
 use Rattle.toml.specs.Data.{Data, Members}
-use Rattle.vet_base.specs.Script.{Script, Value, Test, ◌>>=◌, test}
+use Rattle.vet_base.specs.Script.{Script, Value, Test, ◌>>=◌, test, each}
 use Rattle.app_machine.specs.Names.{Name, same_name}
 use Rattle.app_machine.specs.declared.lists.LibClass.{LibClass}
 use Rattle.app_machine.specs.declared.lists.FallbackWord.{FallbackWord}
@@ -12,7 +12,7 @@ use Rattle.office_forms.specs.declared.fault.Fault.TheVariants.{Wrong, Range}
 use Rattle.office_forms.specs.declared.words.Section.TheVariants as section
 use Rattle.office_forms.specs.declared.words.Key.TheVariants as key
 use Rattle.office_forms.specs.declared.spelling.Spelling.TheVariants as spelling
-use Rattle.office_forms.specs.Each.{each, with_new}
+use Rattle.office_forms.specs.Each.{with_new}
 use Rattle.office_forms.specs.Fields.{known, at_key, text_at, texts_in, word_at, table_in}
 
 -- the classes above the first row of that name

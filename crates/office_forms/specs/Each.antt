@@ -6,12 +6,6 @@ use Rattle.office_forms.specs.declared.fault.Fault.{Fault}
 use Rattle.office_forms.specs.declared.fault.Fault.TheVariants.{Twice}
 use Rattle.office_forms.specs.Places.{place_of}
 
-unfoldable pub each : {F S X : Type 0} → (X → S → Script F S) → List X → S → Script F S
-each row [] s = Value s
-each row (x ∷ xs) s = do
-  t ← row x s
-  each row xs t
-
 -- the name does not stand among those before it
 unfoldable pub once : Name → List Name → Script Fault (List Name)
 once name seen = do

@@ -1,7 +1,7 @@
 -- The lists of the office: the limit of rows, the categories, and what is said of the library.
 use Rattle.std.specs.Prelude.{◌==◌, ◌&&◌, nat_le, Bool, List, [], ◌∷◌, ◌++◌, length, map}
 use Rattle.toml.specs.Data.{Data, Members}
-use Rattle.vet_base.specs.Script.{Script, Value, ◌>>=◌, test}
+use Rattle.vet_base.specs.Script.{Script, Value, ◌>>=◌, test, each}
 use Rattle.app_machine.specs.Names.{Name}
 use Rattle.app_machine.specs.declared.lists.Lists.{Lists}
 use Rattle.office_forms.specs.declared.fault.Fault.{Fault}
@@ -11,7 +11,7 @@ use Rattle.office_forms.specs.declared.words.Key.TheVariants as key
 use Rattle.office_forms.specs.declared.spelling.Spelling.TheVariants as spelling
 use Rattle.office_forms.specs.declared.lists.SharedRows.{SharedRows}
 use Rattle.office_forms.specs.declared.lists.Rows.{Rows}
-use Rattle.office_forms.specs.Each.{each, names_once, with_new}
+use Rattle.office_forms.specs.Each.{names_once, with_new}
 use Rattle.office_forms.specs.Fields.{known, text_at, texts_at, number_at, tables_at, table_in}
 use Rattle.office_forms.specs.Classes.{classes_of, class_name}
 use Rattle.office_forms.specs.Methods.{keys_once, methods_of}

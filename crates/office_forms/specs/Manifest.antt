@@ -3,7 +3,7 @@
 use Rattle.std.specs.Prelude.{false, codes, List, [], Option, Some, None, if◌then◌else◌}
 use Rattle.std.specs.Str.{bytes_eq}
 use Rattle.toml.specs.Data.{Data, Members}
-use Rattle.vet_base.specs.Script.{Script, Value, Test, ◌>>=◌, walk}
+use Rattle.vet_base.specs.Script.{Script, Value, Test, ◌>>=◌, walk, each}
 use Rattle.app_machine.specs.Names.{Name}
 use Rattle.app_machine.specs.declared.papers.Manifest.{Manifest}
 use Rattle.app_machine.specs.declared.papers.Word.{Word}
@@ -13,7 +13,7 @@ use Rattle.office_forms.specs.declared.fault.Fault.TheVariants.{Missing, Wrong}
 use Rattle.office_forms.specs.declared.words.Section.TheVariants as section
 use Rattle.office_forms.specs.declared.words.Key.TheVariants as key
 use Rattle.office_forms.specs.declared.spelling.Spelling.TheVariants.{Text, Class}
-use Rattle.office_forms.specs.Each.{each, once}
+use Rattle.office_forms.specs.Each.{once}
 use Rattle.office_forms.specs.Fields.{known, text_at, maybe_text_at, number_at, word_at, tables_at, table_in}
 
 -- the kind of component that a word names

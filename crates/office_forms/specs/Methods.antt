@@ -2,8 +2,9 @@
 use Rattle.std.specs.Prelude.{ℕ, ◌+◌, ◌==◌, not, Bool, true, false, codes, List, [], ◌∷◌, ◌++◌, length, slice_index, Option, Some, None, is_some, is_none, unwrap_or, if◌then◌else◌}
 use Rattle.std.specs.Str.{bytes_eq}
 use Rattle.toml.specs.Data.{Data, Members}
-use Rattle.vet_base.specs.Script.{Script, Value, Test, ◌>>=◌, test}
+use Rattle.vet_base.specs.Script.{Script, Value, Test, ◌>>=◌, test, each}
 use Rattle.app_machine.specs.Names.{Name, same_name}
+use Rattle.app_machine.specs.Summaries.{position_count}
 use Rattle.app_machine.specs.declared.call.Proto.{Proto}
 use Rattle.app_machine.specs.declared.summary.Gives.{Gives}
 use Rattle.app_machine.specs.declared.summary.Gives.TheVariants as gives
@@ -22,7 +23,6 @@ use Rattle.office_forms.specs.declared.methods.Listed.{Listed}
 use Rattle.office_forms.specs.declared.methods.MethodRows.{MethodRows}
 use Rattle.office_forms.specs.SameKey.{same_row}
 use Rattle.office_forms.specs.Places.{place_of}
-use Rattle.office_forms.specs.Each.{each}
 use Rattle.office_forms.specs.Fields.{known, text_at, word_at, table_in}
 use Rattle.office_forms.specs.Positions.{has_key, flag_at, positions_at, pairs_at, named_at, listed_at}
 use Rattle.office_forms.specs.Descriptor.{proto_of}
@@ -46,10 +46,6 @@ proto_at s t = do
   descriptor ← text_at s key.Proto spelling.Any t
   proto ← proto_of s key.Proto descriptor
   Value (proto, descriptor)
-
--- how many arguments a method has, the receiver among them
-unfoldable pub count_of : Proto → Bool → ℕ
-count_of proto is_static = if is_static then length proto.params else length proto.params + 1
 
 -- the class of a row, which has a row of its own
 unfoldable pub listed_class : List Name → Members → Script Fault Name
@@ -177,12 +173,12 @@ sink_at categories count t = do
 -- what a row says beside its signature
 unfoldable pub summary_of : Listed → Signature → Members → Script Fault Summary
 summary_of listed at t = do
-  result ← gives_at listed.shared (count_of at.proto at.is_static) t
-  puts ← pairs_at section.Method key.Puts (count_of at.proto at.is_static) t
-  stores ← named_at section.Method key.Stores (count_of at.proto at.is_static) listed.shared t
-  copies ← pairs_at section.Method key.Copies (count_of at.proto at.is_static) t
+  result ← gives_at listed.shared (position_count at.is_static at.proto) t
+  puts ← pairs_at section.Method key.Puts (position_count at.is_static at.proto) t
+  stores ← named_at section.Method key.Stores (position_count at.is_static at.proto) listed.shared t
+  copies ← pairs_at section.Method key.Copies (position_count at.is_static at.proto) t
   source ← listed_at section.Method key.Source listed.categories t
-  sink ← sink_at listed.categories (count_of at.proto at.is_static) t
+  sink ← sink_at listed.categories (position_count at.is_static at.proto) t
   reflective ← flag_at section.Method key.Reflective t
   Value (record {
     class = at.class;

@@ -9,7 +9,7 @@ use crate::fields::{table_in, text_at};
 use crate::index::Index;
 use crate::positions::{are_two, items_at, name_at, position_at};
 use crate::shape::Shape;
-use crate::signature::{MethodKey, count_of, proto_at};
+use crate::signature::{MethodKey, position_count, proto_at};
 use crate::spelling::Spelling;
 use crate::tree::{items_in, known};
 use crate::{Fault, Key, Section};
@@ -26,7 +26,7 @@ pub struct CallbackRows {
 }
 
 /// Reads the rows.
-#[tactic(auto, unfolding(crate::specs::Callbacks::callbacks_of), using(crate::proofs::Eaching::each_begins, crate::proofs::Eaching::each_goes_on, crate::proofs::Eaching::each_fails, crate::proofs::Eaching::each_is_done))]
+#[tactic(auto, unfolding(crate::specs::Callbacks::callbacks_of), using(crate::proofs::Eaching::eaching_begins, crate::proofs::Eaching::eaching_goes_on, crate::proofs::Eaching::eaching_fails, crate::proofs::Eaching::eaching_is_done))]
 pub fn callbacks_of(
     alloc: Global,
     tables: &[Value],
@@ -61,10 +61,10 @@ fn callback_row(
     let class = text_at(alloc, table, Section::Callback, Key::Class, Spelling::Class)?;
     let name = text_at(alloc, table, Section::Callback, Key::Name, Spelling::Text)?;
     let (proto, descriptor) = proto_at(alloc, table, Section::Callback)?;
-    let sources = sources_at(alloc, table, count_of(&proto, false), categories)?;
+    let sources = sources_at(alloc, table, position_count(false, &proto), categories)?;
     let key = MethodKey {
-        class: class.copy(alloc)?,
-        name: name.copy(alloc)?,
+        class: class.copy()?,
+        name: name.copy()?,
         descriptor,
         is_static: false,
     };

@@ -56,11 +56,11 @@ impl Classes {
     }
 
     /// The rows and one more.
-    pub fn with(self, alloc: Global, row: LibClass) -> Result<Self, Memory>
+    pub fn with(self, row: LibClass) -> Result<Self, Memory>
         ensures { IfOk result (λ x. x ≡ self ++ row ∷ []) }
     {
         let Classes { mut rows, names } = self;
-        let names = names.with(row.name.copy(alloc)?, row.name.copy(alloc)?)?;
+        let names = names.with(row.name.copy()?, row.name.copy()?)?;
         rows.push(row)?;
         Ok(Classes { rows, names })
     }
@@ -75,7 +75,7 @@ impl Classes {
 }
 
 /// Reads the rows.
-#[tactic(auto, unfolding(crate::specs::Classes::classes_of), using(crate::proofs::Eaching::each_begins, crate::proofs::Eaching::each_goes_on, crate::proofs::Eaching::each_fails, crate::proofs::Eaching::each_is_done))]
+#[tactic(auto, unfolding(crate::specs::Classes::classes_of), using(crate::proofs::Eaching::eaching_begins, crate::proofs::Eaching::eaching_goes_on, crate::proofs::Eaching::eaching_fails, crate::proofs::Eaching::eaching_is_done))]
 pub fn classes_of(alloc: Global, tables: &[Value]) -> Result<Classes, Stop<Fault>>
     ensures { Gives (λ x. x) result (classes_of (map view tables.now)) }
 {
@@ -102,7 +102,7 @@ fn class_row(alloc: Global, value: &Value, classes: Classes) -> Result<Classes, 
         above: Seq::from_vec(above.into_keys()),
         fallback,
     };
-    Ok(classes.with(alloc, row)?)
+    Ok(classes.with(row)?)
 }
 
 /// The parents that a row names, each once.
@@ -114,12 +114,12 @@ fn parents_at(alloc: Global, table: &Table) -> Result<Vec<Name>, Stop<Fault>>
         return Ok(Vec::new(alloc));
     };
     let texts = texts_in(alloc, value, Section::Class, Key::Parents)?;
-    let once = with_new(alloc, Index::new(alloc), &texts)?;
+    let once = with_new(Index::new(alloc), &texts)?;
     Ok(once.into_keys())
 }
 
 /// The class and the classes above its parents, each once; at most 64.
-#[tactic(auto, unfolding(crate::specs::Classes::parents_above), using(crate::proofs::Eaching::goes_begin, crate::proofs::Eaching::goes_on, crate::proofs::Eaching::goes_fail, crate::proofs::Eaching::goes_done))]
+#[tactic(auto, unfolding(crate::specs::Classes::parents_above), using(vet_base::proofs::Eaches::each_begins, vet_base::proofs::Eaches::each_goes_on, vet_base::proofs::Eaches::each_fails, vet_base::proofs::Eaches::each_is_done))]
 fn parents_above(
     alloc: Global,
     classes: &Classes,
@@ -130,7 +130,7 @@ fn parents_above(
 {
     let mut above = only(alloc, name)?;
     for parent in parents {
-        above = parent_row(alloc, classes, parent, above)?;
+        above = parent_row(classes, parent, above)?;
     }
     Ok(above)
 }
@@ -139,13 +139,12 @@ fn parents_above(
 fn only(alloc: Global, name: &Name) -> Result<Index<Name>, Memory>
     ensures { IfOk result (λ x. x ≡ name.now ∷ []) }
 {
-    Index::new(alloc).with(name.copy(alloc)?, name.copy(alloc)?)
+    Index::new(alloc).with(name.copy()?, name.copy()?)
 }
 
 /// The classes above one parent more, whose row stands earlier.
 #[tactic(auto, unfolding(crate::specs::Classes::parent_row))]
 fn parent_row(
-    alloc: Global,
     classes: &Classes,
     parent: &Name,
     above: Index<Name>,
@@ -155,7 +154,7 @@ fn parent_row(
     let Some(more) = classes.above(parent) else {
         return Err(Stop::Fault(Fault::Range(Section::Class, Key::Parents)));
     };
-    let all = with_new(alloc, above, more)?;
+    let all = with_new(above, more)?;
     if all.len() > 64 {
         return Err(Stop::Fault(Fault::Range(Section::Class, Key::Parents)));
     }

@@ -6,7 +6,7 @@ ghost use Rattle.vet_base.specs.Script.{Gives};
 use crate::{Fault, Key, Section};
 use app_machine::Proto;
 use std::alloc::Global;
-use vet_base::{Name, Seq, Stop};
+use vet_base::{Name, Shared, Stop};
 
 /// The parameters and the result that a descriptor names.
 #[tactic(auto, unfolding(crate::specs::Descriptor::proto_of), using(vet_base::proofs::Scripts::run_bind))]
@@ -27,7 +27,7 @@ pub fn proto_of(
     }
     let ret = Name::from_bytes(alloc, behind(text, at))?;
     Ok(Proto {
-        params: Seq::from_vec(params),
+        params: Shared::from_vec(alloc, params)?,
         ret,
     })
 }

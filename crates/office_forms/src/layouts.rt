@@ -101,7 +101,7 @@ fn layout_of(alloc: Global, value: &Value, found: Found) -> Result<(Name, Found)
     let mut all_classes = found.classes;
     all_classes.append(&mut classes)?;
     let found = Found {
-        clicks: with_new(alloc, found.clicks, &clicks)?,
+        clicks: with_new(found.clicks, &clicks)?,
         classes: all_classes,
     };
     Ok((name, found))

@@ -93,7 +93,7 @@ fn categories_at(alloc: Global, tree: &Table) -> Result<Index<Name>, Stop<Fault>
         Spelling::Category,
         200,
     )?;
-    let distinct = with_new(alloc, Index::new(alloc), &names)?;
+    let distinct = with_new(Index::new(alloc), &names)?;
     if !are_categories(&names, &distinct) {
         return Err(Stop::Fault(Fault::Range(Section::Lists, Key::Categories)));
     }
@@ -116,7 +116,7 @@ pub struct SharedRows {
     names: Index<Name>,
 }
 
-#[tactic(auto, unfolding(crate::specs::Lists::shared_of), using(crate::proofs::Eaching::each_begins, crate::proofs::Eaching::each_goes_on, crate::proofs::Eaching::each_fails, crate::proofs::Eaching::each_is_done))]
+#[tactic(auto, unfolding(crate::specs::Lists::shared_of), using(crate::proofs::Eaching::eaching_begins, crate::proofs::Eaching::eaching_goes_on, crate::proofs::Eaching::eaching_fails, crate::proofs::Eaching::eaching_is_done))]
 fn shared_of(alloc: Global, tables: &[Value]) -> Result<SharedRows, Stop<Fault>>
     ensures value { Gives (λ x. x) result (shared_of (map view tables.now)) }
     ensures few { IfOk result (λ x. length x.names ≤ length tables.now) }
@@ -142,7 +142,7 @@ fn shared_row(alloc: Global, value: &Value, shared: SharedRows) -> Result<Shared
     let name = text_at(alloc, table, Section::Shared, Key::Name, Spelling::Text)?;
     let class = text_at(alloc, table, Section::Shared, Key::Class, Spelling::Class)?;
     let SharedRows { mut rows, names } = shared;
-    let names = names.with(name.copy(alloc)?, name.copy(alloc)?)?;
+    let names = names.with(name.copy()?, name.copy()?)?;
     rows.push((name, class))?;
     Ok(SharedRows { rows, names })
 }

@@ -130,17 +130,16 @@ fn classes_once(
 {
     let seen = Index::new(alloc);
     match application {
-        None => components_once(alloc, components, seen),
+        None => components_once(components, seen),
         Some(class) => {
-            let seen = once(alloc, seen, class)?;
-            components_once(alloc, components, seen)
+            let seen = once(seen, class)?;
+            components_once(components, seen)
         }
     }
 }
 
-#[tactic(auto, unfolding(crate::specs::Manifest::components_once), using(crate::proofs::Eaching::goes_begin, crate::proofs::Eaching::goes_on, crate::proofs::Eaching::goes_fail, crate::proofs::Eaching::goes_done))]
+#[tactic(auto, unfolding(crate::specs::Manifest::components_once), using(vet_base::proofs::Eaches::each_begins, vet_base::proofs::Eaches::each_goes_on, vet_base::proofs::Eaches::each_fails, vet_base::proofs::Eaches::each_is_done))]
 fn components_once(
-    alloc: Global,
     components: &[(Word, Name)],
     before: Index<Name>,
 ) -> Result<Index<Name>, Stop<Fault>>
@@ -148,18 +147,17 @@ fn components_once(
 {
     let mut seen = before;
     for component in components {
-        seen = component_once(alloc, component, seen)?;
+        seen = component_once(component, seen)?;
     }
     Ok(seen)
 }
 
 #[tactic(auto, unfolding(crate::specs::Manifest::component_once))]
 fn component_once(
-    alloc: Global,
     component: &(Word, Name),
     seen: Index<Name>,
 ) -> Result<Index<Name>, Stop<Fault>>
     ensures { Gives (λ x. x) result (component_once component.now seen) }
 {
-    once(alloc, seen, &component.1)
+    once(seen, &component.1)
 }

@@ -9,7 +9,7 @@ use crate::fields::{table_in, text_at};
 use crate::gives::gives_at;
 use crate::index::Index;
 use crate::positions::{flag_at, has_key, listed_at, named_at, pairs_at, positions_at};
-use crate::signature::{MethodKey, Signature, count_of, proto_at};
+use crate::signature::{MethodKey, Signature, position_count, proto_at};
 use crate::spelling::Spelling;
 use crate::tree::known;
 use crate::{Fault, Key, Section};
@@ -34,7 +34,7 @@ pub struct MethodRows {
 }
 
 /// Reads the rows.
-#[tactic(auto, unfolding(crate::specs::Methods::methods_of), using(crate::proofs::Eaching::each_begins, crate::proofs::Eaching::each_goes_on, crate::proofs::Eaching::each_fails, crate::proofs::Eaching::each_is_done))]
+#[tactic(auto, unfolding(crate::specs::Methods::methods_of), using(crate::proofs::Eaching::eaching_begins, crate::proofs::Eaching::eaching_goes_on, crate::proofs::Eaching::eaching_fails, crate::proofs::Eaching::eaching_is_done))]
 pub fn methods_of(
     alloc: Global,
     tables: &[Value],
@@ -69,7 +69,7 @@ fn method_row(
     let table = table_in(value, Section::Lists, Key::Method)?;
     known(alloc, table, Section::Method)?;
     let at = signature_at(alloc, table, &listed.classes)?;
-    let key = at.key(alloc)?;
+    let key = at.key()?;
     let summary = summary_of(alloc, table, listed, at)?;
     let MethodRows { mut rows, mut keys } = rows;
     rows.push(summary)?;
@@ -122,7 +122,7 @@ fn summary_of(
     requires shared { length listed.now.shared ≤ 65536 }
     ensures { Gives (λ x. x) result (summary_of listed.now at (table_view table.now)) }
 {
-    let count = count_of(&at.proto, at.is_static);
+    let count = position_count(at.is_static, &at.proto);
     let gives = gives_at(alloc, table, &listed.shared, count)?;
     let puts = pairs_at(alloc, table, Section::Method, Key::Puts, count)?;
     let stores = named_at(

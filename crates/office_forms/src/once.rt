@@ -10,46 +10,46 @@ use vet_base::{Memory, Name, Stop};
 
 /// The names seen so far and this one, which may not be one of them.
 #[tactic(auto, unfolding(crate::specs::Each::once))]
-pub fn once(alloc: Global, seen: Index<Name>, name: &Name) -> Result<Index<Name>, Stop<Fault>>
+pub fn once(seen: Index<Name>, name: &Name) -> Result<Index<Name>, Stop<Fault>>
     ensures { Gives (λ x. x) result (once name.now seen) }
 {
     if seen.place_of(name).is_some() {
-        return Err(Stop::Fault(Fault::Twice(name.copy(alloc)?)));
+        return Err(Stop::Fault(Fault::Twice(name.copy()?)));
     }
-    Ok(seen.with(name.copy(alloc)?, name.copy(alloc)?)?)
+    Ok(seen.with(name.copy()?, name.copy()?)?)
 }
 
 /// No name stands twice.
-#[tactic(auto, unfolding(crate::specs::Each::names_once), using(crate::proofs::Eaching::goes_begin, crate::proofs::Eaching::goes_on, crate::proofs::Eaching::goes_fail, crate::proofs::Eaching::goes_done))]
+#[tactic(auto, unfolding(crate::specs::Each::names_once), using(vet_base::proofs::Eaches::each_begins, vet_base::proofs::Eaches::each_goes_on, vet_base::proofs::Eaches::each_fails, vet_base::proofs::Eaches::each_is_done))]
 pub fn names_once(alloc: Global, names: &[Name]) -> Result<Index<Name>, Stop<Fault>>
     ensures { Gives (λ x. x) result (names_once names.now) }
 {
     let mut seen = Index::new(alloc);
     for name in names {
-        seen = once(alloc, seen, name)?;
+        seen = once(seen, name)?;
     }
     Ok(seen)
 }
 
 /// The names and those of the list that are not among them.
 #[tactic(auto, using(crate::proofs::Merging::merge_begins, crate::proofs::Merging::merge_goes_on, crate::proofs::Merging::merge_done))]
-pub fn with_new(alloc: Global, seen: Index<Name>, names: &[Name]) -> Result<Index<Name>, Memory>
+pub fn with_new(seen: Index<Name>, names: &[Name]) -> Result<Index<Name>, Memory>
     ensures { IfOk result (λ x. x ≡ with_new seen names.now) }
 {
     let mut all = seen;
     for name in names {
-        all = with_one(alloc, all, name)?;
+        all = with_one(all, name)?;
     }
     Ok(all)
 }
 
 /// The names and this one, where it is not among them.
 #[tactic(auto, unfolding(crate::specs::Each::with_one))]
-fn with_one(alloc: Global, seen: Index<Name>, name: &Name) -> Result<Index<Name>, Memory>
+fn with_one(seen: Index<Name>, name: &Name) -> Result<Index<Name>, Memory>
     ensures { IfOk result (λ x. x ≡ with_one seen name.now) }
 {
     if seen.place_of(name).is_some() {
         return Ok(seen);
     }
-    seen.with(name.copy(alloc)?, name.copy(alloc)?)
+    seen.with(name.copy()?, name.copy()?)
 }

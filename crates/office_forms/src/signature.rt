@@ -2,7 +2,8 @@
 ghost use Rattle.std.specs.Prelude.{◌≡◌, ◌+◌, length, IfOk};
 ghost use Rattle.std.proofs.Common.{rules};
 ghost use Rattle.std.specs.Cmp.Rules.{comparing};
-ghost use Rattle.office_forms.specs.Methods.{same_key, key_once, keys_once, proto_at, count_of, key_of};
+ghost use Rattle.office_forms.specs.Methods.{same_key, key_once, keys_once, proto_at, key_of};
+ghost use Rattle.app_machine.specs.Summaries.{position_count};
 ghost use Rattle.toml.specs.View.{table_view};
 ghost use Rattle.vet_base.specs.Script.{Gives};
 
@@ -41,13 +42,13 @@ impl PartialEq for MethodKey {
 }
 
 impl MethodKey {
-    pub fn copy(&self, alloc: Global) -> Result<MethodKey, Memory>
+    pub fn copy(&self) -> Result<MethodKey, Memory>
         ensures { IfOk result (λ k. k ≡ self.now) }
     {
         Ok(MethodKey {
-            class: self.class.copy(alloc)?,
-            name: self.name.copy(alloc)?,
-            descriptor: self.descriptor.copy(alloc)?,
+            class: self.class.copy()?,
+            name: self.name.copy()?,
+            descriptor: self.descriptor.copy()?,
             is_static: self.is_static,
         })
     }
@@ -67,13 +68,13 @@ pub struct Signature {
 impl Signature {
     /// What tells the row from others.
     #[tactic(auto, unfolding(crate::specs::Methods::key_of))]
-    pub fn key(&self, alloc: Global) -> Result<MethodKey, Memory>
+    pub fn key(&self) -> Result<MethodKey, Memory>
         ensures { IfOk result (λ k. k ≡ key_of self.now) }
     {
         Ok(MethodKey {
-            class: self.class.copy(alloc)?,
-            name: self.name.copy(alloc)?,
-            descriptor: self.descriptor.copy(alloc)?,
+            class: self.class.copy()?,
+            name: self.name.copy()?,
+            descriptor: self.descriptor.copy()?,
             is_static: self.is_static,
         })
     }
@@ -93,37 +94,35 @@ pub fn proto_at(
     Ok((proto, descriptor))
 }
 
-/// How many arguments a method has, the receiver among them.
-#[tactic(auto, unfolding(crate::specs::Methods::count_of))]
-pub fn count_of(proto: &Proto, is_static: bool) -> usize
-    ensures { result ≡ count_of proto.now is_static }
+/// How many positions a call has: its parameters, and the receiver of a method that is not static.
+pub fn position_count(is_static: bool, proto: &Proto) -> usize
+    ensures { result ≡ position_count is_static proto.now }
 {
-    let params = proto.params.as_slice().len();
+    let params = proto.params.len();
     if is_static { params } else { params + 1 }
 }
 
 /// No row stands twice.
-#[tactic(auto, unfolding(crate::specs::Methods::keys_once), using(crate::proofs::Eaching::goes_begin, crate::proofs::Eaching::goes_on, crate::proofs::Eaching::goes_fail, crate::proofs::Eaching::goes_done))]
+#[tactic(auto, unfolding(crate::specs::Methods::keys_once), using(vet_base::proofs::Eaches::each_begins, vet_base::proofs::Eaches::each_goes_on, vet_base::proofs::Eaches::each_fails, vet_base::proofs::Eaches::each_is_done))]
 pub fn keys_once(alloc: Global, keys: &[MethodKey]) -> Result<Index<MethodKey>, Stop<Fault>>
     ensures { Gives (λ x. x) result (keys_once keys.now) }
 {
     let mut seen = Index::new(alloc);
     for key in keys {
-        seen = key_once(alloc, key, seen)?;
+        seen = key_once(key, seen)?;
     }
     Ok(seen)
 }
 
 #[tactic(auto, unfolding(crate::specs::Methods::key_once))]
 fn key_once(
-    alloc: Global,
     key: &MethodKey,
     seen: Index<MethodKey>,
 ) -> Result<Index<MethodKey>, Stop<Fault>>
     ensures { Gives (λ x. x) result (key_once key.now seen) }
 {
     if seen.place_of(key).is_some() {
-        return Err(Stop::Fault(Fault::Twice(key.name.copy(alloc)?)));
+        return Err(Stop::Fault(Fault::Twice(key.name.copy()?)));
     }
-    Ok(seen.with(key.copy(alloc)?, key.copy(alloc)?)?)
+    Ok(seen.with(key.copy()?, key.copy()?)?)
 }

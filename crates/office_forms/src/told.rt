@@ -69,5 +69,5 @@ fn joined(alloc: Global, first: &[u8], second: &[u8]) -> Result<Name, Memory>
 {
     let mut bytes = first.to_vec(alloc)?;
     bytes.extend_from_slice(second)?;
-    Ok(Name::new(bytes))
+    Name::new(alloc, bytes)
 }

@@ -19,9 +19,10 @@ use Rattle.app_machine.specs.Events.{set_component, after_event, Comes, lives, i
 use Rattle.app_machine.specs.Run.{frame_of}
 use Rattle.straight_line.specs.Straight.{bundle_class, begin_at_zero, are_in_line, is_line}
 use Rattle.straight_line.specs.Flow.{found_along, unknown_at, findings, unknown}
-use Rattle.straight_line.proofs.Lines.{Parts, same-some, none-some}
+use Rattle.straight_line.proofs.Lines.{Parts}
 use Rattle.straight_line.proofs.Heaps.{Fits, IsBare, HeapFits, Later, blank_fits, object_fits, new_fits, new_bare, same_later, grown_later}
 use Rattle.straight_line.proofs.Standing.{WorldFits, Running, code_is}
+use Rattle.std.proofs.lemmas.Option.{same_Some, none-some}
 
 -- what arguments that hold no label make of the registers
 entered_fits : (heap : List Object) (m : Method) (values : List Value) → ((i : ℕ) → Fits heap (value_or_blank values i) None) → (r : ℕ) → Fits heap (entered m values r) None
@@ -49,8 +50,8 @@ parameter_fits {app} {lists} {type = type} {heap} fits within is_bundle (is_fres
 )
 parameter_fits {app} {lists} {type = type} {heap} fits within is_bundle (is_given {p} {class} reference inside of_class below) = (
   same_later app lists heap fits,
-  object_fits heap (Some p) (λ q e. subst (λ r. r < length heap) (same-some p q e) (within p inside))
-      (λ q e k w entry. fits.no_bundle q k w class entry (subst (λ r. ClassAt heap r class) (same-some p q e) of_class) (subst (λ t. Below app lists class t) is_bundle below)) None,
+  object_fits heap (Some p) (λ q e. subst (λ r. r < length heap) (same_Some p q e) (within p inside))
+      (λ q e k w entry. fits.no_bundle q k w class entry (subst (λ r. ClassAt heap r class) (same_Some p q e) of_class) (subst (λ t. Below app lists class t) is_bundle below)) None,
 )
 
 pub parameters_fit : {app : App} {lists : Lists} {handed : List ℕ} {value : ℕ → Value} {types : List Name} {heap heap' : List Object} → HeapFits app lists heap → ((p : ℕ) → In p handed → p < length heap) → types ≡ bundle_class ∷ [] →
@@ -132,7 +133,7 @@ module _ (app : App) (lists : Lists) (s : Parts app lists) where
   event {w} world (is_born {c} {e} {class} {life} at in_state absent may) =
       let later = grown_later app lists w.heap (new_object class) world.heap (record { flat = λ k w inside. absurd {0} inside; no_bundle = λ k w inside below. inside }) in
       let bare = new_bare w.heap (new_object class) refl in
-      let receiver : (p : ℕ) → Some (length w.heap) ≡ Some p → IsBare (w.heap ++ new_object class ∷ []) p = (λ p e. subst (λ q. IsBare (w.heap ++ new_object class ∷ []) q) (same-some (length w.heap) p e) bare) in
+      let receiver : (p : ℕ) → Some (length w.heap) ≡ Some p → IsBare (w.heap ++ new_object class ∷ []) p = (λ p e. subst (λ q. IsBare (w.heap ++ new_object class ∷ []) q) (same_Some (length w.heap) p e) bare) in
       record {
         plain = refl;
         world = record {

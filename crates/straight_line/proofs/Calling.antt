@@ -27,8 +27,10 @@ use Rattle.straight_line.specs.Straight.{bundle_class, has_none, row_of_call, is
 use Rattle.straight_line.specs.Flow.{label_at, label_of_position, arrival, arrivals_at, arrivals_in, source_of, sink_of, findings}
 use Rattle.straight_line.proofs.Lines.{Parts, empty-is, up-none, is_bundle-below}
 use Rattle.straight_line.proofs.Heaps.{Fits, HeapFits, Later, blank_fits, labels_fit, new_fits, same_later, grown_later}
-use Rattle.straight_line.proofs.Labels.{all-at, below-positions, In-filter_map}
+use Rattle.straight_line.proofs.Labels.{below-positions}
 use Rattle.straight_line.proofs.Standing.{static_is, Running, WorldFits, plain_is, found_here}
+use Rattle.vet_base.proofs.Members.{none_in, in_filter_map}
+use Rattle.vet_base.proofs.Lists.{list_all-slice_get}
 
 -- the label of a call's result by its row
 row_label : Name → Option ℕ → Option ℕ
@@ -38,10 +40,6 @@ none_made : {app : App} {lists : Lists} {named : List ℕ} {heap : List Object} 
 none_made all_there e = refl
 none_made (is_there there more) e = let no : ⊥ = cc in absurd no
 none_made (is_made there class more) e = let no : ⊥ = cc in absurd no
-
-none_added : {A : Type 0} (xs : List A) → ((x : A) → In x xs → ⊥) → xs ≡ []
-none_added [] none = refl
-none_added (x ∷ xs) none = absurd (none x (inl refl))
 
 positions-is : (kind : CallKind) (at : MethodRef) (args : List ℕ) → is_static_call kind ≡ true → positions kind at args ≡ first_registers at.proto.params args
 unfolding positions
@@ -163,7 +161,7 @@ module _ (app : App) (lists : Lists) (s : Parts app lists) where
     where
       by_place : (o : Option ℕ) → slice_get places i ≡ o → Fits heap (elim o [ Some x ↦ f.registers x | None ↦ blank ]) (option_and_then (λ x. label_at known.labels x) o)
       by_place None e = blank_fits heap None
-      by_place (Some x) e = known.holds x (ltb-true x s.m.registers (all-at (λ r. nat_lt r s.m.registers) places i x below e))
+      by_place (Some x) e = known.holds x (ltb-true x s.m.registers (list_all-slice_get (λ r. nat_lt r s.m.registers) places i x below e))
 
   arrival-is : (a : Arrival) (pc : ℕ) → a.method ≡ 0 → a.pc ≡ pc → a ≡ arrival a.sink pc a.label
   arrival-is a pc first at = ap (λ m. record { label = a.label; sink = a.sink; method = m; pc = a.pc }) first ∙ ap (λ p. record { label = a.label; sink = a.sink; method = 0; pc = p }) at
@@ -187,7 +185,7 @@ module _ (app : App) (lists : Lists) (s : Parts app lists) where
       let sink : sink_of app lists at ≡ Some (a.sink, at_sink.is_sink.0) = sink_is at row there ∙ at_sink.is_sink.1 in
       let same = arrival-is a known.step.pc (at_sink.method ∙ known.first) (at_sink.pc ∙ known.pc) in
       let inside : In (arrival a.sink known.step.pc a.label) (arrivals_at known.labels places known.step.pc (a.sink, at_sink.is_sink.0)) =
-      In-filter_map (λ i. option_map (arrival a.sink known.step.pc) (label_of_position known.labels places i)) at_sink.is_sink.0 at_sink.at (arrival a.sink known.step.pc a.label) at_sink.is_sink.2 (ap (option_map (arrival a.sink known.step.pc)) label) in
+      in_filter_map (λ i. option_map (arrival a.sink known.step.pc) (label_of_position known.labels places i)) at_sink.is_sink.0 at_sink.at (arrival a.sink known.step.pc a.label) at_sink.is_sink.2 (ap (option_map (arrival a.sink known.step.pc)) label) in
       found_here app lists s known act a
       (subst (λ o. In a (arrivals_in known.labels places known.step.pc o)) (sym sink) (subst (λ b. In b (arrivals_at known.labels places known.step.pc (a.sink, at_sink.is_sink.0))) (sym same) inside))
 
@@ -203,7 +201,7 @@ module _ (app : App) (lists : Lists) (s : Parts app lists) where
       let plain = is_plain known act in
       let its_row = plain_row plain uses.class uses.goes uses.key uses.is_key row uses.is_row in
       let shared = none_made call.shared (names_none (its_row.1)) in
-      let none = none_added call.added (λ x inside. adds_none (its_row.1) x ((call.adds x).0 inside)) in
+      let none = none_in call.added (λ x inside. adds_none (its_row.1) x ((call.adds x).0 inside)) in
       let same_heap : new.heap ≡ call.with_result = call.heap ∙ ap (add_all call.with_result) none in
       let fits = result_fits world.heap (its_row.1).result (λ below. true≢false (sym (is_bundle-below app lists s.class s.classes below refl) ∙ plain.no_bundle)) (subst (λ h. Results app w.heap f (positions kind at args) row.source at.proto.ret new.statics h row.gives call.with_result result) shared call.results) in
       let later : Later app lists w.heap new.heap = subst (λ h. Later app lists w.heap h) (sym same_heap) fits.0 in

@@ -23,16 +23,14 @@ use Rattle.app_machine.specs.Safe.{Stands, native_call, without_row, at_reflecti
 use Rattle.straight_line.specs.Straight.{IsStraight, bundle_class, is_plain_act, is_return_void, are_below}
 use Rattle.straight_line.specs.Flow.{label_at, written, registers_after, result_after, findings, unknown}
 use Rattle.straight_line.specs.Coverage.{StandsListed, CoversRuns, SafeIfDeclared}
-use Rattle.straight_line.proofs.Lines.{Parts, parts_of, none-some, up-none}
+use Rattle.straight_line.proofs.Lines.{Parts, parts_of, up-none}
 use Rattle.straight_line.proofs.Heaps.{Fits, blank_fits, object_fits}
 use Rattle.straight_line.proofs.Labels.{length-written, written_fits, holds-below}
 use Rattle.straight_line.proofs.Standing.{entry, code_is, not_native, Running, WorldFits, plain_is, raise_ends, settle, missing_here}
 use Rattle.straight_line.proofs.Calling.{plain_from, is_plain, comes_to, key_is, plain_row, after_call}
 use Rattle.straight_line.proofs.Beginning.{begun, no_values, two_values, parameters_fit, layout-is, event}
-
-is_none-is : (o : Option ℕ) → is_none o ≡ true → o ≡ None
-is_none-is None h = refl
-is_none-is (Some x) h = absurd (false≢true h)
+use Rattle.vet_base.proofs.Options.{none_from_is_none}
+use Rattle.std.proofs.lemmas.Option.{none-some}
 
 module _ (app : App) (lists : Lists) (s : Parts app lists) where
   -- what is known of a state: of the world, and of the running frame where there is one
@@ -113,7 +111,7 @@ module _ (app : App) (lists : Lists) (s : Parts app lists) where
   return_none known {x} act = by_test (is_none x) refl
     where
       by_test : (b : Bool) → is_none x ≡ b → x ≡ None
-      by_test true e = is_none-is x e
+      by_test true e = none_from_is_none x e
       by_test false e = absurd (false≢true (plain_is app lists s known act e))
 
   known_step : {w : World} {fs : List Frame} {new : World} {gs : List Frame} → Known w fs → Steps app lists w fs new gs → Known new gs

@@ -9,7 +9,7 @@ use Rattle.app_machine.specs.Summaries.{Below}
 use Rattle.app_machine.specs.Heap.{Value, Object, blank, labelled, EntryAt, ClassAt, Reaches}
 use Rattle.app_machine.specs.State.{object_at}
 use Rattle.straight_line.specs.Straight.{bundle_class}
-use Rattle.straight_line.proofs.Lines.{none-some, same-some}
+use Rattle.std.proofs.lemmas.Option.{same_Some, none-some}
 
 EntryAt-append : (heap : List Object) (o : Object) (p : ℕ) (k : KeyId) (w : Value) → EntryAt (heap ++ o ∷ []) p k w → ((p ≡ length heap) × In {A = KeyId × Value} (k, w) o.entries) ⊎ EntryAt heap p k w
 EntryAt-append [] o zero k w h = inl (refl, h)
@@ -146,12 +146,12 @@ pub new_fits : (heap : List Object) (o : Object) (labels : List ℕ) (label : Op
 new_fits heap o labels label each element = record { within = within; walks = walks }
   where
     within : (p : ℕ) → Some (length heap) ≡ Some p → p < length (heap ++ o ∷ [])
-    within p e = let at_end = same-some (length heap) p e in let more = length-one_more heap o in omega arith
+    within p e = let at_end = same_Some (length heap) p e in let more = length-one_more heap o in omega arith
 
     walks : (ks : List KeyId) (l : ℕ) → Reaches (heap ++ o ∷ []) (record { place = Some (length heap); labels = labels }) ks l → label ≡ Some l
     walks [] l h = each l h
     walks (k ∷ ks) l (p, place, (w, entry, rest)) =
-        let is_element = element k w (EntryAt-new heap o p k w (same-some (length heap) p place) entry) in
+        let is_element = element k w (EntryAt-new heap o p k w (same_Some (length heap) p place) entry) in
         (labels_fit (heap ++ o ∷ []) labels label each).walks ks l (subst (λ v. Reaches (heap ++ o ∷ []) v ks l) is_element rest)
 
 -- the place of a new object without entries is bare

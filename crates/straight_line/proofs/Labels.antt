@@ -12,7 +12,6 @@ use Rattle.app_machine.specs.Library.{first_registers}
 use Rattle.straight_line.specs.Straight.{are_below}
 use Rattle.straight_line.specs.Flow.{label_at, written}
 use Rattle.straight_line.proofs.Heaps.{Fits}
-use Rattle.straight_line.proofs.Lines.{same-some, none-some}
 
 pub length-written : (ds : List ℕ) (registers : List (Option ℕ)) (label : Option ℕ) → length (written registers ds label) ≡ length registers
 length-written [] registers label = refl
@@ -51,12 +50,6 @@ holds-below (d ∷ ds) n r h above =
     let other : r ≡ d → ⊥ = (λ e. omega arith) in
     ap (λ b. b || holds ds r) (ne_eqb r d other) ∙ holds-below ds n r parts.1 above
 
--- what each element passes, the one at an index passes
-pub all-at : {A : Type 0} (test : A → Bool) (xs : List A) (i : ℕ) (x : A) → list_all test xs ≡ true → slice_get xs i ≡ Some x → test x ≡ true
-all-at test [] i x h there = absurd (none-some x there)
-all-at test (y ∷ ys) zero x h there = ap test (sym (same-some y x there)) ∙ (and_parts (test y) (list_all test ys) h).0
-all-at test (y ∷ ys) (suc i) x h there = all-at test ys i x (and_parts (test y) (list_all test ys) h).1 there
-
 -- the positions' registers are among the argument registers
 pub below-positions : (n : ℕ) (types : List Name) (args : List ℕ) → are_below n args ≡ true → are_below n (first_registers types args) ≡ true
 below-positions n [] args h = refl
@@ -72,22 +65,3 @@ below-positions n (type ∷ types) (x ∷ xs) h =
     rest : (b : Bool) → are_below n xs ≡ true → are_below n (if b then drop 1 xs else xs) ≡ true
     rest true h = dropped xs h
     rest false h = h
-
--- what is given of an element is among what is given of all
-pub In-filter_map : {A B : Type 0} (f : A → Option B) (xs : List A) (x : A) (y : B) → In x xs → f x ≡ Some y → In y (filter_map f xs)
-In-filter_map f [] x y inside e = absurd inside
-In-filter_map f (z ∷ zs) x y (inl same) e = subst (λ o. In y (cons_option o (filter_map f zs))) (sym (ap f (sym same) ∙ e)) (inl refl)
-In-filter_map {B = B} f (z ∷ zs) x y (inr inside) e = by_head (f z) (In-filter_map f zs x y inside e)
-  where
-    by_head : (o : Option B) → In y (filter_map f zs) → In y (cons_option o (filter_map f zs))
-    by_head None h = h
-    by_head (Some b) h = inr h
-
-pub In-left : {A : Type 0} (x : A) (xs ys : List A) → In x xs → In x (xs ++ ys)
-In-left x [] ys h = absurd h
-In-left x (y ∷ xs) ys (inl e) = inl e
-In-left x (y ∷ xs) ys (inr h) = inr (In-left x xs ys h)
-
-pub In-right : {A : Type 0} (x : A) (xs ys : List A) → In x ys → In x (xs ++ ys)
-In-right x [] ys h = h
-In-right x (y ∷ xs) ys h = inr (In-right x xs ys h)

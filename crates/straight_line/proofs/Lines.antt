@@ -14,6 +14,8 @@ use Rattle.vet_base.specs.Members.{In}
 use Rattle.app_machine.specs.Lookups.{class_named, directly_above, up_within, up}
 use Rattle.app_machine.specs.Summaries.{listed_above, Below, is_same, is_object, is_through, is_listed}
 use Rattle.straight_line.specs.Straight.{bundle_class, only, has_none, is_straight, IsStraight, are_straight_parts, is_on_create, is_line, is_activity, is_bundle, is_listed_bundle}
+use Rattle.std.proofs.lemmas.Option.{same_Some, none-some}
+use Rattle.vet_base.proofs.Members.{passes_if}
 
 -- a test of equality on names that is passed
 pub same-same : (a b : Name) → same_name a b ≡ true → a ≡ b
@@ -33,15 +35,9 @@ empty-is (x ∷ xs) h =
     let none : length (x ∷ xs) ≡ 0 = eqb-true (length (x ∷ xs)) 0 h in
     let no : ⊥ = omega arith in absurd no
 
-pub same-some : {A : Type 0} (x y : A) → Some x ≡ Some y → x ≡ y
-same-some x y h = cc
-
-pub none-some : {A : Type 0} (x : A) → None ≡ Some x → ⊥
-none-some x h = cc
-
 only-is : {A : Type 0} (xs : List A) (x : A) → only xs ≡ Some x → xs ≡ x ∷ []
 only-is [] x h = let no : ⊥ = cc in absurd no
-only-is (y ∷ []) x h = ap (λ z. z ∷ []) (same-some y x h)
+only-is (y ∷ []) x h = ap (λ z. z ∷ []) (same_Some y x h)
 only-is (y ∷ z ∷ more) x h = let no : ⊥ = cc in absurd no
 
 -- the parts of a straight app that the theorem rests on
@@ -104,7 +100,7 @@ unfolding class_named
 class_named-is app class found name classes h = by_test (same_name class.name name) refl (sym (ap (λ cs. find (λ (c : Class). same_name c.name name) cs) classes) ∙ h)
   where
     by_test : (b : Bool) → same_name class.name name ≡ b → cond (same_name class.name name) (Some class) None ≡ Some found → (name ≡ class.name) × (found ≡ class)
-    by_test true e h = (sym (same-same class.name name e), sym (same-some class found (sym (cond-true (same_name class.name name) (Some class) None e) ∙ h)))
+    by_test true e h = (sym (same-same class.name name e), sym (same_Some class found (sym (cond-true (same_name class.name name) (Some class) None e) ∙ h)))
     by_test false e h = let no : None ≡ Some found = sym (cond-false (same_name class.name name) (Some class) None e) ∙ h in absurd (none-some found no)
 
 -- another class is none of the app
@@ -119,11 +115,6 @@ up-none app class name classes h = ap (λ cs. up_within (length cs) cs (Some nam
     by_test true e = absurd (false≢true (sym h ∙ same-refl name class.name (sym (same-same class.name name e))))
     by_test false e = ap step e
 
-any-in : {A : Type 0} (test : A → Bool) (x : A) (xs : List A) → In x xs → test x ≡ true → list_any test xs ≡ true
-any-in test x [] inside h = absurd inside
-any-in test x (y ∷ ys) (inl same) h = or_left (test y) (list_any test ys) (ap test (sym same) ∙ h)
-any-in test x (y ∷ ys) (inr inside) h = or_right (test y) (list_any test ys) (any-in test x ys inside h)
-
 -- what may stand where a `Bundle` is asked for passes the test
 pub is_bundle-below : (app : App) (lists : Lists) (class : Class) → app.classes ≡ class ∷ [] → {name type : Name} → Below app lists name type → type ≡ bundle_class → is_bundle lists class name ≡ true
 unfolding is_bundle is_listed_bundle object_class bundle_class
@@ -134,8 +125,8 @@ is_bundle-below app lists class classes {name} (is_through {above = above} c fou
     let inside' : In above (directly_above class) = subst (λ k. In above (directly_above k)) here.1 inside in
     or_right (is_listed_bundle lists name) _ (and_from (same_name name class.name) _ (same-refl name class.name here.0)
     (elim (or_cases (is_listed_bundle lists above) _ (is_bundle-below app lists class classes below e)) [
-      | inl listed ↦ any-in (λ a. is_listed_bundle lists a) above (directly_above class) inside' listed
+      | inl listed ↦ passes_if (λ a. is_listed_bundle lists a) (directly_above class) above inside' listed
       | inr through ↦ (and_parts (same_name above class.name) _ through).1
     ]))
 is_bundle-below app lists class classes {name} {type} (is_listed inside) e =
-    or_left _ _ (or_right (same_name name bundle_class) _ (any-in (λ a. same_name a bundle_class) type (listed_above lists name) inside (same-refl type bundle_class e)))
+    or_left _ _ (or_right (same_name name bundle_class) _ (passes_if (λ a. same_name a bundle_class) (listed_above lists name) type inside (same-refl type bundle_class e)))

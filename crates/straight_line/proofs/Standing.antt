@@ -16,15 +16,16 @@ use Rattle.app_machine.specs.State.{Arrival, World, Frame, result_register}
 use Rattle.app_machine.specs.Calls.{Raises, is_caught, unwinds, ends_event}
 use Rattle.straight_line.specs.Straight.{has_none, head, is_plain_act, is_return_void, goes_only_to, is_in_line, are_in_line}
 use Rattle.straight_line.specs.Flow.{label_at, registers_after, result_after, found_at, found_along, unknown_at, findings, unknown}
-use Rattle.straight_line.proofs.Lines.{Parts, IsEntry, entry_of, same-some, none-some, empty-is}
+use Rattle.straight_line.proofs.Lines.{Parts, IsEntry, entry_of, empty-is}
 use Rattle.straight_line.proofs.Heaps.{Fits, IsBare, HeapFits}
-use Rattle.straight_line.proofs.Labels.{In-left, In-right}
+use Rattle.vet_base.proofs.Members.{in_front, in_back}
+use Rattle.std.proofs.lemmas.Option.{same_Some, none-some}
 
 only_method : (all : List Method) (m found : Method) (body : ℕ) → all ≡ m ∷ [] → slice_get all body ≡ Some found → (body ≡ 0) × (found ≡ m)
 only_method all m found body e h = at_index body (sym (ap (λ ms. slice_get ms body) e) ∙ h)
   where
     at_index : (i : ℕ) → slice_get (m ∷ []) i ≡ Some found → (i ≡ 0) × (found ≡ m)
-    at_index zero h = (refl, sym (same-some m found h))
+    at_index zero h = (refl, sym (same_Some m found h))
     at_index (suc i) h = absurd (none-some found h)
 
 goes_only : (pc : ℕ) (next : List ℕ) (to : ℕ) → goes_only_to pc next ≡ true → In to next → to ≡ pc
@@ -92,10 +93,10 @@ module _ (app : App) (lists : Lists) (s : Parts app lists) where
       step_at-is f.method f.pc known.first ∙ known.same f.pc within ∙ cond-true (known.step.pc == f.pc) (Some known.step) _ (eq-eqb known.step.pc f.pc (sym known.pc))
 
   pub act_is : {heap : List Object} {f : Frame} (known : Running heap f) {act : Act} → ActAt app f.method f.pc act → known.step.act ≡ act
-  act_is known at = ap (λ (t : Step). t.act) (same-some known.step at.step (sym (here known) ∙ at.there)) ∙ at.same
+  act_is known at = ap (λ (t : Step). t.act) (same_Some known.step at.step (sym (here known) ∙ at.there)) ∙ at.same
 
   pub goes_is : {heap : List Object} {f : Frame} (known : Running heap f) {to : ℕ} → Goes app f.method f.pc to → In to known.step.next
-  goes_is known {to} goes = subst (λ (t : Step). In to t.next) (sym (same-some known.step goes.step (sym (here known) ∙ goes.there))) goes.next
+  goes_is known {to} goes = subst (λ (t : Step). In to t.next) (sym (same_Some known.step goes.step (sym (here known) ∙ goes.there))) goes.next
 
   no_catches : (step : Step) (following : Option Step) → is_in_line app lists s.class s.m.registers step following ≡ true → step.catches ≡ []
   no_catches step None h = empty-is step.catches (and_parts _ (has_none step.catches) h).1
@@ -104,7 +105,7 @@ module _ (app : App) (lists : Lists) (s : Parts app lists) where
   -- whatever is raised ends the event
   pub raise_ends : {heap : List Object} {f : Frame} {v : Value} {gs : List Frame} → Running heap f → Raises app (f ∷ []) v gs → gs ≡ []
   raise_ends known (is_caught {pc = to} catches) =
-      let at = same-some known.step catches.step (sym (here known) ∙ catches.there) in
+      let at = same_Some known.step catches.step (sym (here known) ∙ catches.there) in
       let none = no_catches known.step (head known.more) (and_parts _ _ known.line).0 in
       absurd (subst (λ xs. In to xs) none (subst (λ (t : Step). In to t.catches) (sym at) catches.catch))
   raise_ends known (unwinds raised) = ended raised
@@ -165,16 +166,16 @@ module _ (app : App) (lists : Lists) (s : Parts app lists) where
         labels = registers_after known.labels known.last act;
         last = result_after app lists known.last act;
         sized = sized;
-        found = λ a h. known.found a (In-right a _ _
+        found = λ a h. known.found a (in_back a _ _
             (subst (λ t. In a (found_along app lists (registers_after known.labels known.last t) (result_after app lists known.last t) known.more)) (sym is_act)
             (subst (λ steps. In a (found_along app lists (registers_after known.labels known.last act) (result_after app lists known.last act) steps)) (sym next.is) h)));
-        missing = λ p h. known.missing p (In-right p _ _ (subst (λ steps. In p (flat_map (λ (t : Step). unknown_at app lists t.pc t.act) steps)) (sym next.is) h));
+        missing = λ p h. known.missing p (in_back p _ _ (subst (λ steps. In p (flat_map (λ (t : Step). unknown_at app lists t.pc t.act) steps)) (sym next.is) h));
         holds = fits;
         result = result;
       }
 
   pub found_here : {heap : List Object} {f : Frame} (known : Running heap f) {act : Act} → ActAt app f.method f.pc act → (a : Arrival) → In a (found_at app lists known.labels known.step.pc act) → In a (findings app lists)
-  found_here known at a h = known.found a (In-left a _ _ (subst (λ t. In a (found_at app lists known.labels known.step.pc t)) (sym (act_is known at)) h))
+  found_here known at a h = known.found a (in_front a _ _ (subst (λ t. In a (found_at app lists known.labels known.step.pc t)) (sym (act_is known at)) h))
 
   pub missing_here : {heap : List Object} {f : Frame} (known : Running heap f) {act : Act} → ActAt app f.method f.pc act → (p : ℕ) → In p (unknown_at app lists known.step.pc act) → In p (unknown app lists)
-  missing_here known at p h = known.missing p (In-left p _ _ (subst (λ t. In p (unknown_at app lists known.step.pc t)) (sym (act_is known at)) h))
+  missing_here known at p h = known.missing p (in_front p _ _ (subst (λ t. In p (unknown_at app lists known.step.pc t)) (sym (act_is known at)) h))

@@ -17,6 +17,7 @@ use Rattle.verdict.specs.Places.{place_at, place_order}
 use Rattle.verdict.proofs.Found.{same_method}
 use Rattle.verdict.proofs.Pairs.{name_of_set}
 use Rattle.verdict.proofs.Sorting.{map_ascending}
+use Rattle.vet_base.proofs.Lists.{list_any-map}
 
 mapped_twice : (at : MethodRef) (pcs : List ℕ) → map (λ pc. NoSummary (place_at at pc)) pcs ≡ map NoSummary (map (place_at at) pcs)
 mapped_twice at [] = refl
@@ -26,11 +27,7 @@ pub called_in_order : (at : MethodRef) (pcs : List ℕ) → map (λ pc. NoSummar
 unfolding no_summaries
 called_in_order at pcs = mapped_twice at (ascending nat_cmp pcs) ∙ ap (λ (ps : List Place). map NoSummary ps) (map_ascending nat_cmp place_order (place_at at) (same_method at) pcs)
 
-any_mapped : {A B : Type 0} (f : A → B) (p : B → Bool) (xs : List A) → list_any p (map f xs) ≡ list_any (λ x. p (f x)) xs
-any_mapped f p [] = refl
-any_mapped f p (x ∷ xs) = ap (λ (b : Bool). p (f x) || b) (any_mapped f p xs)
-
 -- the set of the classes' names has a name just where it is that of a class of the app
 pub class_by_set : (app : App) (name : Name) → list_any (is_at (name_order name)) (ascending name_order (map (λ (c : Class). c.name) app.classes)) ≡ is_app_class app name
 unfolding is_app_class
-class_by_set app name = name_of_set (map (λ (c : Class). c.name) app.classes) name ∙ any_mapped (λ (c : Class). c.name) (λ n. same_name name n) app.classes
+class_by_set app name = name_of_set (map (λ (c : Class). c.name) app.classes) name ∙ list_any-map (λ (c : Class). c.name) (λ n. same_name name n) app.classes

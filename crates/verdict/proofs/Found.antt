@@ -1,7 +1,7 @@
 -- The findings of a method are those of the app that has it alone, and where there are none each arrival is declared.
 use Rattle.std.proofs.Common.{◌≡◌, inl, inr, ℕ, Bool, true, false, ◌&&◌, List, [], ◌∷◌, map, filter, Some, refl, sym, ◌∙◌, ap, subst, not}
 use Rattle.std.specs.Prelude.{slice_get, nat_lt, length}
-use Rattle.std.proofs.lemmas.Bool.{ltb-true}
+use Rattle.std.proofs.lemmas.Bool.{ltb-true, and_parts, not-false}
 use Rattle.std.proofs.lemmas.Option.{slice_get-get_or, unwrap_or-slice_get}
 use Rattle.std.specs.Cmp.Lexicographic.{nat_list_cmp_total}
 use Rattle.std.specs.Ordering.{nat_cmp, ordering_then}
@@ -18,8 +18,6 @@ use Rattle.app_machine.specs.Names.{Name, same_name, descriptor_of}
 use Rattle.app_machine.specs.Safe.{Declared}
 use Rattle.app_machine.specs.Sound.{name_order}
 use Rattle.app_machine.specs.State.{Arrival}
-use Rattle.app_model.proofs.NameOrder.{same_equal}
-use Rattle.app_model.proofs.Elements.{one_passes}
 use Rattle.straight_line.specs.declared.flow.Finding.{Finding as Flowed}
 use Rattle.straight_line.specs.Found.{arrival_of, arrivals_of}
 use Rattle.straight_line.specs.Coverage.{AllDeclared}
@@ -30,14 +28,13 @@ use Rattle.verdict.specs.Findings.{Found, category, names_pair, are_listed, decl
 use Rattle.verdict.specs.Places.{place_at, place_in, place_order}
 use Rattle.verdict.proofs.Pairs.{pair_order, pair_of_set}
 use Rattle.verdict.proofs.Sorting.{map_ascending, none_ascending}
+use Rattle.vet_base.proofs.Members.{one_passes, none_kept}
+use Rattle.vet_base.proofs.Texts.{same_equal}
+use Rattle.vet_base.proofs.Orders.{then_assoc}
+use Rattle.vet_base.proofs.Lists.{map_nil}
 
 itself : (n : Name) → name_order n n ≡ Equal
 itself n = tied_itself nat_list_cmp_total n
-
-then_assoc : (o p q : Ordering) → ordering_then o (ordering_then p q) ≡ ordering_then (ordering_then o p) q
-then_assoc Less p q = refl
-then_assoc Equal p q = refl
-then_assoc Greater p q = refl
 
 -- places in one method stand as their addresses do
 pub same_method : (at : MethodRef) (a b : ℕ) → place_order (place_at at a) (place_at at b) ≡ nat_cmp a b
@@ -95,27 +92,6 @@ module _ (app : App) (lists : Lists) (declaration : Declaration) (m : Method) (f
   unfolding findings_at findings_of
   findings_of_first found = ap (λ (fs : List Finding). ascending finding_order fs) (sym (found_of_first found))
 
-none_mapped : {A B : Type 0} (f : A → B) (xs : List A) → map f xs ≡ [] → xs ≡ []
-none_mapped f [] none = refl
-none_mapped f (x ∷ xs) none = cc
-
-none_kept : {A : Type 0} (p : A → Bool) (xs : List A) → filter p xs ≡ [] → (x : A) → In x xs → p x ≡ false
-none_kept p [] none x is_in = absurd is_in
-none_kept p (y ∷ xs) none x is_in = by_test (p y) refl (λ rest later. none_kept p xs rest x later) none is_in
-  where
-    by_test : (b : Bool) → p y ≡ b → (filter p xs ≡ [] → In x xs → p x ≡ false) → filter p (y ∷ xs) ≡ [] → In x (y ∷ xs) → p x ≡ false
-    by_test true is beyond none is_in = absurd (let e : y ∷ filter p xs ≡ [] = rw is at none in cc)
-    by_test false is beyond none (inl here) = ap p here ∙ is
-    by_test false is beyond none (inr later) = beyond (rw is at none) later
-
-both_hold : (a b : Bool) → (a && b) ≡ true → (a ≡ true) × (b ≡ true)
-both_hold true b holds = (refl, holds)
-both_hold false b holds = cc
-
-holds_if : (b : Bool) → not b ≡ false → b ≡ true
-holds_if true h = refl
-holds_if false h = cc
-
 is_listed : (lists : Lists) (i : ℕ) → nat_lt i (length lists.categories) ≡ true → slice_get lists.categories i ≡ Some (category lists i)
 unfolding category
 is_listed lists i lt = slice_get-get_or lists.categories i [] (ltb-true i (length lists.categories) lt) ∙ ap Some (sym (unwrap_or-slice_get lists.categories i []))
@@ -124,7 +100,7 @@ is_pair : (pairs : List (Name × Name)) (source sink : Name) → names_pair pair
 unfolding names_pair
 is_pair pairs source sink named =
     let one = one_passes (λ (pair : Name × Name). same_name source pair.0 && same_name sink pair.1) pairs named in
-    let same = both_hold (same_name source one.0.0) (same_name sink one.0.1) one.2 in
+    let same = and_parts (same_name source one.0.0) (same_name sink one.0.1) one.2 in
     let e : (source, sink) ≡ one.0 = ap (λ (n : Name). (n, sink)) (same_equal source one.0.0 same.0) ∙ ap (λ (n : Name). (one.0.0, n)) (same_equal sink one.0.1 same.1) in
     let P : Name × Name → Type 0 = λ p. In p pairs in
     subst P (sym e) one.1
@@ -132,8 +108,8 @@ is_pair pairs source sink named =
 declared_if : (lists : Lists) (declaration : Declaration) (label sink : ℕ) → declares lists declaration label sink ≡ true → Declared lists declaration label sink
 unfolding declares
 declared_if lists declaration label sink holds =
-    let parts = both_hold (are_listed lists label sink) (names_pair declaration.pairs (category lists label) (category lists sink)) holds in
-    let listed = both_hold (nat_lt label (length lists.categories)) (nat_lt sink (length lists.categories)) parts.0 in
+    let parts = and_parts (are_listed lists label sink) (names_pair declaration.pairs (category lists label) (category lists sink)) holds in
+    let listed = and_parts (nat_lt label (length lists.categories)) (nat_lt sink (length lists.categories)) parts.0 in
     record {
       source_name = category lists label;
       sink_name = category lists sink;
@@ -146,5 +122,5 @@ declared_if lists declaration label sink holds =
 pub all_declared : (app : App) (lists : Lists) (declaration : Declaration) (arrivals : List Arrival) → findings_of app lists declaration arrivals ≡ [] → AllDeclared lists declaration arrivals
 unfolding findings_of
 all_declared app lists declaration arrivals none a is_in =
-    let kept : filter (is_undeclared lists declaration) arrivals ≡ [] = none_mapped (finding_of app lists) (filter (is_undeclared lists declaration) arrivals) (none_ascending finding_order _ none) in
-    declared_if lists declaration a.label a.sink (holds_if (declares lists declaration a.label a.sink) (none_kept (is_undeclared lists declaration) arrivals kept a is_in))
+    let kept : filter (is_undeclared lists declaration) arrivals ≡ [] = map_nil (finding_of app lists) (filter (is_undeclared lists declaration) arrivals) (none_ascending finding_order _ none) in
+    declared_if lists declaration a.label a.sink (not-false (declares lists declaration a.label a.sink) (none_kept (is_undeclared lists declaration) arrivals kept a is_in))

@@ -3,11 +3,11 @@ use Rattle.std.proofs.Common.{◌≡◌, ℕ, List, Some, None, Result, Ok, Err,
 use Rattle.toml.specs.Data.{Members}
 use Rattle.vet_base.specs.Script.{Script, tests, value_of, AllHold, IsFirst}
 use Rattle.vet_base.proofs.Scripts.{exclusive}
-use Rattle.dex_code.proofs.Runs.{fails_first}
 use Rattle.office_forms.specs.declared.fault.Fault.{Fault}
 use Rattle.office_forms.specs.declared.told.FormFault.{FormFault}
 use Rattle.office_forms.specs.Form.{IsForm, FirstFormFault, unread, fails, shown}
 use Rattle.office_forms.specs.Tree.{Reads, IsNotToml}
+use Rattle.vet_base.proofs.Runs.{one_first}
 
 one_tree : (text : List ℕ) (a b : Members) → Reads text a → Reads text b → a ≡ b
 one_tree text a b one two = let both : Some a ≡ Some b = sym one.1 ∙ two.1 in cc
@@ -15,9 +15,6 @@ one_tree text a b one two = let both : Some a ≡ Some b = sym one.1 ∙ two.1 i
 not_read : (text : List ℕ) (tree : Members) → Reads text tree → IsNotToml text → ⊥
 not_read text tree reads (inl broken) = broken reads.0
 not_read text tree reads (inr none) = let both : Some tree ≡ None = sym reads.1 ∙ none in absurd cc
-
-one_first : {F A : Type 0} (s : Script F A) (f g : F) → IsFirst (tests s) f → IsFirst (tests s) g → f ≡ g
-one_first {A = A} s f g one two = ap (λ (r : Result A _). elim r [ Ok _ ↦ f | Err e ↦ e ]) (sym (fails_first s f one) ∙ fails_first s g two)
 
 module _ {A : Type 0} (form : Members → Script Fault A) (text : List ℕ) where
   pub one_form : (a b : A) → IsForm form text a → IsForm form text b → a ≡ b

@@ -8,6 +8,7 @@ use Rattle.dex_reader.specs.Dex.{IsDex}
 use Rattle.dex_reader.specs.Whole.{FirstDexFault}
 use Rattle.dex_reader.proofs.FileReadings.{exactly_one}
 use Rattle.verdict.specs.Refuses.{AreDex, IsFirstBad}
+use Rattle.vet_base.proofs.Lists.{slice_get-take}
 
 pub one_list : (files : List (List ℕ)) (a b : List Dex) → AreDex files a → AreDex files b → a ≡ b
 one_list [] [] [] one two = refl
@@ -27,13 +28,6 @@ dex_there (f ∷ files) i [] file stand there = absurd stand
 dex_there (f ∷ files) zero (d ∷ dexes) file stand there = let same : f ≡ file = cc in (d, subst (λ (x : List ℕ). IsDex x d) same stand.0)
 dex_there (f ∷ files) (suc i) (d ∷ dexes) file stand there = dex_there files i dexes file stand.1 there
 
--- so is each before one that is not
-among_taken : (files : List (List ℕ)) (j i : ℕ) (file : List ℕ) → i < j → slice_get files i ≡ Some file → slice_get (take j files) i ≡ Some file
-among_taken files zero i file lt there = absurd (omega arith)
-among_taken [] (suc j) i file lt there = there
-among_taken (f ∷ files) (suc j) zero file lt there = there
-among_taken (f ∷ files) (suc j) (suc i) file lt there = let below : i < j = omega arith in among_taken files j i file below there
-
 neither : (file : List ℕ) (fault : Fault) → (dex : Dex) × IsDex file dex → FirstDexFault file fault → ⊥
 neither file fault dex fails = (exactly_one file).not_both dex.0 fault dex.1 fails
 
@@ -42,7 +36,7 @@ module _ (files : List (List ℕ)) where
   all_or_bad dexes i fault stand bad = neither bad.file fault (dex_there files i dexes bad.file stand bad.there) bad.fails
 
   none_before : (i j : ℕ) (f g : Fault) → i < j → IsFirstBad files i f → IsFirstBad files j g → ⊥
-  none_before i j f g lt one two = neither one.file f (dex_there (take j files) i two.before one.file two.stand (among_taken files j i one.file lt one.there)) one.fails
+  none_before i j f g lt one two = neither one.file f (dex_there (take j files) i two.before one.file two.stand (slice_get-take files j i one.file lt one.there)) one.fails
 
   same_place : (i j : ℕ) (f g : Fault) → IsFirstBad files i f → IsFirstBad files j g → i ≡ j
   same_place i j f g one two = by_order (cases_order i j)

@@ -34,10 +34,8 @@ use Rattle.verdict.specs.Refuses.{HasPapers, AreDex}
 use Rattle.verdict.specs.Verdict.{Verdict, refused, judged, IsSafeApp, outcome_for, unknown_places}
 use Rattle.verdict.proofs.Found.{findings_of_first, place_of_first, all_declared}
 use Rattle.verdict.proofs.Sorting.{none_ascending}
-
-second : (a b : Bool) → (a && b) ≡ true → b ≡ true
-second true b holds = holds
-second false b holds = absurd cc
+use Rattle.std.proofs.lemmas.Bool.{and_parts}
+use Rattle.vet_base.proofs.Lists.{map_nil, append_nil_left, map_agree}
 
 -- what is asked of the only class, method and component
 abbrev straight_parts : App → Lists → Option Class → Option Method → Bool
@@ -63,21 +61,9 @@ has_method app lists straight = by_methods app.methods refl
     by_methods : (ms : List Method) → app.methods ≡ ms → 0 < length ms
     by_methods (m ∷ ms) is = omega arith
     by_methods [] is =
-        let holds : straight_parts app lists (only app.classes) (only app.methods) ≡ true = sym (in_parts app lists (only app.classes) (only app.methods)) ∙ second (has_none lists.callbacks) _ straight in
+        let holds : straight_parts app lists (only app.classes) (only app.methods) ≡ true = sym (in_parts app lists (only app.classes) (only app.methods)) ∙ (and_parts (has_none lists.callbacks) _ straight).1 in
         let none : straight_parts app lists (only app.classes) None ≡ true = ap (λ (ns : List Method). straight_parts app lists (only app.classes) (only ns)) (sym is) ∙ holds in
         absurd (no_parts app lists (only app.classes) none)
-
-none_mapped : {A B : Type 0} (f : A → B) (xs : List A) → map f xs ≡ [] → xs ≡ []
-none_mapped f [] none = refl
-none_mapped f (x ∷ xs) none = cc
-
-none_in_front : {A : Type 0} (xs ys : List A) → xs ++ ys ≡ [] → xs ≡ []
-none_in_front [] ys none = refl
-none_in_front (x ∷ xs) ys none = cc
-
-map_alike : {A B : Type 0} (f g : A → B) → ((x : A) → f x ≡ g x) → (xs : List A) → map f xs ≡ map g xs
-map_alike f g alike [] = refl
-map_alike f g alike (x ∷ xs) = rw (alike x, map_alike f g alike xs) refl
 
 first_of : (app : App) (lists : Lists) (m : Method) → IsStraight app lists → m ≡ get_or app.methods 0 m → slice_get app.methods 0 ≡ Some m
 first_of app lists m straight is = slice_get_read app.methods (length app.methods) 0 m refl (has_method app lists straight) is
@@ -90,7 +76,7 @@ unfolding unknown_places
 outcome_is app lists declaration m found pcs causes items outcome straight is_first arrive unknown_are causes_are items_are is =
     let first : slice_get app.methods 0 ≡ Some m = first_of app lists m straight is_first in
     let places : map (place_at m.at) pcs ≡ map (place_in app 0) (unknown app lists)
-    = ap (λ (ns : List ℕ). map (place_at m.at) ns) unknown_are ∙ sym (map_alike (place_in app 0) (place_at m.at) (place_of_first app lists declaration m first) (unknown app lists)) in
+    = ap (λ (ns : List ℕ). map (place_at m.at) ns) unknown_are ∙ sym (map_agree (place_in app 0) (place_at m.at) (place_of_first app lists declaration m first) (unknown app lists)) in
     let these : causes ≡ causes_of app (map (place_in app 0) (unknown app lists)) = causes_are ∙ ap (λ (ps : List Place). causes_of app ps) places in
     let those : items ≡ findings_of app lists declaration (findings app lists) = items_are ∙ findings_of_first app lists declaration m first found ∙ ap (λ (a : List Arrival). findings_of app lists declaration a) arrive in
     is ∙ ap (λ (cs : List Cause). outcome_of cs items) these ∙ ap (λ (fs : List Finding). outcome_of (causes_of app (map (place_in app 0) (unknown app lists))) fs) those
@@ -103,8 +89,8 @@ clear_if (c ∷ cs) items clear = absurd cc
 none_unknown : (app : App) (lists : Lists) → causes_of app (unknown_places app lists) ≡ [] → unknown app lists ≡ []
 unfolding causes_of no_summaries unknown_places
 none_unknown app lists none =
-    let called : no_summaries (unknown_places app lists) ≡ [] = none_in_front _ (providers app) (none_in_front _ (layout_classes app) none) in
-    none_mapped (place_in app 0) (unknown app lists) (none_ascending place_order (unknown_places app lists) (none_mapped NoSummary _ called))
+    let called : no_summaries (unknown_places app lists) ≡ [] = append_nil_left _ (providers app) (append_nil_left _ (layout_classes app) none) in
+    map_nil (place_in app 0) (unknown app lists) (none_ascending place_order (unknown_places app lists) (map_nil NoSummary _ called))
 
 pub clear_is_safe : (app : App) (lists : Lists) (declaration : Declaration) (found : List Flowed) (pcs : List ℕ) (outcome : Outcome) → arrivals_of found ≡ findings app lists → pcs ≡ unknown app lists
     → SafeIfDeclared app lists (arrivals_of found) pcs → outcome ≡ outcome_for app lists declaration → outcome ≡ Clear → Safe app lists declaration

@@ -17,15 +17,7 @@ use Rattle.verdict.proofs.OneForm.{one_form, form_or_fault, one_form_fault}
 use Rattle.vetting_desk.specs.Answer.{ComesTo, IsOutcome}
 use Rattle.vetting_desk.specs.Folder.{Held, Refusal, part_at, parts_at, Gathers, no_manifest, bad_manifest, others}
 use Rattle.vetting_desk.specs.Reading.{GathersTold}
-
-one_ok : {A F : Type 0} (r : Result A F) (x y : A) → r ≡ Ok x → r ≡ Ok y → x ≡ y
-one_ok {F = F} r x y a b = ap (λ (s : Result _ F). elim s [ Ok z ↦ z | Err _ ↦ x ]) (sym a ∙ b)
-
-one_err : {A F : Type 0} (r : Result A F) (x y : F) → r ≡ Err x → r ≡ Err y → x ≡ y
-one_err {A = A} r x y a b = ap (λ (s : Result A _). elim s [ Ok _ ↦ x | Err z ↦ z ]) (sym a ∙ b)
-
-ok_or_err : {A F : Type 0} (r : Result A F) (x : A) (e : F) → r ≡ Ok x → r ≡ Err e → ⊥
-ok_or_err r x e is fails = let both : Ok x ≡ Err e = sym is ∙ fails in absurd cc
+use Rattle.vet_base.proofs.Results.{one_ok, one_err, ok_or_err}
 
 module _ (held : Held) (dir : List ℕ) where
   same_text : (text seen : List ℕ) → run (part_at held dir manifest_part) ≡ Ok text → run (part_at held dir manifest_part) ≡ Ok seen → text ≡ seen
