@@ -75,7 +75,7 @@ pub given_below : {A : Type 0} (f : A → Option ℕ) (n : ℕ) → ((x : A) (j 
 given_below f n below xs j e = let found = given_found f xs j e in below found.0 j found.2
 
 -- the first of lists one after the other is that of the first list that gives one
-pub given-flat_map : {A B C : Type 0} (f : B → Option C) (g : A → List B) (xs : List A) → first_given f (flat_map g xs) ≡ first_given (λ x. first_given f (g x)) xs
-given-flat_map f g [] = refl
-given-flat_map f g (x ∷ xs) =
-    given-append f (g x) (flat_map g xs) ∙ (ap (λ o. option_or (first_given f (g x)) o) (given-flat_map f g xs) ∙ sym (given-cons (λ x. first_given f (g x)) x xs))
+pub given_of_each : {A B C : Type 0} (f : B → Option C) (g : A → List B) (xs : List A) → first_given f (flat_map g xs) ≡ first_given (λ x. first_given f (g x)) xs
+given_of_each f g [] = refl
+given_of_each f g (x ∷ xs) =
+    given-append f (g x) (flat_map g xs) ∙ (ap (λ o. option_or (first_given f (g x)) o) (given_of_each f g xs) ∙ sym (given-cons (λ x. first_given f (g x)) x xs))
