@@ -1,5 +1,5 @@
 use crate::{Component, Method, Proto};
-use vet_base::{Name, Seq};
+use vet_base::{Name, Seq, Shared};
 
 /// A key under which an object keeps values: all elements, or an instance field by class, name and
 /// type.
@@ -14,10 +14,10 @@ pub enum Key {
 pub struct Class {
     pub name: Name,
     pub superclass: Option<Name>,
-    pub interfaces: Seq<Name>,
+    pub interfaces: Shared<Name>,
     pub is_interface: bool,
     /// The nearest classes above it that are not of the app, each once.
-    pub outer: Seq<Name>,
+    pub outer: Shared<Name>,
     /// Its methods with neither code nor the native flag.
     pub bare: Seq<(Name, Proto)>,
 }

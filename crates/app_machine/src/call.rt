@@ -1,9 +1,9 @@
-use vet_base::{Name, Seq};
+use vet_base::{Name, Shared};
 
 /// The parameters and the result of a method, each the descriptor of a type.
 #[derive(Debug, Drop)]
 pub struct Proto {
-    pub params: Seq<Name>,
+    pub params: Shared<Name>,
     /// `V` where there is none.
     pub ret: Name,
 }

@@ -1,5 +1,5 @@
 use crate::{CallKind, MethodRef};
-use vet_base::{KeyId, Name, Seq};
+use vet_base::{KeyId, Name, Seq, Shared};
 
 /// What one instruction does, in registers of its method. A wide value stands in two neighbouring
 /// registers: the first is read and both are written.
@@ -48,7 +48,7 @@ pub struct Step {
     /// Each once, ascending.
     pub next: Seq<u32>,
     /// Each once, ascending.
-    pub catches: Seq<u32>,
+    pub catches: Shared<u32>,
 }
 
 /// A method of the app with code, or a native one. A native method has no steps, registers and ins.

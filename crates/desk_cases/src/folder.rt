@@ -1,15 +1,20 @@
 //! A folder in memory, and the answer to it.
 use std::alloc::{AllocError, Global};
-use vet_base::{MemFiles, MemSink, Name};
+use vet_base::{MemFiles, MemSink, Memory, Name};
 use vetting_desk::{Status, vet};
 
 /// Files by name.
 pub type Held = Vec<(Name, Vec<u8>)>;
 
+/// Want of memory as the system tells it.
+fn want(_memory: Memory) -> AllocError {
+    AllocError
+}
+
 /// The name of a file of the folder `D`.
 pub fn path_of(alloc: Global, name: &str) -> Result<Name, AllocError> {
     let path = format!(in alloc; "D/{name}")?;
-    Ok(Name::new(path.as_bytes().to_vec(alloc)?))
+    Name::from_bytes(alloc, path.as_bytes()).map_err(want)
 }
 
 /// The changed files, and those of the sample that are neither changed nor absent: of a name that stands twice the first
@@ -22,8 +27,7 @@ pub fn folder_with(
 ) -> Result<MemFiles, AllocError> {
     for (name, bytes) in sample {
         if name != absent {
-            let name = Name::new(name.as_bytes().to_vec(alloc)?);
-            files.push((name, bytes.to_vec(alloc)?))?;
+            files.push((name.copy().map_err(want)?, bytes.to_vec(alloc)?))?;
         }
     }
     Ok(MemFiles::new(files, Vec::new(alloc)))

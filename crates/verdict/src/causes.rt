@@ -21,7 +21,7 @@ fn called_at(alloc: Global, at: &MethodRef, pcs: &[u32]) -> Result<Vec<Cause>, M
 {
     let mut causes = Vec::new(alloc);
     for pc in pcs {
-        causes.push(Cause::NoSummary(place_at(alloc, at, *pc)?))?;
+        causes.push(Cause::NoSummary(place_at(at, *pc)?))?;
     }
     Ok(causes)
 }
@@ -51,7 +51,7 @@ fn class_names(alloc: Global, classes: &[Class]) -> Result<Vec<Name>, Memory>
 {
     let mut names = Vec::new(alloc);
     for class in classes {
-        names.push(class.name.copy(alloc)?)?;
+        names.push(class.name.copy()?)?;
     }
     Ok(names)
 }
@@ -72,7 +72,7 @@ fn named_classes(alloc: Global, app: &App) -> Result<Vec<Name>, Memory>
     let mut named = Vec::new(alloc);
     for class in app.layout_classes.as_slice() {
         if is_named(app, &of_app, class) {
-            named.push(class.copy(alloc)?)?;
+            named.push(class.copy()?)?;
         }
     }
     Ok(named)

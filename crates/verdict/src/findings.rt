@@ -22,8 +22,8 @@ fn category_of(alloc: Global, lists: &Lists, i: u8) -> Result<Name, Memory>
     ensures { IfOk result (λ n. n ≡ category lists.now i) }
 {
     match lists.categories.get(i as usize) {
-        Some(name) => name.copy(alloc),
-        None => Ok(Name::new(Vec::new(alloc))),
+        Some(name) => name.copy(),
+        None => Name::new(alloc, Vec::new(alloc)),
     }
 }
 
@@ -32,7 +32,7 @@ fn pairs_in(alloc: Global, declaration: &Declaration) -> Result<Vec<Pair>, Memor
 {
     let mut pairs = Vec::new(alloc);
     for pair in declaration.pairs.as_slice() {
-        pairs.push((pair.0.copy(alloc)?, pair.1.copy(alloc)?))?;
+        pairs.push((pair.0.copy()?, pair.1.copy()?))?;
     }
     Ok(pairs)
 }
@@ -112,7 +112,7 @@ fn findings_from(
 {
     let mut findings = Vec::new(alloc);
     for ((source, sink), pc) in listed {
-        let at = place_at(alloc, at, pc)?;
+        let at = place_at(at, pc)?;
         findings.push(Finding { source, sink, at })?;
     }
     Ok(findings)

@@ -11,7 +11,7 @@ pub fn copied(alloc: Global, names: &[Name]) -> Result<Vec<Name>, Memory>
 {
     let mut copies = Vec::new(alloc);
     for name in names {
-        copies.push(name.copy(alloc)?)?;
+        copies.push(name.copy()?)?;
     }
     Ok(copies)
 }

@@ -1,2 +1,17 @@
+pub mod Apart
+pub mod Ascending
+pub mod Bools
+pub mod Eaches
+pub mod Firsts
+pub mod Halving
+pub mod Lists
+pub mod Members
+pub mod Options
+pub mod Orders
+pub mod Repeats
+pub mod Results
+pub mod Runs
 pub mod Scripts
 pub mod Stored
+pub mod Texts
+pub mod Throughs

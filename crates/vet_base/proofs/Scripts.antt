@@ -2,7 +2,7 @@
 -- (`begins`, `goes_on`, a failure, `is_done`).
 use Rattle.std.proofs.Common.{◌≡◌, ℕ, zero, suc, ◌+◌, ◌-◌, ◌<◌, ◌≤◌, true, false, Result, Ok, Err, List, [], ◌∷◌, ◌++◌, append_assoc, length, drop, get_or, add-one, refl, sym, ap, ◌∙◌, arith, Bool}
 use Rattle.std.specs.Prelude.{IsTrue}
-use Rattle.std.proofs.lemmas.List.{append-nil, drop_all}
+use Rattle.std.proofs.lemmas.List.{append-nil, drop_all, get_or_default}
 use Rattle.std.proofs.Math.Seq.{drop-cons}
 use Rattle.vet_base.specs.declared.stop.Stop.{Stop}
 use Rattle.vet_base.specs.declared.stop.Stop.TheVariants as stops
@@ -22,14 +22,14 @@ with_front front (Err e) = Err e
 pub record Continues {F S X : Type 0} (size i : ℕ) (row : ℕ → S → Script F (X × S)) (front : List X) (s : S) (whole : Result (List X × S) F) : Type 0 where
   pub is : with_front front (run (rows (size - i) i row s)) ≡ whole
 
-with_none : {F S X : Type 0} (r : Result (List X × S) F) → with_front [] r ≡ r
+pub with_none : {F S X : Type 0} (r : Result (List X × S) F) → with_front [] r ≡ r
 with_none (Ok r) = refl
 with_none (Err e) = refl
 
 pub begins : {F S X : Type 0} (size : ℕ) (row : ℕ → S → Script F (X × S)) (s : S) → Continues size 0 row [] s (run (rows size 0 row s))
 begins size row s = let k : size - 0 ≡ size = omega arith in record { is = rw k (with_none (run (rows size 0 row s))) }
 
-regroup : {F S X : Type 0} (front : List X) (x : X) (r : Result (List X × S) F) → with_front front (then_run r (λ others. Value (x ∷ others.0, others.1))) ≡ with_front (front ++ x ∷ []) r
+pub regroup : {F S X : Type 0} (front : List X) (x : X) (r : Result (List X × S) F) → with_front front (then_run r (λ others. Value (x ∷ others.0, others.1))) ≡ with_front (front ++ x ∷ []) r
 regroup front x (Ok r) = ap (λ (xs : List _). Ok (xs, r.1)) (simp append_assoc)
 regroup front x (Err e) = refl
 
@@ -162,3 +162,14 @@ walk_is_done items i row front s whole le so_far =
     let k : drop i items ≡ [] = drop_all i items le in
     let step : with_front front (run (walk row (drop i items) s)) ≡ Ok (front, s) = rw k (ap (λ (xs : List _). Ok (xs, s)) (append-nil front)) in
     sym so_far.is ∙ step
+
+-- the same at an item that is read by its index, with any default
+pub walk_goes_on_at : {F S X Y : Type 0} (items : List X) (i : ℕ) (row : X → S → Script F (Y × S)) (front : List Y) (s : S) (d : X) (y : Y) (t : S) (whole : Result (List Y × S) F)
+    → i < length items → run (row (get_or items i d) s) ≡ Ok (y, t) → Walks items i row front s whole → Walks items (i + 1) row (front ++ y ∷ []) t whole
+walk_goes_on_at items i row front s d y t whole lt one so_far =
+    walk_goes_on items i row front s (get_or items i d) y t whole lt (get_or_default items i d (get_or items i d) lt) one so_far
+
+pub walk_fails_at : {F S X Y : Type 0} (e : Stop F) (items : List X) (i : ℕ) (row : X → S → Script F (Y × S)) (front : List Y) (s : S) (d : X) (whole : Result (List Y × S) F)
+    → i < length items → Fails e (run (row (get_or items i d) s)) → Walks items i row front s whole → Fails e whole
+walk_fails_at e items i row front s d whole lt one so_far =
+    walk_fails e items i row front s (get_or items i d) whole lt (get_or_default items i d (get_or items i d) lt) one so_far

@@ -1,6 +1,8 @@
 -- Storing a file in a list of files.
 use Rattle.std.proofs.Common.{◌≡◌, ◌≢◌, ℕ, suc, ◌+◌, ◌<◌, ◌≤◌, Bool, true, false, cond, ltb, List, [], ◌∷◌, ◌++◌, length, Option, Some, None, Vec, get_or, set, nat_eq, refl, sym, ap, ◌∙◌, arith, not, subst}
 use Rattle.std.proofs.lemmas.Bool.{ltb-true, ltb-false}
+use Rattle.std.proofs.lemmas.Option.{cond_some}
+use Rattle.vet_base.proofs.Options.{cond_none}
 use Rattle.std.specs.List.{position, position_or_len}
 use Rattle.std.specs.Cmp.Lexicographic.{pointwise, same_text, nat_list_eq_equiv}
 use Rattle.std.specs.declared.alloc.Global.{Global}
@@ -56,14 +58,10 @@ replaced_at [] name entry v lt is = absurd (omega arith)
 replaced_at (file ∷ files) name entry v lt is =
     replaced_behind file files name entry v (pointwise nat_eq file.0 name) refl (replaced_at files name entry v) lt is
 
-found : (t : Bool) (n i : ℕ) → cond t (Some n) None ≡ Some i → (t ≡ true) × (n ≡ i)
-found true n i e = (refl, cc)
-found false n i e = absurd cc
-
 pub replaced : (files : List File) (name : List ℕ) (i : ℕ) (entry : File) (v : Vec ℕ Global)
     → position (has_name name) files ≡ Some i → entry ≡ get_or files i entry → Puts (file_in files) (file_in (set files i (entry.0, v))) name (Some v.items)
 replaced files name i entry v at is =
-    let h = found (ltb (place files name) (length files)) (place files name) i at in
+    let h = cond_some (ltb (place files name) (length files)) (place files name) i at in
     let within : place files name < length files = ltb-true _ _ h.0 in
     let P : ℕ → Type 0 = λ j. entry ≡ get_or files j entry in
     let Q : ℕ → Type 0 = λ j. Puts (file_in files) (file_in (set files j (entry.0, v))) name (Some v.items) in
@@ -85,12 +83,8 @@ appended_at [] name v le = record {
 }
 appended_at (file ∷ files) name v le = appended_behind file files name v (pointwise nat_eq file.0 name) refl (appended_at files name v) le
 
-missed : (t : Bool) (n : ℕ) → cond t (Some n) None ≡ None → t ≡ false
-missed true n e = absurd cc
-missed false n e = refl
-
 pub appended : (files : List File) (name : List ℕ) (v : Vec ℕ Global)
     → position (has_name name) files ≡ None → Puts (file_in files) (file_in (files ++ (name, v) ∷ [])) name (Some v.items)
 appended files name v at =
-    let h = missed (ltb (place files name) (length files)) (place files name) at in
-    appended_at files name v (ltb-false _ _ h)
+    let h = cond_none (ltb (place files name) (length files)) (place files name) None at in
+    appended_at files name v (ltb-false _ _ h.0)

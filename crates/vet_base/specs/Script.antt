@@ -70,6 +70,14 @@ rows (suc n) i row s = do
   others ← rows n (i + 1) row first.1
   Value (first.0 ∷ others.0, others.1)
 
+-- the same, where a row does not ask for its number
+unfoldable pub repeat : {F S X : Type 0} → ℕ → (S → Script F (X × S)) → S → Script F (List X × S)
+repeat zero row s = Value ([], s)
+repeat (suc n) row s = do
+  first ← row s
+  others ← repeat n row first.1
+  Value (first.0 ∷ others.0, others.1)
+
 -- rows one after the other while there are more, at most so many
 unfoldable pub sweep : {F S X : Type 0} → ℕ → (S → Bool) → (S → Script F (X × S)) → S → Script F (List X × S)
 sweep zero more row s = Value ([], s)
@@ -85,3 +93,17 @@ walk row (x ∷ xs) s = do
   first ← row x s
   others ← walk row xs first.1
   Value (first.0 ∷ others.0, others.1)
+
+-- a script for each item of a list, each in the state that the items before it left
+unfoldable pub each : {F S X : Type 0} → (X → S → Script F S) → List X → S → Script F S
+each row [] s = Value s
+each row (x ∷ xs) s = do
+  next ← row x s
+  each row xs next
+
+-- the same, where a row asks for its number too: the first item has the number i
+unfoldable pub through : {F S X : Type 0} → (ℕ → X → S → Script F S) → ℕ → List X → S → Script F S
+through row i [] s = Value s
+through row i (x ∷ xs) s = do
+  next ← row i x s
+  through row (i + 1) xs next

@@ -10,6 +10,7 @@ mod name;
 mod numbers;
 mod outside;
 mod seq;
+mod shared;
 mod stop;
 
 pub use key_id::KeyId;
@@ -20,6 +21,7 @@ pub use name::Name;
 pub use numbers::{read_sleb, read_u2, read_u4, read_uleb};
 pub use outside::{FailedCall, FileFault, Files, PutFault, Sink};
 pub use seq::Seq;
+pub use shared::Shared;
 pub use stop::Stop;
 
 #[cfg(test)]

@@ -1,7 +1,8 @@
 use crate::{
-    FileFault, Files, MemFiles, MemSink, Name, PutFault, Sink, read_sleb, read_u2, read_u4,
+    FileFault, Files, MemFiles, MemSink, Name, PutFault, Shared, Sink, read_sleb, read_u2, read_u4,
     read_uleb,
 };
+use std::collections::HashSet;
 use std::test::Fail;
 
 // The examples of the LEB128 article that the format's documentation follows.
@@ -51,5 +52,50 @@ fn a_sink_in_memory_fails_at_its_numbers(rt: HostRuntime) -> Result<(), Fail> {
     sink.put(alloc, b"e".as_slice())?;
     assert_eq!(rt; sink.taken(), b"abe".as_slice());
     assert_eq!(rt; sink.faults(), 1);
+    Ok(())
+}
+
+// Up to 30 bytes a name stands in one block, and from 31 on in two.
+#[test]
+fn names_at_30_and_31_bytes(rt: HostRuntime) -> Result<(), Fail> {
+    let alloc = rt.alloc();
+    let text = b"Lcom/example/ads/DeviceReport;;".as_slice();
+    assert_eq!(rt; text.len(), 31);
+    let short = Name::from_bytes(alloc, &text[..30])?;
+    let long = Name::new(alloc, text.to_vec(alloc)?)?;
+    assert_eq!(rt; short.as_bytes(), &text[..30]);
+    assert_eq!(rt; long.as_bytes(), text);
+    assert_eq!(rt; short.copy()?.as_bytes(), &text[..30]);
+    assert_eq!(rt; long.copy()?.as_bytes(), text);
+    assert!(rt; short.copy()? == Name::new(alloc, text[..30].to_vec(alloc)?)?);
+    assert!(rt; long.copy()? == Name::from_bytes(alloc, text)?);
+    assert!(rt; short < long);
+    assert!(rt; long < Name::from_bytes(alloc, b"Ld")?);
+    Ok(())
+}
+
+#[test]
+fn equal_names_hash_alike(rt: HostRuntime) -> Result<(), Fail> {
+    let alloc = rt.alloc();
+    let mut names = HashSet::new(alloc);
+    names.insert(Name::from_bytes(alloc, b"onClick")?)?;
+    assert!(rt; names.contains(&Name::new(alloc, b"onClick".to_vec(alloc)?)?));
+    assert!(rt; !names.contains(&Name::from_bytes(alloc, b"onClic")?));
+    Ok(())
+}
+
+#[test]
+fn shared_lists(rt: HostRuntime) -> Result<(), Fail> {
+    let alloc = rt.alloc();
+    let list = Shared::from_vec(alloc, vec![in alloc; 3, 1, 4]?)?;
+    let copy = list.copy()?;
+    assert_eq!(rt; copy.as_slice(), [3, 1, 4].as_slice());
+    assert_eq!(rt; copy.len(), 3);
+    assert_eq!(rt; *copy.at(2), 4);
+    assert_eq!(rt; copy.get(1), Some(&1));
+    assert_eq!(rt; copy.get(3), None);
+    assert!(rt; !copy.is_empty());
+    assert!(rt; Shared::<u8>::new().copy()?.is_empty());
+    assert!(rt; Shared::from_vec(alloc, Vec::<u8>::new(alloc))?.is_empty());
     Ok(())
 }
