@@ -1,6 +1,6 @@
 -- The events that may come while no frame is there.
 -- Android documentation: as in `LifeEvents`; "Input events overview" for clicks; "Processes and threads" for callbacks.
-use Rattle.std.specs.Prelude.{◌≡◌, ◌≢◌, ◌==◌, ◌⊎◌, ℕ, ◌+◌, IsTrue, if◌then◌else◌, List, [], ◌∷◌, ◌++◌, length, Option, Some, None, filter_map}
+use Rattle.std.specs.Prelude.{◌≡◌, ◌≢◌, ◌==◌, ◌⊎◌, ℕ, zero, suc, ◌+◌, IsTrue, if◌then◌else◌, List, [], ◌∷◌, ◌++◌, length, Option, Some, None, slice_get, filter_map}
 use Rattle.vet_base.specs.declared.key_id.KeyId.{KeyId}
 use Rattle.app_machine.specs.declared.component.Kind.TheVariants.{Application, Activity}
 use Rattle.app_machine.specs.declared.component.Component.{Component}
@@ -98,6 +98,11 @@ layout_from i (type ∷ types) = if is_wide type then i ∷ i ∷ layout_from (i
 
 unfoldable pub layout : List Name → List ℕ
 layout types = 0 ∷ layout_from 1 types
+
+-- the type of a position among the parameters, the receiver being 0
+abbrev pub parameter_type : List Name → ℕ → Option Name
+parameter_type types zero = None
+parameter_type types (suc i) = slice_get types i
 
 -- the categories with which the value of a position comes
 abbrev pub labels_at : List (ℕ × ℕ) → ℕ → List ℕ

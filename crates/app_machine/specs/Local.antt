@@ -1,14 +1,15 @@
 -- Steps of the running frame within its method.
 -- Android documentation, Dalvik bytecode: "Summary of bytecode set".
-use Rattle.std.specs.Prelude.{◌≡◌, ◌↔◌, ℕ, List, [], ◌∷◌, ◌++◌, length, Some}
+use Rattle.std.specs.Prelude.{◌≡◌, ◌==◌, ◌↔◌, ℕ, Bool, false, List, [], ◌∷◌, ◌++◌, length, Some}
 use Rattle.vet_base.specs.declared.key_id.KeyId.{KeyId}
 use Rattle.app_machine.specs.declared.app.App.{App}
-use Rattle.app_machine.specs.declared.method.Act.TheVariants.{Skip, Join, Move, Blank, New, Fill, Get, Put, GetStatic, PutStatic, TakeResult, TakeException, Go}
+use Rattle.app_machine.specs.declared.method.Act.{Act}
+use Rattle.app_machine.specs.declared.method.Act.TheVariants.{Skip, Join, Move, Blank, New, Fill, Get, Put, GetStatic, PutStatic, Call, TakeResult, TakeException, Go}
 use Rattle.vet_base.specs.Members.{In}
 use Rattle.app_machine.specs.Names.{Name}
 use Rattle.app_machine.specs.Lookups.{elem_key, ActAt, Goes}
 use Rattle.app_machine.specs.Heap.{Value, blank, labelled, put_to, Gets}
-use Rattle.app_machine.specs.State.{result_register, exception_register, write_all, write, World, Frame, object_at, new_object}
+use Rattle.app_machine.specs.State.{result_register, exception_register, holds, write_all, write, World, Frame, object_at, new_object}
 
 -- the elements of a filled array are the values of the registers
 abbrev pub AreElements : Frame → List ℕ → List (KeyId × Value) → Type 0
@@ -17,6 +18,20 @@ AreElements f xs entries = (e : KeyId × Value) → In e entries ↔ ((x : ℕ) 
 -- the labels are those that the registers' values have themselves
 abbrev pub AreOwnLabels : Frame → List ℕ → List ℕ → Type 0
 AreOwnLabels f xs labels = (l : ℕ) → In l labels ↔ ((x : ℕ) × In x xs × In l (f.registers x).labels)
+
+-- whether the act writes the register: a destination, or RES for a call and a filled array
+abbrev pub writes : Act → ℕ → Bool
+writes (Join ds xs) r = holds ds r
+writes (Move ds x) r = holds ds r
+writes (Blank ds) r = holds ds r
+writes (New d class) r = r == d
+writes (Fill xs class) r = r == result_register
+writes (Get ds o k) r = holds ds r
+writes (GetStatic ds g) r = holds ds r
+writes (Call kind at args) r = r == result_register
+writes (TakeResult ds) r = holds ds r
+writes (TakeException d) r = r == d
+writes act r = false
 
 pub data Local (app : App) : World → Frame → World → Frame → Type 0 where
   skips : {w : World} {f : Frame} {pc : ℕ} → ActAt app f.method f.pc Skip → Goes app f.method f.pc pc →

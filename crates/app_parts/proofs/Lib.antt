@@ -1,0 +1,4 @@
+pub mod Layouts
+pub mod Numbers
+pub mod Positions
+pub mod Registers
