@@ -3,7 +3,7 @@ use Rattle.std.proofs.Common.{◌+◌, ◌≤◌, Bool, true, false, List, [], �
 use Rattle.std.specs.Prelude.{is_some, if◌then◌else◌}
 use Rattle.app_machine.specs.Names.{Name, same_name}
 use Rattle.office_forms.specs.Places.{place_of}
-use Rattle.office_forms.specs.Each.{with_one, with_new}
+use Rattle.office_forms.specs.Once.{with_one, with_new}
 
 record OneMore (seen all : List Name) : Type 0 where
   more : length seen ≤ length all

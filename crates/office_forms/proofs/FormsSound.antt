@@ -8,7 +8,7 @@ use Rattle.app_machine.specs.declared.papers.Declaration.{Declaration}
 use Rattle.office_forms.specs.declared.words.Section.TheVariants as section
 use Rattle.office_forms.specs.declared.words.Key.TheVariants as key
 use Rattle.office_forms.specs.declared.spelling.Spelling.TheVariants as spelling
-use Rattle.office_forms.specs.Each.{with_new, names_once}
+use Rattle.office_forms.specs.Once.{with_new, names_once}
 use Rattle.office_forms.specs.Fields.{known, text_at, maybe_text_at, number_at, texts_at, tables_at, table_in}
 use Rattle.office_forms.specs.Manifest.{component_row, components_of, classes_once, manifest_form}
 use Rattle.office_forms.specs.Layouts.{Seen, layout_row, layouts_of, layouts_form}

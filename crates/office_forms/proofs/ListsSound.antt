@@ -22,7 +22,7 @@ use Rattle.office_forms.specs.declared.methods.MethodRows.{MethodRows}
 use Rattle.office_forms.specs.declared.callbacks.CallbackRows.{CallbackRows}
 use Rattle.office_forms.specs.declared.lists.SharedRows.{SharedRows}
 use Rattle.office_forms.specs.declared.lists.Rows.{Rows}
-use Rattle.office_forms.specs.Each.{with_new}
+use Rattle.office_forms.specs.Once.{with_new}
 use Rattle.office_forms.specs.Fields.{known, text_at, texts_at, number_at, tables_at, table_in}
 use Rattle.office_forms.specs.Classes.{above_in, parent_row, parents_at, parents_above, fallback_at, class_row, classes_of, class_name}
 use Rattle.office_forms.specs.Positions.{flag_at, pairs_at, named_at, listed_at}

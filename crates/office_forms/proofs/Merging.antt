@@ -3,7 +3,7 @@ use Rattle.std.proofs.Common.{◌≡◌, ℕ, ◌+◌, ◌<◌, ◌≤◌, List,
 use Rattle.std.proofs.lemmas.List.{drop_all}
 use Rattle.std.proofs.Math.Seq.{drop-cons}
 use Rattle.app_machine.specs.Names.{Name}
-use Rattle.office_forms.specs.Each.{with_one, with_new}
+use Rattle.office_forms.specs.Once.{with_one, with_new}
 
 -- of the names, the first `i` are added to `seen`, which gave `all`
 pub record Merges (seen names : List Name) (i : ℕ) (all : List Name) : Type 0 where

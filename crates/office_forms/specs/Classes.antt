@@ -12,7 +12,7 @@ use Rattle.office_forms.specs.declared.fault.Fault.TheVariants.{Wrong, Range}
 use Rattle.office_forms.specs.declared.words.Section.TheVariants as section
 use Rattle.office_forms.specs.declared.words.Key.TheVariants as key
 use Rattle.office_forms.specs.declared.spelling.Spelling.TheVariants as spelling
-use Rattle.office_forms.specs.Each.{with_new}
+use Rattle.office_forms.specs.Once.{with_new}
 use Rattle.office_forms.specs.Fields.{known, at_key, text_at, texts_in, word_at, table_in}
 
 -- the classes above the first row of that name

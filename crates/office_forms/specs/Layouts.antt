@@ -9,7 +9,7 @@ use Rattle.office_forms.specs.declared.fault.Fault.{Fault}
 use Rattle.office_forms.specs.declared.words.Section.TheVariants as section
 use Rattle.office_forms.specs.declared.words.Key.TheVariants as key
 use Rattle.office_forms.specs.declared.spelling.Spelling.TheVariants.{Text, Class}
-use Rattle.office_forms.specs.Each.{names_once, with_new}
+use Rattle.office_forms.specs.Once.{names_once, with_new}
 use Rattle.office_forms.specs.Fields.{known, text_at, texts_at, tables_at, table_in}
 
 -- what the layouts so far have: their clicks, each once, and their classes

@@ -11,7 +11,7 @@ use Rattle.office_forms.specs.declared.words.Key.TheVariants as key
 use Rattle.office_forms.specs.declared.spelling.Spelling.TheVariants as spelling
 use Rattle.office_forms.specs.declared.lists.SharedRows.{SharedRows}
 use Rattle.office_forms.specs.declared.lists.Rows.{Rows}
-use Rattle.office_forms.specs.Each.{names_once, with_new}
+use Rattle.office_forms.specs.Once.{names_once, with_new}
 use Rattle.office_forms.specs.Fields.{known, text_at, texts_at, number_at, tables_at, table_in}
 use Rattle.office_forms.specs.Classes.{classes_of, class_name}
 use Rattle.office_forms.specs.Methods.{keys_once, methods_of}

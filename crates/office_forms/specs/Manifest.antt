@@ -13,7 +13,7 @@ use Rattle.office_forms.specs.declared.fault.Fault.TheVariants.{Missing, Wrong}
 use Rattle.office_forms.specs.declared.words.Section.TheVariants as section
 use Rattle.office_forms.specs.declared.words.Key.TheVariants as key
 use Rattle.office_forms.specs.declared.spelling.Spelling.TheVariants.{Text, Class}
-use Rattle.office_forms.specs.Each.{once}
+use Rattle.office_forms.specs.Once.{once}
 use Rattle.office_forms.specs.Fields.{known, text_at, maybe_text_at, number_at, word_at, tables_at, table_in}
 
 -- the kind of component that a word names

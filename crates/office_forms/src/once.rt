@@ -1,6 +1,6 @@
 //! Names that may not stand twice.
 ghost use Rattle.std.specs.Prelude.{◌≡◌, IfOk};
-ghost use Rattle.office_forms.specs.Each.{once, names_once, with_one, with_new};
+ghost use Rattle.office_forms.specs.Once.{once, names_once, with_one, with_new};
 ghost use Rattle.vet_base.specs.Script.{Gives};
 
 use crate::Fault;
@@ -9,7 +9,7 @@ use std::alloc::Global;
 use vet_base::{Memory, Name, Stop};
 
 /// The names seen so far and this one, which may not be one of them.
-#[tactic(auto, unfolding(crate::specs::Each::once))]
+#[tactic(auto, unfolding(crate::specs::Once::once))]
 pub fn once(seen: Index<Name>, name: &Name) -> Result<Index<Name>, Stop<Fault>>
     ensures { Gives (λ x. x) result (once name.now seen) }
 {
@@ -20,7 +20,7 @@ pub fn once(seen: Index<Name>, name: &Name) -> Result<Index<Name>, Stop<Fault>>
 }
 
 /// No name stands twice.
-#[tactic(auto, unfolding(crate::specs::Each::names_once), using(vet_base::proofs::Eaches::each_begins, vet_base::proofs::Eaches::each_goes_on, vet_base::proofs::Eaches::each_fails, vet_base::proofs::Eaches::each_is_done))]
+#[tactic(auto, unfolding(crate::specs::Once::names_once), using(vet_base::proofs::Eaches::each_begins, vet_base::proofs::Eaches::each_goes_on, vet_base::proofs::Eaches::each_fails, vet_base::proofs::Eaches::each_is_done))]
 pub fn names_once(alloc: Global, names: &[Name]) -> Result<Index<Name>, Stop<Fault>>
     ensures { Gives (λ x. x) result (names_once names.now) }
 {
@@ -44,7 +44,7 @@ pub fn with_new(seen: Index<Name>, names: &[Name]) -> Result<Index<Name>, Memory
 }
 
 /// The names and this one, where it is not among them.
-#[tactic(auto, unfolding(crate::specs::Each::with_one))]
+#[tactic(auto, unfolding(crate::specs::Once::with_one))]
 fn with_one(seen: Index<Name>, name: &Name) -> Result<Index<Name>, Memory>
     ensures { IfOk result (λ x. x ≡ with_one seen name.now) }
 {

@@ -1,5 +1,5 @@
 use Rattle.vet_base.specs.Script.{run}
-use Rattle.office_forms.specs.Each.{once, names_once}
+use Rattle.office_forms.specs.Once.{once, names_once}
 use Rattle.office_forms.proofs.once.names_once.Given as goal
 use Rattle.vet_base.proofs.Eaches.{Eaches}
 

@@ -1,6 +1,6 @@
--- One row after the other, each in the state that the rows before it left.
+-- Names that stand once.
 use Rattle.std.specs.Prelude.{List, [], ◌∷◌, ◌++◌, is_none, is_some, if◌then◌else◌}
-use Rattle.vet_base.specs.Script.{Script, Value, ◌>>=◌, test}
+use Rattle.vet_base.specs.Script.{Script, Value, ◌>>=◌, test, each}
 use Rattle.app_machine.specs.Names.{Name, same_name}
 use Rattle.office_forms.specs.declared.fault.Fault.{Fault}
 use Rattle.office_forms.specs.declared.fault.Fault.TheVariants.{Twice}
