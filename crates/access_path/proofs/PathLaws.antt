@@ -1,10 +1,12 @@
 -- The laws of paths, by which alone other proofs know how many keys a path has.
-use Rattle.std.proofs.Common.{◌≡◌, List, [], ◌∷◌, Some, refl, ap, subst, eq-eqb}
+use Rattle.std.proofs.Common.{◌≡◌, Bool, true, false, List, [], ◌∷◌, Some, refl, ap, subst, eq-eqb}
+use Rattle.std.specs.Prelude.{MatchBool}
 use Rattle.vet_base.specs.declared.key_id.KeyId.{KeyId}
-use Rattle.access_path.specs.declared.path.Keys.TheVariants.{Zero, One, Two, Three}
+use Rattle.access_path.specs.declared.keys.Keys.{Keys}
+use Rattle.access_path.specs.declared.keys.Keys.TheVariants.{Zero, One, Two, Three, Four, Five}
 use Rattle.access_path.specs.declared.path.Path.{Path}
-use Rattle.access_path.specs.declared.path.Path.TheVariants.{Closed, Open}
-use Rattle.access_path.specs.Paths.{Covers, Begins, keys_of, cut, rest, empty_path}
+use Rattle.access_path.specs.Keys.{Begins}
+use Rattle.access_path.specs.Paths.{Covers, keys_of, cut, rest, empty_path}
 use Rattle.access_path.specs.Laws.{PathLaws}
 
 -- a list begins with itself
@@ -13,32 +15,48 @@ begins_itself [] = tt
 begins_itself (k ∷ ks) = (refl, begins_itself ks)
 
 -- and with all but the last of what it begins with
-shorter : (a b c : KeyId) (ks : List KeyId) → Begins (a ∷ b ∷ c ∷ []) ks → Begins (a ∷ b ∷ []) ks
-shorter a b c [] h = absurd h
-shorter a b c (k ∷ []) h = absurd h.1
-shorter a b c (k ∷ j ∷ ks) h = (h.0, (h.1.0, tt))
+but_last : (a b c d e : KeyId) (ks : List KeyId) → Begins (a ∷ b ∷ c ∷ d ∷ e ∷ []) ks → Begins (a ∷ b ∷ c ∷ d ∷ []) ks
+but_last a b c d e [] h = absurd h
+but_last a b c d e (k ∷ []) h = absurd h.1
+but_last a b c d e (k ∷ l ∷ []) h = absurd h.1.1
+but_last a b c d e (k ∷ l ∷ m ∷ []) h = absurd h.1.1.1
+but_last a b c d e (k ∷ l ∷ m ∷ n ∷ ks) h = (h.0, (h.1.0, (h.1.1.0, (h.1.1.1.0, tt))))
 
 pub cut-covers : (k : KeyId) (p : Path) (ks : List KeyId) → Covers p ks → Covers (cut k p) (k ∷ ks)
 unfolding Covers cut
-cut-covers k (Closed Zero) ks h = ap (λ x. k ∷ x) h
-cut-covers k (Closed (One a)) ks h = ap (λ x. k ∷ x) h
-cut-covers k (Closed (Two a b)) ks h = ap (λ x. k ∷ x) h
-cut-covers k (Closed (Three a b c)) ks h = (refl, shorter a b c ks (subst (λ x. Begins (a ∷ b ∷ c ∷ []) x) h (begins_itself (a ∷ b ∷ c ∷ []))))
-cut-covers k (Open Zero) ks h = (refl, h)
-cut-covers k (Open (One a)) ks h = (refl, h)
-cut-covers k (Open (Two a b)) ks h = (refl, h)
-cut-covers k (Open (Three a b c)) ks h = (refl, shorter a b c ks h)
+cut-covers k p ks h = go p.is_open p.keys h
+  where
+    go : (is_open : Bool) (keys : Keys) → Covers (record { is_open = is_open; keys = keys }) ks → Covers (cut k (record { is_open = is_open; keys = keys })) (k ∷ ks)
+    go true Zero h = (refl, h)
+    go true (One a) h = (refl, h)
+    go true (Two a b) h = (refl, h)
+    go true (Three a b c) h = (refl, h)
+    go true (Four a b c d) h = (refl, h)
+    go true (Five a b c d e) h = (refl, but_last a b c d e ks h)
+    go false (Five a b c d e) h = let all = a ∷ b ∷ c ∷ d ∷ e ∷ [] in (refl, but_last a b c d e ks (subst (λ x. Begins all x) h (begins_itself all)))
+    go false Zero h = ap (λ x. k ∷ x) h
+    go false (One a) h = ap (λ x. k ∷ x) h
+    go false (Two a b) h = ap (λ x. k ∷ x) h
+    go false (Three a b c) h = ap (λ x. k ∷ x) h
+    go false (Four a b c d) h = ap (λ x. k ∷ x) h
+
+-- behind a first key: that key is the first of what is covered, and the others cover the rest
+behind_first : (is_open : Bool) (a k : KeyId) (more ks : List KeyId) → MatchBool is_open (Begins (a ∷ more) (k ∷ ks)) (a ∷ more ≡ k ∷ ks) → (a.0 ≡ k.0) × MatchBool is_open (Begins more ks) (more ≡ ks)
+behind_first true a k more ks h = (ap (λ (x : KeyId). x.0) h.0, h.1)
+behind_first false a k more ks h = let same : a ≡ k = cc in let tail : more ≡ ks = cc in (ap (λ (x : KeyId). x.0) same, tail)
 
 pub rest-covers : (k : KeyId) (p : Path) (ks : List KeyId) → Covers p (k ∷ ks) → (q : Path) × (rest p k ≡ Some q) × Covers q ks
 unfolding Covers rest
-rest-covers k (Closed Zero) ks h = absurd (let none : ⊥ = cc in none)
-rest-covers k (Closed (One a)) ks h = let same : a ≡ k = cc in let tail : [] ≡ ks = cc in (Closed Zero, rw (eq-eqb a.0 k.0 (ap (λ (x : KeyId). x.0) same)) refl, tail)
-rest-covers k (Closed (Two a b)) ks h = let same : a ≡ k = cc in let tail : b ∷ [] ≡ ks = cc in (Closed (One b), rw (eq-eqb a.0 k.0 (ap (λ (x : KeyId). x.0) same)) refl, tail)
-rest-covers k (Closed (Three a b c)) ks h = let same : a ≡ k = cc in let tail : b ∷ c ∷ [] ≡ ks = cc in (Closed (Two b c), rw (eq-eqb a.0 k.0 (ap (λ (x : KeyId). x.0) same)) refl, tail)
-rest-covers k (Open Zero) ks h = (Open Zero, refl, tt)
-rest-covers k (Open (One a)) ks h = (Open Zero, rw (eq-eqb a.0 k.0 (ap (λ (x : KeyId). x.0) h.0)) refl, h.1)
-rest-covers k (Open (Two a b)) ks h = (Open (One b), rw (eq-eqb a.0 k.0 (ap (λ (x : KeyId). x.0) h.0)) refl, h.1)
-rest-covers k (Open (Three a b c)) ks h = (Open (Two b c), rw (eq-eqb a.0 k.0 (ap (λ (x : KeyId). x.0) h.0)) refl, h.1)
+rest-covers k p ks h = go p.is_open p.keys h
+  where
+    go : (is_open : Bool) (keys : Keys) → Covers (record { is_open = is_open; keys = keys }) (k ∷ ks) → (q : Path) × (rest (record { is_open = is_open; keys = keys }) k ≡ Some q) × Covers q ks
+    go true Zero h = (record { is_open = true; keys = Zero }, refl, tt)
+    go false Zero h = absurd (let none : ⊥ = cc in none)
+    go o (One a) h = let w = behind_first o a k [] ks h in (record { is_open = o; keys = Zero }, rw (eq-eqb a.0 k.0 w.0) refl, w.1)
+    go o (Two a b) h = let w = behind_first o a k (b ∷ []) ks h in (record { is_open = o; keys = One b }, rw (eq-eqb a.0 k.0 w.0) refl, w.1)
+    go o (Three a b c) h = let w = behind_first o a k (b ∷ c ∷ []) ks h in (record { is_open = o; keys = Two b c }, rw (eq-eqb a.0 k.0 w.0) refl, w.1)
+    go o (Four a b c d) h = let w = behind_first o a k (b ∷ c ∷ d ∷ []) ks h in (record { is_open = o; keys = Three b c d }, rw (eq-eqb a.0 k.0 w.0) refl, w.1)
+    go o (Five a b c d e) h = let w = behind_first o a k (b ∷ c ∷ d ∷ e ∷ []) ks h in (record { is_open = o; keys = Four b c d e }, rw (eq-eqb a.0 k.0 w.0) refl, w.1)
 
 pub empty-covers : Covers empty_path []
 unfolding Covers
@@ -47,11 +65,12 @@ empty-covers = refl
 -- what covers no keys has no keys
 pub covers-empty : (p : Path) → Covers p [] → keys_of p ≡ []
 unfolding Covers
-covers-empty (Closed keys) h = h
-covers-empty (Open Zero) h = refl
-covers-empty (Open (One a)) h = absurd h
-covers-empty (Open (Two a b)) h = absurd h
-covers-empty (Open (Three a b c)) h = absurd h
+covers-empty p h = go p.is_open (keys_of p) h
+  where
+    go : (is_open : Bool) (ks : List KeyId) → MatchBool is_open (Begins ks []) (ks ≡ []) → ks ≡ []
+    go true [] h = refl
+    go true (k ∷ ks) h = absurd h
+    go false ks h = h
 
 pub path_laws : PathLaws
 path_laws = record { cut = cut-covers; rest = rest-covers; empty = empty-covers; without_keys = covers-empty }

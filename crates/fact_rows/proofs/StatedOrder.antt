@@ -1,12 +1,10 @@
 -- The derived order of rows is that of their numbers.
-use Rattle.std.proofs.Common.{ℕ, List, [], ◌∷◌, ◌++◌, refl, sym, ap, ◌∙◌, append_assoc}
-use Rattle.std.specs.Ordering.{nat_cmp, ordering_then}
-use Rattle.std.specs.Cmp.Lexicographic.{slice_cmp}
-use Rattle.std.specs.declared.cmp.Ordering.{Ordering}
+use Rattle.std.proofs.Common.{[], ◌∷◌, refl}
+use Rattle.std.specs.Ordering.{nat_cmp}
 use Rattle.vet_base.specs.declared.key_id.KeyId.{KeyId}
 use Rattle.vet_base.specs.contracts.key_id.KeyIdOrd.TheImpl.{ghosts as key_order}
 use Rattle.access_path.specs.Order.{path_cmp, numbers_of_path, ComparesAs}
-use Rattle.access_path.proofs.PathOrder.{then_assoc, stated_path}
+use Rattle.access_path.proofs.PathOrder.{Stated, paired, stated_path}
 use Rattle.app_machine.specs.declared.lists.SummaryId.TheVariants as use_of
 use Rattle.app_machine.specs.contracts.lists.SummaryIdOrd.TheImpl.{ghosts as use_order}
 use Rattle.fact_rows.specs.declared.context.Ctx.TheVariants as ctx
@@ -18,20 +16,7 @@ use Rattle.fact_rows.specs.contracts.context.NodeOrd.TheImpl.{ghosts as node_ord
 use Rattle.fact_rows.specs.contracts.site.SiteOrd.TheImpl.{ghosts as site_order}
 use Rattle.fact_rows.specs.contracts.row.RowOrd.TheImpl.Laws.{total-law}
 use Rattle.fact_rows.specs.Order.{row_cmp, numbers_of_ctx, numbers_of_activation, numbers_of_node, numbers_of_site, numbers_of_use, numbers_of_row, RowOrder}
-use Rattle.fact_rows.specs.ExactOrder.{then_by, exact_row}
-
--- `ComparesAs` with its two functions in sight
-pub record Stated {A : Type 0} (R : A → A → Ordering) (numbers : A → List ℕ) : Type 0 where
-  pub is : ComparesAs R numbers
-
-pub paired : {A B : Type 0} {R : A → A → Ordering} {S : B → B → Ordering} {f : A → List ℕ} {g : B → List ℕ} → Stated R f → Stated S g → Stated (then_by R S) (λ (p : A × B). f p.0 ++ g p.1)
-paired {R = R} {S = S} {f = f} {g = g} first second = record {
-  is = λ p q xs ys.
-      rw (append_assoc (f p.0) (g p.1) xs, append_assoc (f q.0) (g q.1) ys)
-      (first.is p.0 q.0 (g p.1 ++ xs) (g q.1 ++ ys)
-      ∙ (ap (λ z. ordering_then (R p.0 q.0) z) (second.is p.1 q.1 xs ys)
-      ∙ sym (then_assoc (R p.0 q.0) (S p.1 q.1) (slice_cmp nat_cmp xs ys))));
-}
+use Rattle.fact_rows.specs.ExactOrder.{exact_row}
 
 number : Stated nat_cmp (λ n. n ∷ [])
 number = record { is = λ a b xs ys. refl }

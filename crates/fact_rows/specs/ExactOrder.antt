@@ -1,11 +1,9 @@
 -- The derived order of rows tells all rows apart.
 use Rattle.std.proofs.Common.{ℕ, refl, ap}
-use Rattle.std.specs.Ordering.{ordering_then}
-use Rattle.std.specs.declared.cmp.Ordering.{Ordering}
 use Rattle.std.proofs.lemmas.Map.Lookups.{CmpEqualImpliesEq, exact_unsigned}
 use Rattle.vet_base.specs.declared.key_id.KeyId.{KeyId}
 use Rattle.access_path.specs.declared.path.Path.{Path}
-use Rattle.access_path.proofs.PathOrder.{both_equal, apart, exact_key, exact_path}
+use Rattle.access_path.specs.ExactOrder.{exact_pair, apart, exact_key, exact_path}
 use Rattle.app_machine.specs.declared.lists.SummaryId.{SummaryId}
 use Rattle.app_machine.specs.declared.lists.SummaryId.TheVariants as use_of
 use Rattle.app_machine.specs.contracts.lists.SummaryIdOrd.TheImpl.{ghosts as use_order}
@@ -21,13 +19,6 @@ use Rattle.fact_rows.specs.contracts.context.ActivationOrd.TheImpl.{ghosts as ac
 use Rattle.fact_rows.specs.contracts.context.NodeOrd.TheImpl.{ghosts as node_order}
 use Rattle.fact_rows.specs.contracts.site.SiteOrd.TheImpl.{ghosts as site_order}
 use Rattle.fact_rows.specs.contracts.row.RowOrd.TheImpl.{ghosts as row_order}
-
--- two orders one after the other
-abbrev pub then_by : {A B : Type 0} → (A → A → Ordering) → (B → B → Ordering) → A × B → A × B → Ordering
-then_by R S p q = ordering_then (R p.0 q.0) (S p.1 q.1)
-
-pub exact_pair : {A B : Type 0} {R : A → A → Ordering} {S : B → B → Ordering} → CmpEqualImpliesEq R → CmpEqualImpliesEq S → CmpEqualImpliesEq (then_by R S)
-exact_pair {R = R} {S = S} f g p q e = let h = both_equal (R p.0 q.0) (S p.1 q.1) e in λ i. (f p.0 q.0 h.0 i, g p.1 q.1 h.1 i)
 
 pub exact_ctx : CmpEqualImpliesEq ctx_order.cmp
 exact_ctx (ctx.Row a b) (ctx.Row c d) e = ap (λ (p : ℕ × ℕ). ctx.Row p.0 p.1) (exact_pair exact_unsigned exact_unsigned (a, b) (c, d) e)

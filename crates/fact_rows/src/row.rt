@@ -9,8 +9,8 @@ use vet_base::KeyId;
 /// A fact. Registers are numbers; 65536 is the result of the last call and 65537 the exception.
 /// Labels and sinks are numbers of categories.
 ///
-/// A row takes 72 bytes, those of an effect: a kind (4), a node (20), a site (24, a node or less and
-/// its kind), a path (20, up to three keys, their number and whether it is open) and a label (4). It
+/// A row takes 80 bytes, those of an effect: a kind (4), a node (20), a site (24, a node or less and
+/// its kind), a path (28, its keys, their number and whether it is open) and a label (4). It
 /// stays so, since fields that are packed into one another would hide the order of rows, which is
 /// derived from the fields as they stand.
 #[derive(Clone, Copy, Debug, PartialEq, Eq, PartialOrd, Ord)]

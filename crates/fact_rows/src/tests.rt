@@ -78,6 +78,6 @@ fn rows_are_found_by_kind_and_first_field(rt: HostRuntime) -> Result<(), Fail> {
         })),
         (0, 0)
     );
-    assert_eq!(rt; size_of::<Row>(), 72);
+    assert_eq!(rt; size_of::<Row>(), 80);
     Ok(())
 }
