@@ -4,12 +4,16 @@
 //! Arzt et al., FlowDroid, PLDI 2014, section 4.2: access paths of bounded length.
 #![tactic(auto)]
 
+mod keys;
 mod path;
+mod path_keys;
 
 ghost use Rattle.access_path.specs.Laws.{PathLaws};
 ghost use Rattle.access_path.specs.Order.{PathOrder};
 
-pub use path::{Keys, Path, covers, cut, rest};
+pub use keys::MOST_KEYS;
+pub use path::{Path, covers, cut, rest};
+pub use path_keys::PathKeys;
 
 /// The laws by which everybody else knows paths.
 ///
@@ -25,3 +29,6 @@ pub fn paths_keep_their_laws()
 pub fn paths_stand_in_order()
     ensures { PathOrder }
 {}
+
+#[cfg(test)]
+mod tests;

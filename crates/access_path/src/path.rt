@@ -1,25 +1,21 @@
-ghost use Rattle.std.specs.Prelude.{◌≡◌, ◌↔◌, IsTrue};
-ghost use Rattle.access_path.specs.Paths.{Covers, Begins, keys_in, first_key as first_of, cut as cut_path, rest as rest_of, empty_path};
+ghost use Rattle.std.specs.Prelude.{◌≡◌, ◌↔◌, ◌<◌, ◌≤◌, [], IsTrue, MatchOption, length};
+ghost use Rattle.access_path.specs.PathKeys.{keys_left};
+ghost use Rattle.access_path.specs.Paths.{Covers, IsPathOf, keys_of, cut as cut_path, rest as rest_of, empty_path};
+ghost use Rattle.access_path.specs.declared.keys.TheConstants.{MOST_KEYS as most_keys};
 
+use crate::PathKeys;
+use crate::keys::{Keys, MOST_KEYS};
 use vet_base::KeyId;
 
-/// At most three keys, the first one first.
-#[derive(Clone, Copy, Debug, PartialEq, Eq, PartialOrd, Ord)]
-pub enum Keys {
-    Zero,
-    One(KeyId),
-    Two(KeyId, KeyId),
-    Three(KeyId, KeyId, KeyId),
-}
-
 /// A closed path stands for its own keys alone, an open one for every list that begins with them.
+/// It has at most `MOST_KEYS` keys.
 ///
 /// The order is that of the path's bytes in a certificate: the number of keys, plus 128 where the
 /// path is open, and then the keys.
-#[derive(Clone, Copy, Debug, PartialEq, Eq, PartialOrd, Ord)]
-pub enum Path {
-    Closed(Keys),
-    Open(Keys),
+#[derive(Clone, Copy, Debug, PartialEq, Eq, PartialOrd, Ord, Hash)]
+pub struct Path {
+    is_open: bool,
+    keys: Keys,
 }
 
 impl Path {
@@ -27,7 +23,46 @@ impl Path {
     pub fn empty() -> Path
         ensures { result ≡ empty_path }
     {
-        Path::Closed(Keys::Zero)
+        Path {
+            is_open: false,
+            keys: Keys::Zero,
+        }
+    }
+
+    /// The path of these keys; `None` exactly where they are more than `MOST_KEYS`.
+    pub fn from_keys(is_open: bool, keys: &[KeyId]) -> Option<Path>
+        ensures { MatchOption result (most_keys < length keys.now) (IsPathOf is_open keys.now) }
+    {
+        let keys = Keys::from_slice(keys)?;
+        Some(Path { is_open, keys })
+    }
+
+    /// The number of keys.
+    pub fn len(&self) -> usize
+        ensures count { result ≡ length (keys_of self.now) }
+        ensures few { result ≤ most_keys }
+    {
+        self.keys.len()
+    }
+
+    pub fn is_empty(&self) -> bool
+        ensures { IsTrue result ↔ (keys_of self.now ≡ []) }
+    {
+        self.keys.len() == 0
+    }
+
+    /// Whether keys that begin with the path's are covered too.
+    pub fn is_open(&self) -> bool
+        ensures { result ≡ self.now.is_open }
+    {
+        self.is_open
+    }
+
+    /// The keys, the first one first.
+    pub fn keys(&self) -> PathKeys
+        ensures { keys_left result ≡ keys_of self.now }
+    {
+        PathKeys::new(self.keys)
     }
 }
 
@@ -37,15 +72,9 @@ impl Path {
 pub fn cut(key: KeyId, path: &Path) -> Path
     ensures { result ≡ cut_path key path.now }
 {
-    match *path {
-        Path::Closed(Keys::Zero) => Path::Closed(Keys::One(key)),
-        Path::Closed(Keys::One(a)) => Path::Closed(Keys::Two(key, a)),
-        Path::Closed(Keys::Two(a, b)) => Path::Closed(Keys::Three(key, a, b)),
-        Path::Closed(Keys::Three(a, b, _)) => Path::Open(Keys::Three(key, a, b)),
-        Path::Open(Keys::Zero) => Path::Open(Keys::One(key)),
-        Path::Open(Keys::One(a)) => Path::Open(Keys::Two(key, a)),
-        Path::Open(Keys::Two(a, b)) => Path::Open(Keys::Three(key, a, b)),
-        Path::Open(Keys::Three(a, b, _)) => Path::Open(Keys::Three(key, a, b)),
+    Path {
+        is_open: path.is_open || path.len() == MOST_KEYS,
+        keys: path.keys.behind(key),
     }
 }
 
@@ -54,27 +83,18 @@ pub fn cut(key: KeyId, path: &Path) -> Path
 pub fn rest(path: &Path, key: KeyId) -> Option<Path>
     ensures { result ≡ rest_of path.now key }
 {
-    match *path {
-        Path::Closed(keys) => match first_key(keys) {
-            None => None,
-            Some((first, more)) => {
-                if first.0 == key.0 {
-                    Some(Path::Closed(more))
-                } else {
-                    None
-                }
+    match path.keys.first_and_rest() {
+        None => { if path.is_open { Some(*path) } else { None } }
+        Some((first, keys)) => {
+            if first.0 == key.0 {
+                Some(Path {
+                    is_open: path.is_open,
+                    keys,
+                })
+            } else {
+                None
             }
-        },
-        Path::Open(keys) => match first_key(keys) {
-            None => Some(Path::Open(Keys::Zero)),
-            Some((first, more)) => {
-                if first.0 == key.0 {
-                    Some(Path::Open(more))
-                } else {
-                    None
-                }
-            }
-        },
+        }
     }
 }
 
@@ -83,46 +103,9 @@ pub fn rest(path: &Path, key: KeyId) -> Option<Path>
 pub fn covers(path: &Path, keys: &[KeyId]) -> bool
     ensures { IsTrue result ↔ Covers path.now keys.now }
 {
-    match *path {
-        Path::Closed(own) => is_all(own, keys),
-        Path::Open(own) => begins(own, keys),
-    }
-}
-
-/// The first key, and those behind it.
-fn first_key(keys: Keys) -> Option<(KeyId, Keys)>
-    ensures { result ≡ first_of keys }
-{
-    match keys {
-        Keys::Zero => None,
-        Keys::One(a) => Some((a, Keys::Zero)),
-        Keys::Two(a, b) => Some((a, Keys::One(b))),
-        Keys::Three(a, b, c) => Some((a, Keys::Two(b, c))),
-    }
-}
-
-/// Whether the list is these keys.
-fn is_all(own: Keys, keys: &[KeyId]) -> bool
-    ensures { IsTrue result ↔ (keys_in own ≡ keys.now) }
-{
-    match (own, keys) {
-        (Keys::Zero, []) => true,
-        (Keys::One(a), [x]) => a.0 == x.0,
-        (Keys::Two(a, b), [x, y]) => a.0 == x.0 && b.0 == y.0,
-        (Keys::Three(a, b, c), [x, y, z]) => a.0 == x.0 && b.0 == y.0 && c.0 == z.0,
-        _ => false,
-    }
-}
-
-/// Whether the list begins with these keys.
-fn begins(own: Keys, keys: &[KeyId]) -> bool
-    ensures { IsTrue result ↔ Begins (keys_in own) keys.now }
-{
-    match (own, keys) {
-        (Keys::Zero, _) => true,
-        (Keys::One(a), [x, ..]) => a.0 == x.0,
-        (Keys::Two(a, b), [x, y, ..]) => a.0 == x.0 && b.0 == y.0,
-        (Keys::Three(a, b, c), [x, y, z, ..]) => a.0 == x.0 && b.0 == y.0 && c.0 == z.0,
-        _ => false,
+    if path.is_open {
+        path.keys.begin(keys)
+    } else {
+        path.keys.are_all(keys)
     }
 }

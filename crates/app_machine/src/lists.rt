@@ -23,7 +23,7 @@ pub struct LibClass {
 
 /// What a library call does: the method row of that number, or the default of the class of that
 /// number.
-#[derive(Clone, Copy, Debug, PartialEq, Eq, PartialOrd, Ord)]
+#[derive(Clone, Copy, Debug, PartialEq, Eq, PartialOrd, Ord, Hash)]
 pub enum SummaryId {
     Row(u32),
     Fallback(u32),

@@ -8,16 +8,13 @@ use Rattle.app_machine.specs.Names.{Name, click_descriptor}
 use Rattle.app_machine.specs.Lookups.{find_body, body_named}
 use Rattle.app_machine.specs.LifeEvents.{LifeEvent, life_events}
 use Rattle.fact_rows.specs.declared.context.Ctx.{Ctx}
-use Rattle.fact_rows.specs.declared.context.Ctx.TheVariants.{Row, Callback as CallbackOf, Click, Handed, Init, Call}
+use Rattle.fact_rows.specs.declared.context.Ctx.TheVariants.{Row, Callback as CallbackOf, Click, Handed, Call, Call2}
 
 -- the context is that of an event
 abbrev pub IsEvent : Ctx → Type 0
-IsEvent (Row c e) = Unit {0}
-IsEvent (CallbackOf c q) = Unit {0}
-IsEvent (Click c i) = Unit {0}
-IsEvent (Handed q) = Unit {0}
-IsEvent (Init c) = Unit {0}
 IsEvent (Call m pc) = ⊥
+IsEvent (Call2 m pc n qc) = ⊥
+IsEvent _ = Unit {0}
 
 -- the body of a component's event
 abbrev pub life_body : App → Component → Option LifeEvent → Option ℕ
@@ -36,9 +33,7 @@ abbrev pub body_on : App → Lists → Ctx → Component → Option ℕ
 body_on app lists (Row c e) component = life_body app component (slice_get (life_events component.kind) e)
 body_on app lists (CallbackOf c q) component = callback_body app component (slice_get lists.callbacks q)
 body_on app lists (Click c i) component = click_body app component (slice_get app.clicks i)
-body_on app lists (Handed q) component = None
-body_on app lists (Init c) component = None
-body_on app lists (Call m pc) component = None
+body_on app lists _ component = None
 
 abbrev pub body_at : App → Lists → Ctx → Option Component → Option ℕ
 body_at app lists ctx None = None
@@ -60,8 +55,7 @@ event_types app lists (Row c e) = types_of app (body_at app lists (Row c e) (sli
 event_types app lists (CallbackOf c q) = types_of app (body_at app lists (CallbackOf c q) (slice_get app.components c))
 event_types app lists (Click c i) = types_of app (body_at app lists (Click c i) (slice_get app.components c))
 event_types app lists (Handed q) = callback_types (slice_get lists.callbacks q)
-event_types app lists (Init c) = []
-event_types app lists (Call m pc) = []
+event_types app lists _ = []
 
 -- the type of a position among the parameters, the receiver being 0
 abbrev pub parameter_type : List Name → ℕ → Option Name

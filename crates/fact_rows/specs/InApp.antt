@@ -1,5 +1,5 @@
 -- The rows that name things which the app and the lists have.
-use Rattle.std.specs.Prelude.{◌≡◌, ◌<◌, ◌+◌, ℕ, IsTrue, List, ◌∷◌, length, map, Some, slice_get}
+use Rattle.std.specs.Prelude.{◌≡◌, ◌<◌, ◌+◌, ℕ, IsTrue, List, [], ◌∷◌, length, map, Some, slice_get}
 use Rattle.vet_base.specs.declared.key_id.KeyId.{KeyId}
 use Rattle.access_path.specs.declared.path.Path.{Path}
 use Rattle.access_path.specs.Paths.{keys_of}
@@ -28,7 +28,9 @@ use Rattle.fact_rows.specs.declared.context.Node.{Node}
 use Rattle.fact_rows.specs.declared.site.Site.{Site}
 use Rattle.fact_rows.specs.declared.site.Site.TheVariants.{At, Param, Component as ComponentOf, Shared}
 use Rattle.fact_rows.specs.declared.row.Row.{Row}
-use Rattle.fact_rows.specs.declared.row.Row.TheVariants.{Reached, Points, Taint, Cell, Back, StaticPoints, StaticTaint, Calls, CalledBy, Effect, MethodEffect, ExitPoints, ExitTaint, Live, CompTaint, Handed, HandedTaint, Arrive, Unknown, Uses}
+use Rattle.fact_rows.specs.declared.field.Field.{Field}
+use Rattle.fact_rows.specs.declared.field.Field.TheVariants as field
+use Rattle.fact_rows.specs.Parts.{parts_of}
 use Rattle.fact_rows.specs.Contexts.{IsEvent, event_types, parameter_type}
 
 -- the step is one before which or at which a method is entered
@@ -38,7 +40,8 @@ pub data EntersAt (app : App) (method pc : ℕ) : Type 0 where
   at_get : {g : ℕ} {ds : List ℕ} → ActAt app method pc (act.GetStatic ds g) → EntersAt app method pc
   at_put : {g x : ℕ} → ActAt app method pc (act.PutStatic g x) → EntersAt app method pc
 
--- A context names an event for which its component has a body, a callback row, or a step at which a method is entered.
+-- A context names an event for which its component has a body, a callback row, or one or two steps, at each of which a method
+-- is entered.
 abbrev pub CtxIn : App → Lists → Ctx → Type 0
 CtxIn app lists (ctx.Row c e) = (class : Name) × ((life : LifeEvent) × ((body : ℕ) × LifeEventAt app c e class life (Some body)))
 CtxIn app lists (ctx.Callback c q) = (sources : List (ℕ × ℕ)) × ((body : ℕ) × CallbackAt app lists c q sources body)
@@ -46,6 +49,7 @@ CtxIn app lists (ctx.Click c i) = (body : ℕ) × ClickAt app c i body
 CtxIn app lists (ctx.Handed q) = q < length lists.callbacks
 CtxIn app lists (ctx.Init c) = (body : ℕ) × InitialiserAt app c body
 CtxIn app lists (ctx.Call m pc) = EntersAt app m pc
+CtxIn app lists (ctx.Call2 m pc n qc) = EntersAt app m pc × EntersAt app n qc
 
 pub record ActivationIn (app : App) (lists : Lists) (a : Activation) : Type 0 where
   pub context : CtxIn app lists a.ctx
@@ -113,24 +117,28 @@ SummaryIn lists (summaries.Fallback i) = (c : LibClass) × IsAt lists.classes i 
 abbrev pub ExitIn : ℕ → Type 0
 ExitIn how = how < 2
 
+abbrev pub CauseIn : ℕ → Type 0
+CauseIn cause = (0 < cause) × (cause < 4)
+
+abbrev pub FieldIn : App → Lists → Field → Type 0
+FieldIn app lists (field.Node n) = NodeIn app lists n
+FieldIn app lists (field.Register n r) = RegisterIn app n r
+FieldIn app lists (field.Activation a) = ActivationIn app lists a
+FieldIn app lists (field.Site s) = SiteIn app lists s
+FieldIn app lists (field.Key k) = KeyIn app k
+FieldIn app lists (field.Path p) = PathIn app p
+FieldIn app lists (field.Category l) = CategoryIn lists l
+FieldIn app lists (field.Static g) = StaticIn app lists g
+FieldIn app lists (field.Exit how) = ExitIn how
+FieldIn app lists (field.Component c) = c < length app.components
+FieldIn app lists (field.State c state) = StateIn app c state
+FieldIn app lists (field.Cause cause) = CauseIn cause
+FieldIn app lists (field.Use u) = SummaryIn lists u
+
+-- each of the fields
+abbrev pub FieldsIn : App → Lists → List Field → Type 0
+FieldsIn app lists [] = Unit {0}
+FieldsIn app lists (f ∷ fs) = FieldIn app lists f × FieldsIn app lists fs
+
 abbrev pub InApp : App → Lists → Row → Type 0
-InApp app lists (Reached n) = NodeIn app lists n
-InApp app lists (Points n r s) = NodeIn app lists n × RegisterIn app n r × SiteIn app lists s
-InApp app lists (Taint n r p l) = NodeIn app lists n × RegisterIn app n r × PathIn app p × CategoryIn lists l
-InApp app lists (Cell s k t) = SiteIn app lists s × KeyIn app k × SiteIn app lists t
-InApp app lists (Back t k s) = SiteIn app lists t × KeyIn app k × SiteIn app lists s
-InApp app lists (StaticPoints g s) = StaticIn app lists g × SiteIn app lists s
-InApp app lists (StaticTaint g p l) = StaticIn app lists g × PathIn app p × CategoryIn lists l
-InApp app lists (Calls n b) = NodeIn app lists n × ActivationIn app lists b
-InApp app lists (CalledBy b n) = ActivationIn app lists b × NodeIn app lists n
-InApp app lists (Effect n s p l) = NodeIn app lists n × SiteIn app lists s × PathIn app p × CategoryIn lists l
-InApp app lists (MethodEffect a s p l) = ActivationIn app lists a × SiteIn app lists s × PathIn app p × CategoryIn lists l
-InApp app lists (ExitPoints a how s) = ActivationIn app lists a × ExitIn how × SiteIn app lists s
-InApp app lists (ExitTaint a how p l) = ActivationIn app lists a × ExitIn how × PathIn app p × CategoryIn lists l
-InApp app lists (Live c state) = StateIn app c state
-InApp app lists (CompTaint c state p l) = StateIn app c state × PathIn app p × CategoryIn lists l
-InApp app lists (Handed s) = SiteIn app lists s
-InApp app lists (HandedTaint s p l) = SiteIn app lists s × PathIn app p × CategoryIn lists l
-InApp app lists (Arrive l sink n) = CategoryIn lists l × CategoryIn lists sink × NodeIn app lists n
-InApp app lists (Unknown n cause) = NodeIn app lists n × (0 < cause) × (cause < 4)
-InApp app lists (Uses n key) = NodeIn app lists n × SummaryIn lists key
+InApp app lists row = FieldsIn app lists (parts_of row).fields

@@ -1,5 +1,7 @@
 pub mod Contexts
-pub mod ExactOrder
-pub mod HeadOrder
+pub mod Fields
 pub mod InApp
+pub mod Kinds
+pub mod Naming
 pub mod Order
+pub mod Parts

@@ -1,7 +1,7 @@
 use crate::{Ctx, Node};
 
 /// Where an object was made.
-#[derive(Clone, Copy, Debug, PartialEq, Eq, PartialOrd, Ord)]
+#[derive(Clone, Copy, Debug, PartialEq, Eq, PartialOrd, Ord, Hash)]
 pub enum Site {
     /// By an allocation, or as the joined result of a library call.
     At(Node),

@@ -1,7 +1,7 @@
 //! Rows made of numbers.
 ghost use Rattle.std.specs.Prelude.{◌<◌, ◌≤◌};
 
-use access_path::{Keys, Path};
+use access_path::{Path, cut};
 use fact_rows::{Activation, Ctx, Node, Row, Site};
 use std::fmt;
 use vet_base::KeyId;
@@ -62,7 +62,7 @@ pub fn row_of(number: u64) -> Row {
     };
     let register = digit(number, 4, 16);
     let last = digit(number, 0, 16);
-    let path = Path::Closed(Keys::One(KeyId(last)));
+    let path = cut(KeyId(last), &Path::empty());
     match digit(number, 40, 4) {
         0 => Row::Points(node, register, Site::At(Node { by, pc: last })),
         1 => Row::Taint(node, register, path, 0),

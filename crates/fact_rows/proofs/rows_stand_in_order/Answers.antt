@@ -1,5 +1,0 @@
-use Rattle.fact_rows.proofs.StatedOrder.{row_order_is}
-use Rattle.fact_rows.proofs.rows_stand_in_order.Goals as goal
-
-pub returns : goal.returns
-returns c = row_order_is
