@@ -153,10 +153,7 @@ fn components_once(
 }
 
 #[tactic(auto, unfolding(crate::specs::Manifest::component_once))]
-fn component_once(
-    component: &(Word, Name),
-    seen: Index<Name>,
-) -> Result<Index<Name>, Stop<Fault>>
+fn component_once(component: &(Word, Name), seen: Index<Name>) -> Result<Index<Name>, Stop<Fault>>
     ensures { Gives (λ x. x) result (component_once component.now seen) }
 {
     once(seen, &component.1)

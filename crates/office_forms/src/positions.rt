@@ -202,8 +202,7 @@ fn pair_rows(
 {
     let mut pairs = Vec::new(alloc);
     for value in items {
-        let pair = pair_row(value, section, key, count)?;
-        pairs.push(pair)?;
+        pairs.push(pair_row(value, section, key, count)?)?;
     }
     Ok(pairs)
 }

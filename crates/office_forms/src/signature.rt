@@ -98,7 +98,7 @@ pub fn proto_at(
 pub fn position_count(is_static: bool, proto: &Proto) -> usize
     ensures { result ≡ position_count is_static proto.now }
 {
-    let params = proto.params.len();
+    let params = proto.params.as_slice().len();
     if is_static { params } else { params + 1 }
 }
 
@@ -115,10 +115,7 @@ pub fn keys_once(alloc: Global, keys: &[MethodKey]) -> Result<Index<MethodKey>, 
 }
 
 #[tactic(auto, unfolding(crate::specs::Methods::key_once))]
-fn key_once(
-    key: &MethodKey,
-    seen: Index<MethodKey>,
-) -> Result<Index<MethodKey>, Stop<Fault>>
+fn key_once(key: &MethodKey, seen: Index<MethodKey>) -> Result<Index<MethodKey>, Stop<Fault>>
     ensures { Gives (λ x. x) result (key_once key.now seen) }
 {
     if seen.place_of(key).is_some() {
