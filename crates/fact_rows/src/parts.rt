@@ -1,7 +1,9 @@
 ghost use Rattle.std.specs.Prelude.{◌≡◌};
 ghost use Rattle.fact_rows.specs.Parts.{parts_of, side_of};
+ghost use Rattle.fact_rows.specs.RangeLaws.{parts_rise};
 
 use crate::{Field, Fields, Kind, Row};
+use sorted_table::Stretch;
 use std::cmp::Ordering;
 
 /// The kind of a row and its fields in order; or the kind and some first fields, by which rows are
@@ -130,5 +132,20 @@ impl Row {
             ),
         };
         Parts { kind, fields }
+    }
+}
+
+/// The rows of the kind that begin with the fields stand together.
+impl Stretch<Row> for Parts {
+    ghost side = { side_of };
+
+    ghost rises = { parts_rise };
+
+    fn side(&self, row: &Row) -> Ordering {
+        let parts = row.parts();
+        parts
+            .kind
+            .cmp(&self.kind)
+            .then(parts.fields.front_cmp(&self.fields))
     }
 }
