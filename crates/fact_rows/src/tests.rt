@@ -1,4 +1,4 @@
-use crate::{Activation, Ctx, Field, Fields, Kind, Node, Parts, Row, Site, Table};
+use crate::{Activation, Ctx, Field, Kind, Node, Parts, Row, Site, Table};
 use access_path::Path;
 use sorted_table::SortedVec;
 use std::mem::size_of;
@@ -61,10 +61,6 @@ fn the_table_and_the_vector_agree(rt: HostRuntime) -> Result<(), Fail> {
     Ok(())
 }
 
-fn head(kind: Kind, fields: Fields) -> Parts {
-    Parts { kind, fields }
-}
-
 #[test]
 fn rows_are_found_by_kind_and_first_field(rt: HostRuntime) -> Result<(), Fail> {
     let mut table = Table::new(rt.alloc());
@@ -73,12 +69,12 @@ fn rows_are_found_by_kind_and_first_field(rt: HostRuntime) -> Result<(), Fail> {
         table.add(Row::Live(component, 2))?;
     }
     table.add(Row::Handed(Site::Component(1)))?;
-    let live = |component| head(Kind::Live, Fields::one(Field::Component(component)));
+    let live = |component| Parts::one(Kind::Live, Field::Component(component));
     assert_eq!(rt; table.range(&live(1)), (2, 4));
     assert_eq!(rt; table.range(&live(7)), (6, 6));
-    assert_eq!(rt; table.range(&head(Kind::Live, Fields::none())), (0, 6));
-    assert_eq!(rt; table.range(&head(Kind::Handed, Fields::none())), (6, 7));
-    assert_eq!(rt; table.range(&head(Kind::Calls, Fields::none())), (0, 0));
+    assert_eq!(rt; table.range(&Parts::of(Kind::Live)), (0, 6));
+    assert_eq!(rt; table.range(&Parts::of(Kind::Handed)), (6, 7));
+    assert_eq!(rt; table.range(&Parts::of(Kind::Calls)), (0, 0));
     Ok(())
 }
 
@@ -100,17 +96,14 @@ fn rows_are_found_by_kind_and_two_fields(rt: HostRuntime) -> Result<(), Fail> {
     }
     let at = Field::Node(node);
     let site = Field::Site(Site::Component(1));
-    let points = Fields::two(at, Field::Register(node, 1));
-    assert_eq!(rt; table.range(&head(Kind::Points, points)), (2, 4));
-    let cells = Fields::two(site, Field::Key(KeyId(2)));
-    assert_eq!(rt; table.range(&head(Kind::Cell, cells)), (11, 12));
-    assert_eq!(rt;
-        table.range(&head(Kind::Effect, Fields::two(at, site))),
-        (15, 18)
-    );
-    let exits = Fields::two(Field::Activation(by), Field::Exit(0));
-    assert_eq!(rt; table.range(&head(Kind::ExitTaint, exits)), (18, 21));
-    assert_eq!(rt; table.range(&head(Kind::Effect, Fields::one(at))), (12, 18));
+    let points = Parts::two(Kind::Points, at, Field::Register(node, 1));
+    assert_eq!(rt; table.range(&points), (2, 4));
+    let cells = Parts::two(Kind::Cell, site, Field::Key(KeyId(2)));
+    assert_eq!(rt; table.range(&cells), (11, 12));
+    assert_eq!(rt; table.range(&Parts::two(Kind::Effect, at, site)), (15, 18));
+    let exits = Parts::two(Kind::ExitTaint, Field::Activation(by), Field::Exit(0));
+    assert_eq!(rt; table.range(&exits), (18, 21));
+    assert_eq!(rt; table.range(&Parts::one(Kind::Effect, at)), (12, 18));
     Ok(())
 }
 
