@@ -1,7 +1,11 @@
 pub mod Contexts
+pub mod FieldLaws
 pub mod Fields
 pub mod InApp
 pub mod Kinds
 pub mod Naming
 pub mod Order
+pub mod OrderLaws
 pub mod Parts
+pub mod RangeLaws
+pub mod Told

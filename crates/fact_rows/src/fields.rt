@@ -5,7 +5,7 @@ use crate::Field;
 use std::cmp::Ordering;
 use std::marker::Model;
 
-/// Up to four fields. Contracts see their list.
+/// Up to four fields, those of a row's parts. Contracts see their list.
 #[derive(Drop)]
 pub struct Fields {
     all: [Field; 4],
@@ -27,7 +27,7 @@ impl Model for Fields {
 }
 
 impl Fields {
-    pub fn none() -> Fields
+    pub(crate) fn none() -> Fields
         ensures { result ≡ [] }
     {
         Fields {
@@ -36,7 +36,7 @@ impl Fields {
         }
     }
 
-    pub fn one(a: Field) -> Fields
+    pub(crate) fn one(a: Field) -> Fields
         ensures { result ≡ a ∷ [] }
     {
         Fields {
@@ -45,7 +45,7 @@ impl Fields {
         }
     }
 
-    pub fn two(a: Field, b: Field) -> Fields
+    pub(crate) fn two(a: Field, b: Field) -> Fields
         ensures { result ≡ a ∷ b ∷ [] }
     {
         Fields {
@@ -54,7 +54,7 @@ impl Fields {
         }
     }
 
-    pub fn three(a: Field, b: Field, c: Field) -> Fields
+    pub(crate) fn three(a: Field, b: Field, c: Field) -> Fields
         ensures { result ≡ a ∷ b ∷ c ∷ [] }
     {
         Fields {
@@ -63,7 +63,7 @@ impl Fields {
         }
     }
 
-    pub fn four(a: Field, b: Field, c: Field, d: Field) -> Fields
+    pub(crate) fn four(a: Field, b: Field, c: Field, d: Field) -> Fields
         ensures { result ≡ a ∷ b ∷ c ∷ d ∷ [] }
     {
         Fields {
@@ -80,7 +80,7 @@ impl Fields {
 
     /// How the first of these fields stand to the others, as many as those are: in front of them,
     /// the same, or behind.
-    pub fn front_cmp(&self, others: &Fields) -> Ordering
+    pub(crate) fn front_cmp(&self, others: &Fields) -> Ordering
         ensures { result ≡ front_cmp self.now others.now }
     {
         let own = self.as_slice();

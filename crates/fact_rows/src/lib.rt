@@ -4,6 +4,8 @@
 //! which they stand, and then field by field.
 #![tactic(auto)]
 
+ghost use Rattle.fact_rows.specs.Order.{RowOrder};
+
 mod context;
 mod field;
 mod fields;
@@ -11,6 +13,7 @@ mod kind;
 mod parts;
 mod row;
 mod site;
+mod table;
 
 pub use context::{Activation, Ctx, Node};
 pub use field::Field;
@@ -19,3 +22,13 @@ pub use kind::Kind;
 pub use parts::Parts;
 pub use row::Row;
 pub use site::Site;
+pub use table::Table;
+
+/// The order of rows is total and tells all rows apart, and it is that of their parts and of their
+/// numbers: the kind, and then field by field.
+pub fn rows_stand_in_order()
+    ensures { RowOrder }
+{}
+
+#[cfg(test)]
+mod tests;

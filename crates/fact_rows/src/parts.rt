@@ -1,7 +1,14 @@
-ghost use Rattle.std.specs.Prelude.{◌≡◌};
+ghost use Rattle.std.specs.Prelude.{◌≡◌, [], ◌∷◌};
 ghost use Rattle.fact_rows.specs.Parts.{parts_of, side_of};
+ghost use Rattle.fact_rows.specs.RangeLaws.{parts_rise};
 
-use crate::{Field, Fields, Kind, Row};
+use crate::Field::{
+    Activation, Category, Cause, Component, Exit, Key, Node, Path, Register, Site, State, Static,
+    Use,
+};
+use crate::fields::Fields;
+use crate::{Field, Kind, Row};
+use sorted_table::Stretch;
 use std::cmp::Ordering;
 
 /// The kind of a row and its fields in order; or the kind and some first fields, by which rows are
@@ -12,123 +19,136 @@ pub struct Parts {
     pub fields: Fields,
 }
 
+impl Parts {
+    /// The kind alone.
+    pub fn of(kind: Kind) -> Parts
+        ensures { result ≡ record { kind = kind; fields = [] } }
+    {
+        let fields = Fields::none();
+        Parts { kind, fields }
+    }
+
+    pub fn one(kind: Kind, a: Field) -> Parts
+        ensures { result ≡ record { kind = kind; fields = a ∷ [] } }
+    {
+        let fields = Fields::one(a);
+        Parts { kind, fields }
+    }
+
+    pub fn two(kind: Kind, a: Field, b: Field) -> Parts
+        ensures { result ≡ record { kind = kind; fields = a ∷ b ∷ [] } }
+    {
+        let fields = Fields::two(a, b);
+        Parts { kind, fields }
+    }
+
+    pub fn three(kind: Kind, a: Field, b: Field, c: Field) -> Parts
+        ensures { result ≡ record { kind = kind; fields = a ∷ b ∷ c ∷ [] } }
+    {
+        let fields = Fields::three(a, b, c);
+        Parts { kind, fields }
+    }
+
+    pub fn four(kind: Kind, a: Field, b: Field, c: Field, d: Field) -> Parts
+        ensures { result ≡ record { kind = kind; fields = a ∷ b ∷ c ∷ d ∷ [] } }
+    {
+        let fields = Fields::four(a, b, c, d);
+        Parts { kind, fields }
+    }
+}
+
 impl Row {
+    /// The kind and all fields. The letters are those of the rules: a node n, an activation a or b,
+    /// a register r, sites s and t, a key k, a static g, a path p, a label l and a component c.
     pub fn parts(&self) -> Parts
         ensures { result ≡ parts_of self.now }
     {
-        let (kind, fields) = match *self {
-            Row::Reached(node) => (Kind::Reached, Fields::one(Field::Node(node))),
-            Row::Points(node, register, site) => (
-                Kind::Points,
-                Fields::three(
-                    Field::Node(node),
-                    Field::Register(node, register),
-                    Field::Site(site),
-                ),
-            ),
-            Row::Taint(node, register, path, label) => (
+        match *self {
+            Row::Reached(n) => Parts::one(Kind::Reached, Node(n)),
+            Row::Points(n, r, s) => Parts::three(Kind::Points, Node(n), Register(n, r), Site(s)),
+            Row::Taint(n, r, p, l) => Parts::four(
                 Kind::Taint,
-                Fields::four(
-                    Field::Node(node),
-                    Field::Register(node, register),
-                    Field::Path(path),
-                    Field::Category(label),
-                ),
+                Node(n),
+                Register(n, r),
+                Path(p),
+                Category(l),
             ),
-            Row::Cell(site, key, held) => (
-                Kind::Cell,
-                Fields::three(Field::Site(site), Field::Key(key), Field::Site(held)),
-            ),
-            Row::Back(held, key, site) => (
-                Kind::Back,
-                Fields::three(Field::Site(held), Field::Key(key), Field::Site(site)),
-            ),
-            Row::StaticPoints(field, site) => (
-                Kind::StaticPoints,
-                Fields::two(Field::Static(field), Field::Site(site)),
-            ),
-            Row::StaticTaint(field, path, label) => (
+            Row::Cell(s, k, t) => Parts::three(Kind::Cell, Site(s), Key(k), Site(t)),
+            Row::Back(t, k, s) => Parts::three(Kind::Back, Site(t), Key(k), Site(s)),
+            Row::StaticPoints(g, s) => Parts::two(Kind::StaticPoints, Static(g), Site(s)),
+            Row::StaticTaint(g, p, l) => Parts::three(
                 Kind::StaticTaint,
-                Fields::three(
-                    Field::Static(field),
-                    Field::Path(path),
-                    Field::Category(label),
-                ),
+                Static(g),
+                Path(p),
+                Category(l),
             ),
-            Row::Calls(node, callee) => (
-                Kind::Calls,
-                Fields::two(Field::Node(node), Field::Activation(callee)),
-            ),
-            Row::CalledBy(callee, node) => (
-                Kind::CalledBy,
-                Fields::two(Field::Activation(callee), Field::Node(node)),
-            ),
-            Row::Effect(node, site, path, label) => (
+            Row::Calls(n, b) => Parts::two(Kind::Calls, Node(n), Activation(b)),
+            Row::CalledBy(b, n) => Parts::two(Kind::CalledBy, Activation(b), Node(n)),
+            Row::Effect(n, s, p, l) => Parts::four(
                 Kind::Effect,
-                Fields::four(
-                    Field::Node(node),
-                    Field::Site(site),
-                    Field::Path(path),
-                    Field::Category(label),
-                ),
+                Node(n),
+                Site(s),
+                Path(p),
+                Category(l),
             ),
-            Row::MethodEffect(by, site, path, label) => (
+            Row::MethodEffect(a, s, p, l) => Parts::four(
                 Kind::MethodEffect,
-                Fields::four(
-                    Field::Activation(by),
-                    Field::Site(site),
-                    Field::Path(path),
-                    Field::Category(label),
-                ),
+                Activation(a),
+                Site(s),
+                Path(p),
+                Category(l),
             ),
-            Row::ExitPoints(by, how, site) => (
+            Row::ExitPoints(a, how, s) => Parts::three(
                 Kind::ExitPoints,
-                Fields::three(Field::Activation(by), Field::Exit(how), Field::Site(site)),
+                Activation(a),
+                Exit(how),
+                Site(s),
             ),
-            Row::ExitTaint(by, how, path, label) => (
+            Row::ExitTaint(a, how, p, l) => Parts::four(
                 Kind::ExitTaint,
-                Fields::four(
-                    Field::Activation(by),
-                    Field::Exit(how),
-                    Field::Path(path),
-                    Field::Category(label),
-                ),
+                Activation(a),
+                Exit(how),
+                Path(p),
+                Category(l),
             ),
-            Row::Live(component, state) => (
-                Kind::Live,
-                Fields::two(Field::Component(component), Field::State(component, state)),
-            ),
-            Row::CompTaint(component, state, path, label) => (
+            Row::Live(c, state) => Parts::two(Kind::Live, Component(c), State(c, state)),
+            Row::CompTaint(c, state, p, l) => Parts::four(
                 Kind::CompTaint,
-                Fields::four(
-                    Field::Component(component),
-                    Field::State(component, state),
-                    Field::Path(path),
-                    Field::Category(label),
-                ),
+                Component(c),
+                State(c, state),
+                Path(p),
+                Category(l),
             ),
-            Row::Handed(site) => (Kind::Handed, Fields::one(Field::Site(site))),
-            Row::HandedTaint(site, path, label) => (
+            Row::Handed(s) => Parts::one(Kind::Handed, Site(s)),
+            Row::HandedTaint(s, p, l) => Parts::three(
                 Kind::HandedTaint,
-                Fields::three(Field::Site(site), Field::Path(path), Field::Category(label)),
+                Site(s),
+                Path(p),
+                Category(l),
             ),
-            Row::Arrive(label, sink, node) => (
+            Row::Arrive(l, sink, n) => Parts::three(
                 Kind::Arrive,
-                Fields::three(
-                    Field::Category(label),
-                    Field::Category(sink),
-                    Field::Node(node),
-                ),
+                Category(l),
+                Category(sink),
+                Node(n),
             ),
-            Row::Unknown(node, cause) => (
-                Kind::Unknown,
-                Fields::two(Field::Node(node), Field::Cause(cause)),
-            ),
-            Row::Uses(node, summary) => (
-                Kind::Uses,
-                Fields::two(Field::Node(node), Field::Use(summary)),
-            ),
-        };
-        Parts { kind, fields }
+            Row::Unknown(n, cause) => Parts::two(Kind::Unknown, Node(n), Cause(cause)),
+            Row::Uses(n, summary) => Parts::two(Kind::Uses, Node(n), Use(summary)),
+        }
+    }
+}
+
+/// The rows of the kind that begin with the fields stand together.
+impl Stretch<Row> for Parts {
+    ghost side = { side_of };
+
+    ghost rises = { parts_rise };
+
+    fn side(&self, row: &Row) -> Ordering {
+        let parts = row.parts();
+        parts
+            .kind
+            .cmp(&self.kind)
+            .then(parts.fields.front_cmp(&self.fields))
     }
 }

@@ -1,6 +1,9 @@
+ghost use Rattle.fact_rows.specs.OrderLaws.{exact_row};
+
 use crate::{Activation, Node, Site};
 use access_path::Path;
 use app_machine::SummaryId;
+use sorted_table::Exact;
 use vet_base::KeyId;
 
 /// A fact. Registers are numbers; 65536 is the result of the last call and 65537 the exception.
@@ -53,4 +56,8 @@ pub enum Row {
     Unknown(Node, u8),
     /// At the node the summary may be used.
     Uses(Node, SummaryId),
+}
+
+impl Exact for Row {
+    ghost exact = { exact_row };
 }
