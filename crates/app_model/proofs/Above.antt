@@ -1,5 +1,5 @@
 -- What is asked of the classes above, as it is answered step by step.
-use Rattle.std.proofs.Common.{◌≡◌, ◌≢◌, ℕ, zero, suc, ◌+◌, ◌-◌, ◌<◌, ◌≤◌, Bool, true, false, ◌||◌, List, [], ◌∷◌, ◌++◌, length, get_or, drop, drop-cons, add-one, Option, Some, None, refl, sym, ◌∙◌, ap, arith}
+use Rattle.std.proofs.Common.{◌≡◌, ◌≢◌, ℕ, zero, suc, ◌+◌, ◌-◌, ◌<◌, ◌≤◌, Bool, true, false, ◌||◌, List, [], ◌∷◌, ◌++◌, length, get_or, drop, Option, Some, None, refl, sym, ◌∙◌, ap, arith}
 use Rattle.std.specs.Prelude.{flat_map, option_to_list}
 use Rattle.std.specs.Option.{MatchOption}
 use Rattle.std.specs.List.{list_any}
@@ -11,6 +11,7 @@ use Rattle.app_machine.specs.declared.lists.Lists.{Lists}
 use Rattle.app_machine.specs.Names.{Name}
 use Rattle.app_machine.specs.Lookups.{class_named, above_within, directly_above}
 use Rattle.app_model.specs.Above.{is_listed_below, any_listed_below, has_below}
+use Rattle.vet_base.proofs.Lists.{drop_read}
 
 pub below_parts : (c : Class) (lists : Lists) (type : Name) → has_below c lists type ≡ (any_listed_below lists (option_to_list c.superclass) type || any_listed_below lists c.interfaces type)
 unfolding has_below any_listed_below
@@ -49,12 +50,6 @@ any_in_order app name c p steps superclass interfaces some there is are =
     ∙ (ap (λ xs. p c || (list_any p (flat_map (above_within (steps - 1) app.classes) xs) || list_any p (flat_map (above_within (steps - 1) app.classes) c.interfaces))) (sym (slice_of_option c.superclass superclass is))
     ∙ ap (λ xs. p c || (list_any p (flat_map (above_within (steps - 1) app.classes) superclass) || list_any p (flat_map (above_within (steps - 1) app.classes) xs))) (sym are))
 
-pub first_is_true : (a b : Bool) → a ≡ true → (a || b) ≡ true
-first_is_true a b holds = ap (λ x. x || b) holds
-
-pub first_is_false : (a b : Bool) → a ≡ false → (a || b) ≡ b
-first_is_false a b fails = ap (λ x. x || b) fails
-
 pub any_outside : (app : App) (name : Name) (p : Class → Bool) (steps : ℕ) → class_named app name ≡ None → list_any p (above_within steps app.classes name) ≡ false
 unfolding class_named
 any_outside app name p zero absent = refl
@@ -68,15 +63,12 @@ any_after_no_step classes name p (suc n) none = absurd (omega arith)
 pub record NoneOfFirst {A B : Type 0} (f : A → List B) (p : B → Bool) (xs : List A) (i : ℕ) : Type 0 where
   pub rest : list_any p (flat_map f xs) ≡ list_any p (flat_map f (drop i xs))
 
-dropped : {A : Type 0} (xs : List A) (i : ℕ) (x : A) → i < length xs → x ≡ get_or xs i x → drop i xs ≡ x ∷ drop (i + 1) xs
-dropped xs i x within is = drop-cons xs i x within ∙ (ap (λ y. y ∷ drop (suc i) xs) (sym is) ∙ ap (λ k. x ∷ drop k xs) (sym (add-one i)))
-
 module _ {A B : Type 0} (f : A → List B) (p : B → Bool) (xs : List A) where
   pub none_first : NoneOfFirst f p xs 0
   none_first = record { rest = refl }
 
   opened : (i : ℕ) (x : A) → i < length xs → x ≡ get_or xs i x → NoneOfFirst f p xs i → list_any p (flat_map f xs) ≡ (list_any p (f x) || list_any p (flat_map f (drop (i + 1) xs)))
-  opened i x within is none = none.rest ∙ (ap (λ ys. list_any p (flat_map f ys)) (dropped xs i x within is) ∙ list_any-append p (f x) (flat_map f (drop (i + 1) xs)))
+  opened i x within is none = none.rest ∙ (ap (λ ys. list_any p (flat_map f ys)) (drop_read xs i x within is) ∙ list_any-append p (f x) (flat_map f (drop (i + 1) xs)))
 
   pub none_more : (i : ℕ) (x : A) → i < length xs → x ≡ get_or xs i x → list_any p (f x) ≡ false → NoneOfFirst f p xs i → NoneOfFirst f p xs (i + 1)
   none_more i x within is fails none = record { rest = opened i x within is none ∙ ap (λ b. b || list_any p (flat_map f (drop (i + 1) xs))) fails }

@@ -10,12 +10,12 @@ use Rattle.app_machine.specs.Names.{Name}
 use Rattle.app_machine.specs.Lookups.{class_among, class_named, above_within, all_above, directly_above}
 use Rattle.app_machine.specs.Sound.{IsAbove}
 use Rattle.app_model.specs.Met.{Settled, IsNumbered, Adds}
-use Rattle.app_model.proofs.Elements.{in_front, in_back, in_either, in_flat, from_flat, passes_if, one_passes}
 use Rattle.std.proofs.lemmas.Option.{same_Some, slice_get_within, slice_get_read}
 use Rattle.std.specs.Option.{MatchOption}
 use Rattle.app_model.proofs.Above.{slice_of_option}
-use Rattle.app_model.proofs.Halving.{element_at}
 use Rattle.app_model.proofs.Reach.{within_all}
+use Rattle.vet_base.proofs.Members.{in_front, in_back, in_either, passes_if, one_passes, in_flat, from_flat}
+use Rattle.vet_base.proofs.Lists.{element_at}
 
 module _ (app : App) where
   pub settled_on : (seen new_seen : ℕ → Bool) → ((j : ℕ) → seen j ≡ true → new_seen j ≡ true) → (name : Name) → Settled app seen name → Settled app new_seen name
