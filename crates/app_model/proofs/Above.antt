@@ -4,6 +4,7 @@ use Rattle.std.specs.Prelude.{flat_map, option_to_list}
 use Rattle.std.specs.Option.{MatchOption}
 use Rattle.std.specs.List.{list_any}
 use Rattle.std.proofs.lemmas.List.{drop_all}
+use Rattle.std.proofs.lemmas.Grind.{flat_map-append}
 use Rattle.std.proofs.lemmas.List.Folds.{list_any-append}
 use Rattle.app_machine.specs.declared.app.App.{App}
 use Rattle.app_machine.specs.declared.app.Class.{Class}
@@ -18,14 +19,7 @@ unfolding has_below any_listed_below
 below_parts c lists type = list_any-append (λ class. is_listed_below lists class type) (option_to_list c.superclass) c.interfaces
 
 flat_append : {A B : Type 0} (f : A → List B) (p : B → Bool) (xs ys : List A) → list_any p (flat_map f (xs ++ ys)) ≡ (list_any p (flat_map f xs) || list_any p (flat_map f ys))
-flat_append f p [] ys = refl
-flat_append f p (x ∷ xs) ys =
-    list_any-append p (f x) (flat_map f (xs ++ ys)) ∙ (ap (λ b. list_any p (f x) || b) (flat_append f p xs ys)
-    ∙ (or_assoc (list_any p (f x)) (list_any p (flat_map f xs)) (list_any p (flat_map f ys)) ∙ ap (λ b. b || list_any p (flat_map f ys)) (sym (list_any-append p (f x) (flat_map f xs)))))
-  where
-    or_assoc : (a b c : Bool) → (a || (b || c)) ≡ ((a || b) || c)
-    or_assoc true b c = refl
-    or_assoc false b c = refl
+flat_append f p xs ys = ap (list_any p) (flat_map-append f xs ys) ∙ list_any-append p (flat_map f xs) (flat_map f ys)
 
 -- the classes above one that is there
 pub any_at : (app : App) (name : Name) (c : Class) (p : Class → Bool) (steps : ℕ) → steps ≢ 0 → class_named app name ≡ Some c →

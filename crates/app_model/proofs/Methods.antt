@@ -1,7 +1,7 @@
 -- The method of a class, name and descriptor, as halving over the methods finds it.
 use Rattle.std.proofs.Common.{◌≡◌, ℕ, ◌<◌, ◌≤◌, Bool, true, false, ◌&&◌, List, [], ◌∷◌, length, get_or, Some, None, Err, refl, ◌∙◌, ap, arith}
 use Rattle.std.specs.declared.cmp.Ordering.{Ordering}
-use Rattle.std.specs.declared.cmp.Ordering.TheVariants.{Less, Equal, Greater}
+use Rattle.std.specs.declared.cmp.Ordering.TheVariants.{Equal}
 use Rattle.std.specs.Ordering.{ordering_then}
 use Rattle.std.specs.Cmp.{IsTotalOrder, then_total, on_total}
 use Rattle.std.specs.List.Sorted.{IsBinarySearchResult}
@@ -18,19 +18,16 @@ use Rattle.vet_base.proofs.Lists.{element_at}
 use Rattle.vet_base.proofs.Halving.{found_at, found_none, found_nowhere}
 use Rattle.std.proofs.lemmas.Bool.{and_parts, and_right}
 use Rattle.vet_base.proofs.Bools.{and_three}
+use Rattle.vet_base.proofs.Orders.{both_equal, then_equal}
 
 pub triples_total : IsTotalOrder field_order
 triples_total = then_total (on_total (λ (t : Name × Name × Name). t.0) nat_list_cmp_total) (then_total (on_total (λ (t : Name × Name × Name). t.1) nat_list_cmp_total) (on_total (λ (t : Name × Name × Name). t.2) nat_list_cmp_total))
 
 pub all_tie : (o p q : Ordering) → o ≡ Equal → p ≡ Equal → q ≡ Equal → ordering_then o (ordering_then p q) ≡ Equal
-all_tie o p q a b c = rw (a, b, c)
+all_tie o p q a b c = then_equal o (ordering_then p q) a (then_equal p q b c)
 
 pub each_ties : (o p q : Ordering) → ordering_then o (ordering_then p q) ≡ Equal → (o ≡ Equal) × (p ≡ Equal) × (q ≡ Equal)
-each_ties Less p q e = absurd (cc)
-each_ties Equal Less q e = absurd (cc)
-each_ties Equal Equal q e = (refl, refl, e)
-each_ties Equal Greater q e = absurd (cc)
-each_ties Greater p q e = absurd (cc)
+each_ties o p q e = let first = both_equal o (ordering_then p q) e in let rest = both_equal p q first.1 in (first.0, rest.0, rest.1)
 
 -- prototypes that are the same have the same descriptor
 pub same_descriptor : (p q : Proto) → same_proto p q ≡ true → descriptor_of p ≡ descriptor_of q

@@ -20,7 +20,7 @@ pub use app_parts::{
 };
 pub use lookups::{
     CalledBack, ComponentEvent, InitialiserWalk, act_initialisers, below, body_named, callback,
-    click, component_initialisers, event_rows, events_are_exact, find_body, handed_callback,
-    instance_key, is_application, is_initialiser, library_key, life_event, next_initialiser,
-    step_at, summary_of, target,
+    class_of, click, component_initialisers, event_rows, events_are_exact, find_body,
+    handed_callback, instance_key, is_application, is_initialiser, library_key, life_event,
+    next_initialiser, step_at, summary_of, target,
 };

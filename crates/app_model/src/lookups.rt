@@ -16,6 +16,7 @@ mod targets;
 mod upward;
 
 pub use above::below;
+pub use classes::class_of;
 pub use events::{
     CalledBack, ComponentEvent, callback, click, events_are_exact, handed_callback, is_application,
     life_event,
