@@ -1,9 +1,10 @@
 -- What is asked of the classes above, as it is answered step by step.
-use Rattle.std.proofs.Common.{◌≡◌, ◌≢◌, ℕ, zero, suc, ◌+◌, ◌-◌, ◌<◌, ◌≤◌, Bool, true, false, ◌||◌, List, [], ◌∷◌, ◌++◌, length, get_or, drop, drop-cons, add-one, Option, Some, None, refl, sym, ◌∙◌, ap, arith}
+use Rattle.std.proofs.Common.{◌≡◌, ◌≢◌, ℕ, zero, suc, ◌+◌, ◌-◌, ◌<◌, ◌≤◌, Bool, true, false, ◌||◌, List, [], ◌∷◌, ◌++◌, length, get_or, drop, Option, Some, None, refl, sym, ◌∙◌, ap, arith}
 use Rattle.std.specs.Prelude.{flat_map, option_to_list}
 use Rattle.std.specs.Option.{MatchOption}
 use Rattle.std.specs.List.{list_any}
 use Rattle.std.proofs.lemmas.List.{drop_all}
+use Rattle.std.proofs.lemmas.Grind.{flat_map-append}
 use Rattle.std.proofs.lemmas.List.Folds.{list_any-append}
 use Rattle.app_machine.specs.declared.app.App.{App}
 use Rattle.app_machine.specs.declared.app.Class.{Class}
@@ -11,20 +12,14 @@ use Rattle.app_machine.specs.declared.lists.Lists.{Lists}
 use Rattle.app_machine.specs.Names.{Name}
 use Rattle.app_machine.specs.Lookups.{class_named, above_within, directly_above}
 use Rattle.app_model.specs.Above.{is_listed_below, any_listed_below, has_below}
+use Rattle.vet_base.proofs.Lists.{drop_read}
 
 pub below_parts : (c : Class) (lists : Lists) (type : Name) → has_below c lists type ≡ (any_listed_below lists (option_to_list c.superclass) type || any_listed_below lists c.interfaces type)
 unfolding has_below any_listed_below
 below_parts c lists type = list_any-append (λ class. is_listed_below lists class type) (option_to_list c.superclass) c.interfaces
 
 flat_append : {A B : Type 0} (f : A → List B) (p : B → Bool) (xs ys : List A) → list_any p (flat_map f (xs ++ ys)) ≡ (list_any p (flat_map f xs) || list_any p (flat_map f ys))
-flat_append f p [] ys = refl
-flat_append f p (x ∷ xs) ys =
-    list_any-append p (f x) (flat_map f (xs ++ ys)) ∙ (ap (λ b. list_any p (f x) || b) (flat_append f p xs ys)
-    ∙ (or_assoc (list_any p (f x)) (list_any p (flat_map f xs)) (list_any p (flat_map f ys)) ∙ ap (λ b. b || list_any p (flat_map f ys)) (sym (list_any-append p (f x) (flat_map f xs)))))
-  where
-    or_assoc : (a b c : Bool) → (a || (b || c)) ≡ ((a || b) || c)
-    or_assoc true b c = refl
-    or_assoc false b c = refl
+flat_append f p xs ys = ap (list_any p) (flat_map-append f xs ys) ∙ list_any-append p (flat_map f xs) (flat_map f ys)
 
 -- the classes above one that is there
 pub any_at : (app : App) (name : Name) (c : Class) (p : Class → Bool) (steps : ℕ) → steps ≢ 0 → class_named app name ≡ Some c →
@@ -49,12 +44,6 @@ any_in_order app name c p steps superclass interfaces some there is are =
     ∙ (ap (λ xs. p c || (list_any p (flat_map (above_within (steps - 1) app.classes) xs) || list_any p (flat_map (above_within (steps - 1) app.classes) c.interfaces))) (sym (slice_of_option c.superclass superclass is))
     ∙ ap (λ xs. p c || (list_any p (flat_map (above_within (steps - 1) app.classes) superclass) || list_any p (flat_map (above_within (steps - 1) app.classes) xs))) (sym are))
 
-pub first_is_true : (a b : Bool) → a ≡ true → (a || b) ≡ true
-first_is_true a b holds = ap (λ x. x || b) holds
-
-pub first_is_false : (a b : Bool) → a ≡ false → (a || b) ≡ b
-first_is_false a b fails = ap (λ x. x || b) fails
-
 pub any_outside : (app : App) (name : Name) (p : Class → Bool) (steps : ℕ) → class_named app name ≡ None → list_any p (above_within steps app.classes name) ≡ false
 unfolding class_named
 any_outside app name p zero absent = refl
@@ -68,15 +57,12 @@ any_after_no_step classes name p (suc n) none = absurd (omega arith)
 pub record NoneOfFirst {A B : Type 0} (f : A → List B) (p : B → Bool) (xs : List A) (i : ℕ) : Type 0 where
   pub rest : list_any p (flat_map f xs) ≡ list_any p (flat_map f (drop i xs))
 
-dropped : {A : Type 0} (xs : List A) (i : ℕ) (x : A) → i < length xs → x ≡ get_or xs i x → drop i xs ≡ x ∷ drop (i + 1) xs
-dropped xs i x within is = drop-cons xs i x within ∙ (ap (λ y. y ∷ drop (suc i) xs) (sym is) ∙ ap (λ k. x ∷ drop k xs) (sym (add-one i)))
-
 module _ {A B : Type 0} (f : A → List B) (p : B → Bool) (xs : List A) where
   pub none_first : NoneOfFirst f p xs 0
   none_first = record { rest = refl }
 
   opened : (i : ℕ) (x : A) → i < length xs → x ≡ get_or xs i x → NoneOfFirst f p xs i → list_any p (flat_map f xs) ≡ (list_any p (f x) || list_any p (flat_map f (drop (i + 1) xs)))
-  opened i x within is none = none.rest ∙ (ap (λ ys. list_any p (flat_map f ys)) (dropped xs i x within is) ∙ list_any-append p (f x) (flat_map f (drop (i + 1) xs)))
+  opened i x within is none = none.rest ∙ (ap (λ ys. list_any p (flat_map f ys)) (drop_read xs i x within is) ∙ list_any-append p (f x) (flat_map f (drop (i + 1) xs)))
 
   pub none_more : (i : ℕ) (x : A) → i < length xs → x ≡ get_or xs i x → list_any p (f x) ≡ false → NoneOfFirst f p xs i → NoneOfFirst f p xs (i + 1)
   none_more i x within is fails none = record { rest = opened i x within is none ∙ ap (λ b. b || list_any p (flat_map f (drop (i + 1) xs))) fails }

@@ -12,14 +12,15 @@ use Rattle.app_machine.specs.Summaries.{listed_above, Below}
 use Rattle.app_machine.specs.Summaries.Below.{is_same, is_object, is_through, is_listed}
 use Rattle.app_machine.specs.Sound.{IsAbove}
 use Rattle.app_model.specs.Above.{is_among, is_listed_below, any_listed_below, has_below, is_below}
-use Rattle.app_model.proofs.NameOrder.{same_equal, same_itself}
-use Rattle.app_model.proofs.Elements.{either, first_holds, or_second, in_flat, from_flat, passes_if, one_passes}
 use Rattle.app_model.proofs.Reach.{within_all}
+use Rattle.std.proofs.lemmas.Bool.{or_cases, or_left, or_right}
+use Rattle.vet_base.proofs.Members.{passes_if, one_passes, in_flat, from_flat}
+use Rattle.vet_base.proofs.Texts.{same_equal, same_itself}
 
 module _ (app : App) (lists : Lists) (type : Name) where
   listed_so : (class : Name) → is_listed_below lists class type ≡ true → Below app lists class type
   unfolding is_listed_below is_among
-  listed_so class holds = elim (either (same_name class type) (is_among (listed_above lists class) type) holds) [
+  listed_so class holds = elim (or_cases (same_name class type) (is_among (listed_above lists class) type) holds) [
     | inl same ↦ subst (λ x. Below app lists class x) (same_equal class type same) is_same
     | inr among ↦ let one = one_passes (λ other. same_name other type) (listed_above lists class) among in is_listed (subst (λ x. In x (listed_above lists class)) (same_equal one.0 type one.2) one.1)
   ]
@@ -45,9 +46,9 @@ module _ (app : App) (lists : Lists) (type : Name) where
 
   pub below_if : (class : Name) → is_below app lists class type ≡ true → Below app lists class type
   unfolding is_below all_above
-  below_if class holds = elim (either (same_name type object_class) (is_listed_below lists class type || list_any (λ (c : Class). has_below c lists type) (all_above app class)) holds) [
+  below_if class holds = elim (or_cases (same_name type object_class) (is_listed_below lists class type || list_any (λ (c : Class). has_below c lists type) (all_above app class)) holds) [
     | inl object ↦ is_object (same_equal type object_class object)
-    | inr rest ↦ elim (either (is_listed_below lists class type) (list_any (λ (c : Class). has_below c lists type) (all_above app class)) rest) [
+    | inr rest ↦ elim (or_cases (is_listed_below lists class type) (list_any (λ (c : Class). has_below c lists type) (all_above app class)) rest) [
       | inl here ↦ listed_so class here
       | inr up ↦ let one = one_passes (λ (c : Class). has_below c lists type) (all_above app class) up in way_so (length app.classes) class one.0 one.1 one.2
     ]
@@ -57,12 +58,12 @@ module _ (app : App) (lists : Lists) (type : Name) where
   module _ (no_circle : (class : Name) → IsAbove app class class → ⊥) where
     answer_here : (class : Name) → is_listed_below lists class type ≡ true → is_below app lists class type ≡ true
     unfolding is_below
-    answer_here class holds = or_second (same_name type object_class) (is_listed_below lists class type || list_any (λ (c : Class). has_below c lists type) (all_above app class)) (first_holds (is_listed_below lists class type) (list_any (λ (c : Class). has_below c lists type) (all_above app class)) holds)
+    answer_here class holds = or_right (same_name type object_class) (is_listed_below lists class type || list_any (λ (c : Class). has_below c lists type) (all_above app class)) (or_left (is_listed_below lists class type) (list_any (λ (c : Class). has_below c lists type) (all_above app class)) holds)
 
     answer_above : (class : Name) (c : Class) → In c (all_above app class) → has_below c lists type ≡ true → is_below app lists class type ≡ true
     unfolding is_below
-    answer_above class c at holds = or_second (same_name type object_class) (is_listed_below lists class type || list_any (λ (c : Class). has_below c lists type) (all_above app class))
-        (or_second (is_listed_below lists class type) (list_any (λ (c : Class). has_below c lists type) (all_above app class)) (passes_if (λ (c : Class). has_below c lists type) (all_above app class) c at holds))
+    answer_above class c at holds = or_right (same_name type object_class) (is_listed_below lists class type || list_any (λ (c : Class). has_below c lists type) (all_above app class))
+        (or_right (is_listed_below lists class type) (list_any (λ (c : Class). has_below c lists type) (all_above app class)) (passes_if (λ (c : Class). has_below c lists type) (all_above app class) c at holds))
 
     -- a class that is met one step further up is met
     met : (n : ℕ) (class above : Name) (c d : Class) → class_named app class ≡ Some d → In above (directly_above d) → In c (above_within n app.classes above) → In c (all_above app class)
@@ -78,9 +79,9 @@ module _ (app : App) (lists : Lists) (type : Name) where
 
     one_further : (class above : Name) (d : Class) → class_named app class ≡ Some d → In above (directly_above d) → is_below app lists above type ≡ true → is_below app lists class type ≡ true
     unfolding is_below all_above has_below any_listed_below
-    one_further class above d there up holds = elim (either (same_name type object_class) (is_listed_below lists above type || list_any (λ (c : Class). has_below c lists type) (all_above app above)) holds) [
-      | inl object ↦ first_holds (same_name type object_class) (is_listed_below lists class type || list_any (λ (c : Class). has_below c lists type) (all_above app class)) object
-      | inr rest ↦ elim (either (is_listed_below lists above type) (list_any (λ (c : Class). has_below c lists type) (all_above app above)) rest) [
+    one_further class above d there up holds = elim (or_cases (same_name type object_class) (is_listed_below lists above type || list_any (λ (c : Class). has_below c lists type) (all_above app above)) holds) [
+      | inl object ↦ or_left (same_name type object_class) (is_listed_below lists class type || list_any (λ (c : Class). has_below c lists type) (all_above app class)) object
+      | inr rest ↦ elim (or_cases (is_listed_below lists above type) (list_any (λ (c : Class). has_below c lists type) (all_above app above)) rest) [
         | inl here ↦ answer_above class d (met_itself class d there) (passes_if (λ a. is_listed_below lists a type) (directly_above d) above up here)
         | inr higher ↦ let one = one_passes (λ (c : Class). has_below c lists type) (all_above app above) higher in answer_above class one.0 (met (length app.classes) class above one.0 d there up one.1) one.2
       ]
@@ -88,10 +89,10 @@ module _ (app : App) (lists : Lists) (type : Name) where
 
     pub below_only_if : (class : Name) → Below app lists class type → is_below app lists class type ≡ true
     unfolding is_below is_listed_below is_among
-    below_only_if class is_same = answer_here class (first_holds (same_name class class) (is_among (listed_above lists class) class) (same_itself class))
-    below_only_if class (is_object object) = first_holds (same_name type object_class) (is_listed_below lists class type || list_any (λ (c : Class). has_below c lists type) (all_above app class)) (ap (λ x. same_name x object_class) object ∙ same_itself object_class)
+    below_only_if class is_same = answer_here class (or_left (same_name class class) (is_among (listed_above lists class) class) (same_itself class))
+    below_only_if class (is_object object) = or_left (same_name type object_class) (is_listed_below lists class type || list_any (λ (c : Class). has_below c lists type) (all_above app class)) (ap (λ x. same_name x object_class) object ∙ same_itself object_class)
     below_only_if class (is_through {above} d there up rest) = one_further class above d there up (below_only_if above rest)
-    below_only_if class (is_listed among) = answer_here class (or_second (same_name class type) (is_among (listed_above lists class) type) (passes_if (λ other. same_name other type) (listed_above lists class) type among (same_itself type)))
+    below_only_if class (is_listed among) = answer_here class (or_right (same_name class type) (is_among (listed_above lists class) type) (passes_if (λ other. same_name other type) (listed_above lists class) type among (same_itself type)))
 
     pub below_exactly : (class : Name) (result : Bool) → result ≡ is_below app lists class type → IsTrue result ↔ Below app lists class type
     below_exactly class result is = (λ holds. below_if class (sym is ∙ holds), λ below. is ∙ below_only_if class below)

@@ -10,8 +10,9 @@ use Rattle.vet_base.specs.Ascending.{Ascends}
 use Rattle.app_machine.specs.Sound.{class_order, name_order}
 use Rattle.std.specs.Prelude.{slice_get}
 use Rattle.std.proofs.lemmas.Option.{slice_get_read}
-use Rattle.app_model.proofs.Halving.{element_at, found_at, found_nowhere}
-use Rattle.app_model.proofs.NameOrder.{same_tie, tied_same}
+use Rattle.vet_base.proofs.Texts.{same_tie, tied_same}
+use Rattle.vet_base.proofs.Lists.{element_at}
+use Rattle.vet_base.proofs.Halving.{found_at, found_nowhere}
 
 module _ (classes : List Class) (sorted : Ascends class_order classes) (name : Name) (i : ℕ) where
   pub class_there : (x : Class) → i < length classes → x ≡ get_or classes i x → name_order (get_or classes i x).name name ≡ Equal → class_among classes name ≡ Some x

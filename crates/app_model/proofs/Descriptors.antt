@@ -10,12 +10,8 @@ use Rattle.app_machine.specs.declared.call.Proto.{Proto}
 use Rattle.app_machine.specs.Names.{Name, joined, descriptor_of}
 use Rattle.app_machine.specs.Sound.{name_order}
 use Rattle.app_model.specs.DescriptorText.{BeginAlike, Differ}
-use Rattle.app_model.proofs.NameOrder.{same_equal, tied_same}
-
-then_assoc : (o p q : Ordering) → ordering_then o (ordering_then p q) ≡ ordering_then (ordering_then o p) q
-then_assoc Less p q = refl
-then_assoc Equal p q = refl
-then_assoc Greater p q = refl
+use Rattle.vet_base.proofs.Texts.{tied_same, same_equal}
+use Rattle.vet_base.proofs.Orders.{then_assoc, first_decides}
 
 -- fronts of one length decide first
 pub fronts_first : (a b x y : Name) → length a ≡ length b → name_order (a ++ x) (b ++ y) ≡ ordering_then (name_order a b) (name_order x y)
@@ -56,11 +52,6 @@ alike_taken n a b ties = record {
   first = sym (take-append-drop n a);
   second = sym (take-append-drop n b) ∙ ap (λ z. z ++ drop n b) (sym (same_equal (take n a) (take n b) (tied_same (take n a) (take n b) ties)));
 }
-
-first_decides : (o p : Ordering) → o ≢ Equal → ordering_then o p ≡ o
-first_decides Less p apart = refl
-first_decides Equal p apart = absurd (apart refl)
-first_decides Greater p apart = refl
 
 -- the texts differ in the first so many bytes
 pub differ_taken : (n : ℕ) (a b : Name) → n ≤ length a → n ≤ length b → name_order (take n a) (take n b) ≢ Equal → Differ a b (name_order (take n a) (take n b))

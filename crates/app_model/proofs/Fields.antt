@@ -14,9 +14,11 @@ use Rattle.vet_base.specs.Ascending.{Ascends}
 use Rattle.app_machine.specs.Sound.{AreKeys, field_order, name_order}
 use Rattle.app_model.specs.Search.{field_key}
 use Rattle.app_model.specs.Upward.{field_of}
-use Rattle.app_model.proofs.Halving.{element_at, found_at, found_nowhere}
-use Rattle.app_model.proofs.NameOrder.{same_tie, tied_same}
-use Rattle.app_model.proofs.Methods.{triples_total, all_tie, each_ties, three_parts}
+use Rattle.app_model.proofs.Methods.{triples_total, all_tie, each_ties}
+use Rattle.vet_base.proofs.Texts.{same_tie, tied_same}
+use Rattle.vet_base.proofs.Lists.{element_at}
+use Rattle.vet_base.proofs.Halving.{found_at, found_nowhere}
+use Rattle.vet_base.proofs.Bools.{and_three}
 
 abbrev as_key : Name × Name × Name → Key
 as_key f = Field f.0 f.1 f.2
@@ -35,7 +37,7 @@ module _ (class name kind : Name) where
   field_ties : (k : Key) → is_field k class name kind ≡ true → field_order (field_key k) (class, name, kind) ≡ Equal
   field_ties Elem passes = absurd (cc)
   field_ties (Field c n t) passes =
-      let parts = three_parts (same_name c class) (same_name n name) (same_name t kind) passes in
+      let parts = and_three (same_name c class) (same_name n name) (same_name t kind) passes in
       all_tie (name_order c class) (name_order n name) (name_order t kind) (same_tie c class parts.0) (same_tie n name parts.1) (same_tie t kind parts.2)
 
   tied_field : (f : Name × Name × Name) → field_order f (class, name, kind) ≡ Equal → is_field (as_key f) class name kind ≡ true

@@ -2,13 +2,13 @@ pub mod Above
 pub mod BelowRelation
 pub mod Classes
 pub mod Descriptors
+pub mod Events
 pub mod Fields
-pub mod Elements
 pub mod First
-pub mod Halving
+pub mod Initialising
 pub mod Marked
 pub mod Searches
 pub mod Methods
-pub mod NameOrder
 pub mod Reach
+pub mod Steps
 pub mod Upward

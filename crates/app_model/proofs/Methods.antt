@@ -1,7 +1,7 @@
 -- The method of a class, name and descriptor, as halving over the methods finds it.
-use Rattle.std.proofs.Common.{◌≡◌, ℕ, ◌<◌, ◌≤◌, Bool, true, false, ◌&&◌, List, length, get_or, Some, None, Err, refl, ◌∙◌, ap}
+use Rattle.std.proofs.Common.{◌≡◌, ℕ, ◌<◌, ◌≤◌, Bool, true, false, ◌&&◌, List, [], ◌∷◌, length, get_or, Some, None, Err, refl, ◌∙◌, ap, arith}
 use Rattle.std.specs.declared.cmp.Ordering.{Ordering}
-use Rattle.std.specs.declared.cmp.Ordering.TheVariants.{Less, Equal, Greater}
+use Rattle.std.specs.declared.cmp.Ordering.TheVariants.{Equal}
 use Rattle.std.specs.Ordering.{ordering_then}
 use Rattle.std.specs.Cmp.{IsTotalOrder, then_total, on_total}
 use Rattle.std.specs.List.Sorted.{IsBinarySearchResult}
@@ -13,42 +13,28 @@ use Rattle.app_machine.specs.Names.{Name, same_name, same_names, same_proto, des
 use Rattle.vet_base.specs.Ascending.{Ascends}
 use Rattle.app_machine.specs.Sound.{method_order, field_order, name_order}
 use Rattle.app_model.specs.Search.{method_key}
-use Rattle.app_model.proofs.Halving.{element_at, found_at, found_none, found_nowhere}
-use Rattle.app_model.proofs.NameOrder.{same_tie, tied_same, same_equal, names_equal}
+use Rattle.vet_base.proofs.Texts.{same_tie, tied_same, same_equal, all_equal}
+use Rattle.vet_base.proofs.Lists.{element_at}
+use Rattle.vet_base.proofs.Halving.{found_at, found_none, found_nowhere}
+use Rattle.std.proofs.lemmas.Bool.{and_parts, and_right}
+use Rattle.vet_base.proofs.Bools.{and_three}
+use Rattle.vet_base.proofs.Orders.{both_equal, then_equal}
 
 pub triples_total : IsTotalOrder field_order
 triples_total = then_total (on_total (λ (t : Name × Name × Name). t.0) nat_list_cmp_total) (then_total (on_total (λ (t : Name × Name × Name). t.1) nat_list_cmp_total) (on_total (λ (t : Name × Name × Name). t.2) nat_list_cmp_total))
 
 pub all_tie : (o p q : Ordering) → o ≡ Equal → p ≡ Equal → q ≡ Equal → ordering_then o (ordering_then p q) ≡ Equal
-all_tie o p q a b c = rw (a, b, c)
+all_tie o p q a b c = then_equal o (ordering_then p q) a (then_equal p q b c)
 
 pub each_ties : (o p q : Ordering) → ordering_then o (ordering_then p q) ≡ Equal → (o ≡ Equal) × (p ≡ Equal) × (q ≡ Equal)
-each_ties Less p q e = absurd (cc)
-each_ties Equal Less q e = absurd (cc)
-each_ties Equal Equal q e = (refl, refl, e)
-each_ties Equal Greater q e = absurd (cc)
-each_ties Greater p q e = absurd (cc)
-
-pub both_parts : (a b : Bool) → (a && b) ≡ true → (a ≡ true) × (b ≡ true)
-both_parts true b e = (refl, e)
-both_parts false b e = absurd (cc)
-
-pub three_parts : (a b c : Bool) → (a && b && c) ≡ true → (a ≡ true) × (b ≡ true) × (c ≡ true)
-three_parts true true c e = (refl, refl, e)
-three_parts true false c e = absurd (cc)
-three_parts false b c e = absurd (cc)
-
-last_fails : (a b c : Bool) → c ≡ false → (a && b && c) ≡ false
-last_fails true true c e = e
-last_fails true false c e = refl
-last_fails false b c e = refl
+each_ties o p q e = let first = both_equal o (ordering_then p q) e in let rest = both_equal p q first.1 in (first.0, rest.0, rest.1)
 
 -- prototypes that are the same have the same descriptor
 pub same_descriptor : (p q : Proto) → same_proto p q ≡ true → descriptor_of p ≡ descriptor_of q
 unfolding descriptor_of
 same_descriptor p q same =
-    let parts = both_parts (same_names p.params q.params) (same_name p.ret q.ret) same in
-    rw (names_equal p.params q.params parts.0, same_equal p.ret q.ret parts.1)
+    let parts = and_parts (same_names p.params q.params) (same_name p.ret q.ret) same in
+    rw (all_equal p.params q.params parts.0, same_equal p.ret q.ret parts.1)
 
 module _ (class name : Name) where
   -- the tests of the definitions
@@ -60,13 +46,13 @@ module _ (class name : Name) where
 
   by_proto_ties : (proto : Proto) (m : Method) → by_proto proto m ≡ true → field_order (method_key m) (class, name, descriptor_of proto) ≡ Equal
   by_proto_ties proto m passes =
-      let parts = three_parts (same_name m.at.class class) (same_name m.at.name name) (same_proto m.at.proto proto) passes in
+      let parts = and_three (same_name m.at.class class) (same_name m.at.name name) (same_proto m.at.proto proto) passes in
       all_tie (name_order m.at.class class) (name_order m.at.name name) (name_order (descriptor_of m.at.proto) (descriptor_of proto))
       (same_tie m.at.class class parts.0) (same_tie m.at.name name parts.1) (rw (same_descriptor m.at.proto proto parts.2) (tied_itself nat_list_cmp_total (descriptor_of proto)))
 
   by_text_ties : (descriptor : Name) (m : Method) → by_text descriptor m ≡ true → field_order (method_key m) (class, name, descriptor) ≡ Equal
   by_text_ties descriptor m passes =
-      let parts = three_parts (same_name m.at.class class) (same_name m.at.name name) (same_name (descriptor_of m.at.proto) descriptor) passes in
+      let parts = and_three (same_name m.at.class class) (same_name m.at.name name) (same_name (descriptor_of m.at.proto) descriptor) passes in
       all_tie (name_order m.at.class class) (name_order m.at.name name) (name_order (descriptor_of m.at.proto) descriptor)
       (same_tie m.at.class class parts.0) (same_tie m.at.name name parts.1) (same_tie (descriptor_of m.at.proto) descriptor parts.2)
 
@@ -81,7 +67,7 @@ module _ (class name : Name) where
       rw (tied_same m.at.class class each.0, tied_same m.at.name name each.1, tied_same (descriptor_of m.at.proto) descriptor each.2)
 
   fails_by_proto : (proto : Proto) (m : Method) → same_proto m.at.proto proto ≡ false → by_proto proto m ≡ false
-  fails_by_proto proto m differs = last_fails (same_name m.at.class class) (same_name m.at.name name) (same_proto m.at.proto proto) differs
+  fails_by_proto proto m differs = and_right ((same_name m.at.class class) && (same_name m.at.name name)) (same_proto m.at.proto proto) differs
 
   module _ (methods : List Method) (sorted : Ascends method_order methods) (i : ℕ) where
     pub method_there : (proto : Proto) (m : Method) → i < length methods → m ≡ get_or methods i m → field_order (method_key (get_or methods i m)) (class, name, descriptor_of proto) ≡ Equal → same_proto m.at.proto proto ≡ true →
@@ -106,3 +92,12 @@ module _ (class name : Name) where
 
     pub text_missing : (descriptor : Name) → i ≤ length methods → IsBinarySearchResult (λ (m : Method). field_order (method_key m) (class, name, descriptor)) methods (Err i) → first_index (by_text descriptor) methods ≡ None
     text_missing descriptor within parted = (found_nowhere method_key triples_total methods sorted (class, name, descriptor) (by_text descriptor) (by_text_ties descriptor) i within parted).0
+
+-- whether there are no names
+pub no_names : (names : List Name) → length names ≡ 0 → same_names names [] ≡ true
+no_names [] none = refl
+no_names (n ∷ names) none = absurd (omega arith)
+
+pub some_names : (names : List Name) → 0 < length names → same_names names [] ≡ false
+some_names [] some = absurd (omega arith)
+some_names (n ∷ names) some = refl

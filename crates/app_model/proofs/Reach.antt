@@ -9,8 +9,9 @@ use Rattle.app_machine.specs.Names.{Name, same_name}
 use Rattle.app_machine.specs.Lookups.{class_among, above_within, all_above, directly_above}
 use Rattle.app_machine.specs.Sound.{IsAbove}
 use Rattle.app_machine.specs.Sound.IsAbove.{directly, beyond}
-use Rattle.app_model.proofs.NameOrder.{same_equal}
-use Rattle.app_model.proofs.Elements.{in_flat, from_flat, in_map, Apart, no_more}
+use Rattle.vet_base.proofs.Members.{in_flat, from_flat, in_map}
+use Rattle.vet_base.proofs.Apart.{Apart, no_more}
+use Rattle.vet_base.proofs.Texts.{same_equal}
 
 first_or : (b : Bool) (d : Class) (rest : Option Class) (c : Class) → (if b then Some d else rest) ≡ Some c → ((b ≡ true) × (d ≡ c)) ⊎ (rest ≡ Some c)
 first_or true d rest c is = inl (refl, cc)

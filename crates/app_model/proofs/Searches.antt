@@ -2,7 +2,7 @@
 use Rattle.std.proofs.Common.{◌≡◌, ℕ, zero, suc, ◌+◌, ◌<◌, ◌≤◌, Bool, true, false, ◌||◌, List, [], ◌∷◌, ◌++◌, length, get_or, Option, Some, None, refl, sym, ◌∙◌, ap, subst, inl, inr, arith, eq-eqb}
 use Rattle.std.specs.Prelude.{◌==◌, ◌&&◌, not, slice_get, flat_map, option_to_list}
 use Rattle.std.specs.List.{list_any}
-use Rattle.std.proofs.lemmas.Bool.{cases_eq, ne_eqb}
+use Rattle.std.proofs.lemmas.Bool.{and_parts, cases_eq, ne_eqb, or_right}
 use Rattle.app_machine.specs.declared.app.App.{App}
 use Rattle.app_machine.specs.declared.app.Class.{Class}
 use Rattle.vet_base.specs.Members.{In}
@@ -10,12 +10,12 @@ use Rattle.app_machine.specs.Names.{Name}
 use Rattle.app_machine.specs.Lookups.{class_among, class_named, above_within, all_above, directly_above}
 use Rattle.app_machine.specs.Sound.{IsAbove}
 use Rattle.app_model.specs.Met.{Settled, IsNumbered, Adds}
-use Rattle.app_model.proofs.Elements.{in_front, in_back, in_either, in_flat, from_flat, passes_if, one_passes}
 use Rattle.std.proofs.lemmas.Option.{same_Some, slice_get_within, slice_get_read}
 use Rattle.std.specs.Option.{MatchOption}
 use Rattle.app_model.proofs.Above.{slice_of_option}
-use Rattle.app_model.proofs.Halving.{element_at}
 use Rattle.app_model.proofs.Reach.{within_all}
+use Rattle.vet_base.proofs.Members.{in_front, in_back, in_either, passes_if, one_passes, in_flat, from_flat}
+use Rattle.vet_base.proofs.Lists.{element_at}
 
 module _ (app : App) where
   pub settled_on : (seen new_seen : ℕ → Bool) → ((j : ℕ) → seen j ≡ true → new_seen j ≡ true) → (name : Name) → Settled app seen name → Settled app new_seen name
@@ -76,7 +76,7 @@ module _ (app : App) where
   pub adds_new : (name : Name) (i : ℕ) (c : Class) (seen waiting new_seen new_waiting : ℕ → Bool) → slice_get app.classes i ≡ Some c → class_named app name ≡ Some c → seen i ≡ false →
       ((j : ℕ) → new_seen j ≡ ((j == i) || seen j)) → ((j : ℕ) → new_waiting j ≡ ((j == i) || waiting j)) → Adds app (name ∷ []) seen waiting new_seen new_waiting
   adds_new name i c seen waiting new_seen new_waiting at_i there unseen sees awaits = record {
-    kept = λ j at. sees j ∙ second (j == i) (seen j) at;
+    kept = λ j at. sees j ∙ or_right (j == i) (seen j) at;
     settled = settles_one name i new_seen (at_i ∙ sym there) (sees i ∙ ap (λ b. b || seen i) (eq-eqb i i refl));
     comes = λ j at. elim (cases_eq j i) [
       | inl same ↦ inr (record { name = name; class = c; is_one = inl refl; there = there; at = ap (λ k. slice_get app.classes k) same ∙ at_i })
@@ -91,10 +91,6 @@ module _ (app : App) where
       | inr other ↦ (sym (ap (λ b. b || seen j) (ne_eqb j i other)) ∙ (sym (sees j) ∙ at), sym (ap (λ b. b || waiting j) (ne_eqb j i other)) ∙ (sym (awaits j) ∙ free))
     ];
   }
-    where
-      second : (a b : Bool) → b ≡ true → (a || b) ≡ true
-      second true b holds = refl
-      second false b holds = holds
 
 -- one step further at the far end
 further : (app : App) (n : ℕ) (name a : Name) (c d : Class) → In c (above_within n app.classes name) → In a (directly_above c) → class_among app.classes a ≡ Some d → In d (above_within (suc n) app.classes name)
@@ -194,7 +190,7 @@ module _ (app : App) (p : Class → Bool) (name : Name) where
       search_goes_on fails left s2 w2 leaves adds = record {
         start = settled_on app seen s2 adds.kept name search.start;
         met = λ j at. elim (adds.comes j at) [ inl old ↦ search.met j old | inr is ↦ record { class = is.class; at = is.at; steps = suc c_met.0; met = further app c_met.0 name is.name c is.class c_met.1 is.is_one is.there } ];
-        waits = λ j at. elim (adds.waits j at) [ inl old ↦ adds.kept j (search.waits j (second (not (j == i)) (waiting j) (sym (leaves j) ∙ old))) | inr new ↦ new.1 ];
+        waits = λ j at. elim (adds.waits j at) [ inl old ↦ adds.kept j (search.waits j ((and_parts (not (j == i)) (waiting j) (sym (leaves j) ∙ old)).1)) | inr new ↦ new.1 ];
         done = λ j d at seen_j free. let old = adds.rest j seen_j free in elim (cases_eq j i) [
           | inl same ↦ let is_c : c ≡ d = same_Some c d (sym at_i ∙ (ap (λ k. slice_get app.classes k) (sym same) ∙ at)) in
               (ap p (sym is_c) ∙ fails, λ a up. adds.settled a (subst (λ (x : Class). In a (directly_above x)) (sym is_c) up))
@@ -204,10 +200,6 @@ module _ (app : App) (p : Class → Bool) (name : Name) where
               (before.0, λ a up. settled_on app seen s2 adds.kept a (before.1 a up))
         ];
       }
-        where
-          second : (a b : Bool) → (a && b) ≡ true → b ≡ true
-          second true b holds = holds
-          second false b holds = absurd (cc)
 
 -- the same with the two lists of names as they are read
 pub goes_on_by : (app : App) (p : Class → Bool) (name : Name) (seen waiting : ℕ → Bool) → Searched app p name seen waiting → ((class : Name) → IsAbove app class class → ⊥) →

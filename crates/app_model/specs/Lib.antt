@@ -1,6 +1,9 @@
 pub mod Above
 pub mod DescriptorText
+pub mod EventBodies
+pub mod EventLaws
 pub mod EventTable
+pub mod Initialisers
 pub mod LibraryWalk
 pub mod Marks
 pub mod Met

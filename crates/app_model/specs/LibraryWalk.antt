@@ -1,16 +1,13 @@
 -- Words for the search for a row or a default on the walk of a class.
 use Rattle.std.specs.Prelude.{ℕ, Bool, ◌&&◌, Option}
 use Rattle.app_machine.specs.declared.call.Proto.{Proto}
-use Rattle.app_machine.specs.declared.call.MethodRef.{MethodRef}
 use Rattle.app_machine.specs.declared.summary.Summary.{Summary}
 use Rattle.app_machine.specs.declared.lists.Lists.{Lists}
 use Rattle.app_model.specs.declared.lookups.library.Wanted.{Wanted}
 use Rattle.app_model.specs.declared.lookups.library.Wanted.TheVariants as wanted
-use Rattle.app_model.specs.declared.lookups.library.SummaryView.{SummaryView}
-use Rattle.app_model.specs.declared.lookups.library.SummaryView.TheVariants as view
 use Rattle.vet_base.specs.Members.{first_given}
 use Rattle.app_machine.specs.Names.{Name, same_name, same_proto}
-use Rattle.app_machine.specs.Summaries.{row_of, default_of, listed_above, default_summary, same_word}
+use Rattle.app_machine.specs.Summaries.{row_of, default_of, listed_above, same_word}
 
 -- what is found at a class itself
 abbrev pub found : Lists → Wanted → Name → Option ℕ
@@ -24,8 +21,3 @@ found_above lists wanted class = first_given (found lists wanted) (listed_above 
 -- whether the row is of the method
 unfoldable pub is_row : Summary → Name → Name → Proto → Bool → Bool
 is_row s class name proto is_static = same_name s.class class && same_name s.name name && same_proto s.proto proto && same_word s.is_static is_static
-
--- what the lists say of a call of the method, a default written out
-abbrev pub shown_summary : SummaryView → MethodRef → Bool → Summary
-shown_summary (view.Row row) at is_static = row.now
-shown_summary (view.Default word) at is_static = default_summary word at is_static

@@ -2,6 +2,7 @@
 use Rattle.std.proofs.Common.{◌≡◌, ◌≢◌, ◌==◌, ◌↔◌, ◌⊎◌, inl, inr, ℕ, zero, suc, ◌+◌, ◌<◌, ◌≤◌, Bool, true, false, ◌||◌, List, [], ◌∷◌, map, length, Some, slice_get, nat_le, not, refl, sym, ap, ◌∙◌, arith, eq-eqb, ne_eqb}
 use Rattle.std.specs.Prelude.{IsTrue}
 use Rattle.std.specs.List.{list_any}
+use Rattle.vet_base.proofs.Lists.{list_any-map}
 use Rattle.std.proofs.lemmas.Bool.{cases_lt, or_left, or_right, le-leb, lt-leb}
 use Rattle.app_machine.specs.declared.call.Proto.{Proto}
 use Rattle.app_machine.specs.declared.lists.FallbackWord.{FallbackWord}
@@ -41,10 +42,6 @@ joined_by_default Blank is_static proto i b (inr same) told = absurd (cc)
 joined_by_default Joined is_static proto i b way told = among_all (position_count is_static proto) i b told
 joined_by_default Mixed is_static proto i b way told = among_all (position_count is_static proto) i b told
 
-any_mapped : {A B : Type 0} (test : B → Bool) (f : A → B) (xs : List A) → list_any test (map f xs) ≡ list_any (λ x. test (f x)) xs
-any_mapped test f [] = refl
-any_mapped test f (x ∷ xs) = ap (λ b. test (f x) || b) (any_mapped test f xs)
-
 abbrev into_receiver : ℕ → ℕ × ℕ
 into_receiver i = (i, 0)
 
@@ -76,7 +73,7 @@ puts_each Joined is_static proto i from below = absurd (omega arith)
 puts_each Mixed true proto i from below = absurd (omega arith)
 puts_each Mixed false proto i from below =
     let count : length (default_puts Mixed false proto) ≡ length proto.params = put_numbers proto in
-    any_mapped (λ (put : ℕ × ℕ). put.0 == i) into_receiver (numbers_from 1 (length proto.params)) ∙ some_number (λ j. j == i) 1 (length proto.params) i (omega arith) (omega arith) (eq-eqb i i refl)
+    list_any-map into_receiver (λ (put : ℕ × ℕ). put.0 == i) (numbers_from 1 (length proto.params)) ∙ some_number (λ j. j == i) 1 (length proto.params) i (omega arith) (omega arith) (eq-eqb i i refl)
 
 puts_no : (word : FallbackWord) (is_static : Bool) (proto : Proto) (i : ℕ) → ((j : ℕ) → 1 ≤ j → j < 1 + length (default_puts word is_static proto) → j ≢ i) → puts_from (default_puts word is_static proto) i ≡ false
 puts_no Blank is_static proto i differs = refl
@@ -84,7 +81,7 @@ puts_no Joined is_static proto i differs = refl
 puts_no Mixed true proto i differs = refl
 puts_no Mixed false proto i differs =
     let count : length (default_puts Mixed false proto) ≡ length proto.params = put_numbers proto in
-    any_mapped (λ (put : ℕ × ℕ). put.0 == i) into_receiver (numbers_from 1 (length proto.params)) ∙ no_number (λ j. j == i) 1 (length proto.params) (λ j from below. ne_eqb j i (differs j from (omega arith)))
+    list_any-map into_receiver (λ (put : ℕ × ℕ). put.0 == i) (numbers_from 1 (length proto.params)) ∙ no_number (λ j. j == i) 1 (length proto.params) (λ j from below. ne_eqb j i (differs j from (omega arith)))
 
 pub puts_from_receiver : (word : FallbackWord) (is_static : Bool) (proto : Proto) (i : ℕ) → i ≡ 0 → not (i == 0) ≡ puts_from (default_puts word is_static proto) i
 puts_from_receiver word is_static proto i receiver = ap (λ b. not b) (eq-eqb i 0 receiver) ∙ sym (puts_no word is_static proto i (λ j from below same. absurd (omega arith)))
@@ -101,14 +98,14 @@ puts_receiver Joined is_static proto some = absurd (omega arith)
 puts_receiver Mixed true proto some = absurd (omega arith)
 puts_receiver Mixed false proto some =
     let count : length (default_puts Mixed false proto) ≡ length proto.params = put_numbers proto in
-    any_mapped (λ (put : ℕ × ℕ). put.1 == 0) into_receiver (numbers_from 1 (length proto.params)) ∙ some_number (λ j. 0 == 0) 1 (length proto.params) 1 (omega arith) (omega arith) refl
+    list_any-map into_receiver (λ (put : ℕ × ℕ). put.1 == 0) (numbers_from 1 (length proto.params)) ∙ some_number (λ j. 0 == 0) 1 (length proto.params) 1 (omega arith) (omega arith) refl
 
 puts_no_argument : (word : FallbackWord) (is_static : Bool) (proto : Proto) (i : ℕ) → i ≢ 0 → puts_into (default_puts word is_static proto) i ≡ false
 puts_no_argument Blank is_static proto i differs = refl
 puts_no_argument Joined is_static proto i differs = refl
 puts_no_argument Mixed true proto i differs = refl
 puts_no_argument Mixed false proto i differs =
-    any_mapped (λ (put : ℕ × ℕ). put.1 == i) into_receiver (numbers_from 1 (length proto.params)) ∙ no_number (λ j. 0 == i) 1 (length proto.params) (λ j from below. ne_eqb 0 i (λ same. differs (sym same)))
+    list_any-map into_receiver (λ (put : ℕ × ℕ). put.1 == i) (numbers_from 1 (length proto.params)) ∙ no_number (λ j. 0 == i) 1 (length proto.params) (λ j from below. ne_eqb 0 i (λ same. differs (sym same)))
 
 puts_nothing : (puts : List (ℕ × ℕ)) (i : ℕ) → length puts ≡ 0 → puts_into puts i ≡ false
 puts_nothing [] i none = refl

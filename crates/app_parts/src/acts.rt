@@ -30,7 +30,7 @@ pub fn writes(act: &Act, register: u32) -> bool
 }
 
 /// Whether the act names the register, as a destination or a source.
-#[tactic(auto, using(crate::proofs::Registers::holds_in_either, crate::proofs::Registers::holds_first, crate::proofs::Registers::holds_one))]
+#[tactic(auto, using(crate::proofs::Registers::holds_register))]
 pub fn names_register(act: &Act, register: u32) -> bool
     ensures { result ≡ holds (registers_of act.now) register }
 {

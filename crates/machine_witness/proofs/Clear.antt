@@ -24,7 +24,8 @@ use Rattle.app_machine.specs.Library.{positions, value_at, AtSink, Library_call,
 use Rattle.app_machine.specs.Events.{Comes, lives, is_born, calls_back, is_clicked, is_handed}
 use Rattle.app_machine.specs.Run.{Steps, goes_on, raises, throws, calls, calls_library, library_raises, initialises, ends, passes, begins, begins_initialiser, Run, starts, then}
 use Rattle.machine_witness.specs.Apps.{device_class, net_class, id, post, step, clear_steps, clear_app, small_lists, ClearSiblingNeverArrives}
-use Rattle.machine_witness.proofs.Leaking.{none_some, source_row}
+use Rattle.machine_witness.proofs.Leaking.{source_row}
+use Rattle.std.proofs.lemmas.Option.{none-some}
 
 -- the instructions of the one method
 data OneOf : ℕ → Act → List ℕ → List ℕ → Type 0 where
@@ -169,7 +170,7 @@ sink_positions = refl
 
 blank_reaches : (heap : List Object) (ks : List KeyId) (l : ℕ) → Reaches heap blank ks l → ⊥
 blank_reaches heap [] l h = h
-blank_reaches heap (k ∷ ks) l h = none_some h.0 h.1
+blank_reaches heap (k ∷ ks) l h = absurd (none-some h.0 h.1)
 
 -- nothing arrives from a blank register
 nothing_at_sink : {heap : List Object} {f : Frame} {row : Summary} → f.registers 0 ≡ blank → (a : Arrival) → AtSink heap f (0 ∷ []) row a → ⊥

@@ -22,6 +22,7 @@ use Rattle.app_machine.specs.LifeEvents.{LifeEvent, life_events}
 use Rattle.app_machine.specs.Events.{IsApplication, LifeEventAt, lives, is_born, set_component, layout, one_more, no_more, is_blank}
 use Rattle.app_machine.specs.Run.{Steps, goes_on, calls_library, passes, no_body, begins, start_world, starts, then}
 use Rattle.machine_witness.specs.Apps.{main_class, device_class, net_class, on_create, id, post, step, leaking_steps, leaking_app, small_lists, Leaks}
+use Rattle.std.proofs.lemmas.Option.{none-some}
 
 -- the two events
 made : LifeEvent
@@ -94,16 +95,13 @@ uses_source : (heap : List Object) (f : Frame) → Uses_row leaking_app small_li
 unfolding leaking_app small_lists target find_body up method_of is_by_receiver library_key summary row_walk library_classes class_named listed_above listed_class row_of is_array
 uses_source heap f = record { class = device_class; goes = by_name refl refl; key = Row 0; is_key = refl; is_row = refl; plain = refl }
 
-pub none_some : {A : Type 0} (p : ℕ) → ◌≡◌ {A = Option ℕ} None (Some p) → A
-none_some p e = cc
-
 call_source : (w : World) (f : Frame) → Library_call leaking_app small_lists w f (positions Static id []) id.proto.ret source_row w (labelled (0 ∷ []))
 unfolding positions is_void is_reference
 call_source w f = record {
   with_shared = w.heap;
   with_result = w.heap;
   added = [];
-  handed = λ p. (λ h. inl h, elim [ inl h ↦ h | inr hands ↦ none_some p hands.place ]);
+  handed = λ p. (λ h. inl h, elim [ inl h ↦ h | inr hands ↦ absurd (none-some p hands.place) ]);
   arrivals = λ a. (λ h. inl h, elim [ inl h ↦ h | inr s ↦ let e = s.is_sink.1 in let none : ⊥ = cc in absurd none ]);
   shared = all_there;
   results = as_labels refl refl (λ l. (label l, joined l));
@@ -178,7 +176,7 @@ only_arrives a s = same s.at s.is_sink s.keys s.walk
     the_label : (at : ℕ) → at ≡ 0 → (ks : List KeyId) → Reaches world_created.heap (value_at (frame_at 4 with_label) (0 ∷ []) at) ks a.label → a.label ≡ 0
     the_label zero e [] (inl same) = same
     the_label zero e [] (inr none) = absurd none
-    the_label zero e (k ∷ ks) walk = none_some walk.0 walk.1
+    the_label zero e (k ∷ ks) walk = absurd (none-some walk.0 walk.1)
     the_label (suc at) e ks walk = absurd (omega arith)
 
     position : (at : ℕ) (is : List ℕ) → is ≡ 0 ∷ [] → In at is → at ≡ 0
@@ -208,8 +206,8 @@ call_sink = record {
 }
   where
     not_handed : {A : Type 0} (p at : ℕ) → (value_at (frame_at 4 with_label) (0 ∷ []) at).place ≡ Some p → A
-    not_handed p zero e = none_some p e
-    not_handed p (suc at) e = none_some p e
+    not_handed p zero e = absurd (none-some p e)
+    not_handed p (suc at) e = absurd (none-some p e)
 
     no_adds : (a : ℕ × Value) → Adds leaking_app world_created.heap (frame_at 4 with_label) (0 ∷ []) world_created.statics sink_row a → ⊥
     no_adds a (by_put i j h there) = h

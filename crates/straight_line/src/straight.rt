@@ -5,7 +5,7 @@ ghost use Rattle.app_machine.specs.Lookups.{directly_above};
 ghost use Rattle.app_machine.specs.Names.{same_name, same_names};
 ghost use Rattle.app_machine.specs.Sound.{SoundApp};
 ghost use Rattle.app_machine.specs.SoundLists.{SoundLists};
-ghost use Rattle.app_model.specs.LibraryWalk.{shown_summary};
+ghost use Rattle.app_parts.specs.Views.{shown_summary};
 ghost use Rattle.app_machine.specs.Summaries.{listed_class};
 ghost use Rattle.straight_line.specs.Straight.{are_below, are_in_line, begin_at_zero, bundle_class, goes_only_to, head, is_activity, is_bundle, is_in_line, is_line, is_listed_bundle, is_on_create, is_plain_act, is_plain_call, is_plain_result, is_plain_row, is_return_void, is_straight, only, row_of_call};
 

@@ -28,7 +28,8 @@ pub(super) enum Quality<'a> {
 /// below `kind`, or the lists have `kind` above `class`.
 pub fn below(app: &App, lists: &Lists, class: &Name, kind: &Name) -> bool
     requires { SoundApp app.now }
-    ensures { IsTrue result ↔ Below app.now lists.now class.now kind.now }
+    ensures same { result ≡ is_below app.now lists.now class.now kind.now }
+    ensures exact { IsTrue result ↔ Below app.now lists.now class.now kind.now }
 {
     is_below(app, lists, class.as_bytes(), kind.as_bytes())
 }

@@ -6,7 +6,7 @@ ghost use Rattle.app_machine.specs.Sound.{SoundApp};
 use crate::{App, Class};
 
 /// The class of the app with this name.
-pub(super) fn class_of<'a>(app: &'a App, name: &[u8]) -> Option<&'a Class>
+pub fn class_of<'a>(app: &'a App, name: &[u8]) -> Option<&'a Class>
     requires { SoundApp app.now }
     ensures { option_copied result ≡ class_named app.now name.now }
 {

@@ -8,11 +8,13 @@ ghost use Rattle.app_machine.specs.Sound.{SoundApp};
 ghost use Rattle.app_machine.specs.Summaries.{row_of, default_of, listed_class, listed_above, row_walk, library_key, summary};
 ghost use Rattle.app_model.specs.Above.{is_among, is_listed_below};
 ghost use Rattle.app_machine.specs.SoundLists.{SoundLists};
-ghost use Rattle.app_model.specs.LibraryWalk.{found, found_above, is_row, shown_summary};
+ghost use Rattle.app_model.specs.LibraryWalk.{found, found_above, is_row};
+ghost use Rattle.app_parts.specs.Views.{shown_summary};
 
 use crate::lookups::classes::class_of;
 use crate::lookups::equality::is_same_proto;
-use crate::{App, FallbackWord, LibClass, Lists, Proto, Summary, SummaryId};
+use crate::{App, LibClass, Lists, Proto, Summary, SummaryId};
+use app_parts::SummaryView;
 use vet_base::Name;
 
 /// What is looked for in the listed classes.
@@ -22,15 +24,6 @@ enum Wanted<'a> {
     Row(&'a Name, &'a Proto, bool),
     /// A default.
     Default,
-}
-
-/// What the lists say of a library call.
-#[derive(Clone, Copy)]
-pub enum SummaryView<'a> {
-    /// A row of its own.
-    Row(&'a Summary),
-    /// The default of its class.
-    Default(FallbackWord),
 }
 
 /// What a library call of the method on the class does: the first row of that name, descriptor and

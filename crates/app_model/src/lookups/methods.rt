@@ -1,7 +1,7 @@
 ghost use Rattle.std.specs.Prelude.{◌≡◌};
 ghost use Rattle.std.specs.Ordering.{ordering_then};
-ghost use Rattle.app_machine.specs.Lookups.{method_of, method_with};
-ghost use Rattle.app_machine.specs.Names.{descriptor_of};
+ghost use Rattle.app_machine.specs.Lookups.{initialiser_of, method_of, method_with};
+ghost use Rattle.app_machine.specs.Names.{descriptor_of, initialiser_name, initialiser_proto, same_proto};
 ghost use Rattle.app_machine.specs.Sound.{SoundApp, field_order, name_order};
 ghost use Rattle.app_model.specs.Search.{method_key};
 
@@ -40,6 +40,49 @@ pub(super) fn method_with(app: &App, class: &[u8], name: &[u8], descriptor: &[u8
         Ok(i) => Some(i as u32),
         Err(_) => None,
     }
+}
+
+/// The number of the class's own initialiser: the method with its name, no parameters and no result.
+#[tactic(auto, unfolding(app_machine::specs::Lookups::initialiser_of))]
+pub(super) fn initialiser_of(app: &App, class: &[u8]) -> Option<u32>
+    requires { SoundApp app.now }
+    ensures { result ≡ initialiser_of app.now class.now }
+{
+    let methods = app.methods.as_slice();
+    let name = initialiser_name();
+    let descriptor = initialiser_descriptor();
+    match methods.binary_search_by(|method| compare_by_text(method, class, name, descriptor)) {
+        Ok(i) => {
+            if takes_nothing(&methods[i].at.proto) {
+                Some(i as u32)
+            } else {
+                None
+            }
+        }
+        Err(_) => None,
+    }
+}
+
+#[tactic(auto, unfolding(app_machine::specs::Names::initialiser_name))]
+pub(super) fn initialiser_name() -> &'static [u8]
+    ensures { result.now ≡ initialiser_name }
+{
+    b"<clinit>"
+}
+
+#[tactic(auto, unfolding(app_machine::specs::Names::initialiser_proto, app_machine::specs::Names::descriptor_of))]
+fn initialiser_descriptor() -> &'static [u8]
+    ensures { result.now ≡ descriptor_of initialiser_proto }
+{
+    b"()V"
+}
+
+/// Whether the prototype is that of initialisers: no parameters and no result.
+#[tactic(auto, unfolding(app_machine::specs::Names::initialiser_proto), using(crate::proofs::Methods::no_names, crate::proofs::Methods::some_names))]
+fn takes_nothing(proto: &Proto) -> bool
+    ensures { result ≡ same_proto proto.now initialiser_proto }
+{
+    proto.params.is_empty() && proto.ret.as_bytes() == b"V".as_slice()
 }
 
 fn compare_by_proto(method: &Method, class: &[u8], name: &[u8], proto: &Proto) -> Ordering
