@@ -1,6 +1,5 @@
 -- Each step, and so each run, keeps what is known: the theorem.
 use Rattle.std.proofs.Common.{List, refl}
-use Rattle.std.specs.Prelude.{Contains}
 use Rattle.app_machine.specs.declared.lists.Lists.{Lists}
 use Rattle.app_machine.specs.declared.app.App.{App}
 use Rattle.vet_base.specs.Members.{In}
@@ -70,4 +69,4 @@ module _ (app : App) (lists : Lists) (has : Row → Type 0) (closed : Closed app
   }
 
 pub every_good_table_covers_every_run : EveryGoodTableCoversEveryRun
-every_good_table_covers_every_run app lists table sound good = covers_every_run app lists (Contains table) good.closed good.starts sound
+every_good_table_covers_every_run app lists table sound good = covers_every_run app lists (λ row. In row table) good.closed good.starts sound

@@ -25,7 +25,7 @@ use Rattle.fact_rows.specs.Contexts.{IsEvent, types_of, event_types}
 use Rattle.flow_rules.specs.Nodes.{activation_in, entry, ArgumentRegister}
 use Rattle.flow_rules.specs.Sites.{site_class, SiteClass}
 use Rattle.flow_rules.specs.EffectRules.{IsEventBeside, effect_own, effect_other}
-use Rattle.flow_rules.specs.EventRules.{Begins, ComesToLive, by_callback, by_click, life_live, life_begins, life_receiver, life_taint, life_this, live_begins, live_receiver, live_this, handed_begins, handed_receiver, handed_this, initialiser_begins, application_live}
+use Rattle.flow_rules.specs.EventRules.{Begins, ComesToLive, by_callback, by_click, life_live, life_begins, life_receiver, life_taint, life_receiver_taint, live_begins, live_receiver, live_receiver_taint, handed_begins, handed_receiver, handed_receiver_taint, initialiser_begins, application_live}
 use Rattle.flow_rules.specs.Rules.{Starts, the_application, a_component, Closed}
 use Rattle.flow_proof.proofs.Fitting.{Fits, fits_map, blank_fits}
 use Rattle.flow_proof.proofs.Growing.{NewFits, new_fits}
@@ -194,7 +194,7 @@ module _ (app : App) (lists : Lists) (has : Row → Type 0) (closed : Closed app
   came_alive : {w : World} {site : ℕ → Site} {c e : ℕ} {class : Name} {life : LifeEvent} {body : Option ℕ} → WorldFits app lists has w site → LifeEventAt app c e class life body → (w.components c).state ≡ life.from → life.from ≢ 0 → Came app lists has (record w { components = set_component w.components c (after_event life (w.components c).place) }) body (w.components c).place []
   came_alive {w} {site} {c} {e} {class} {life} fits at in_state alive = life_came (w.components c).place fits at live
       (λ still. fits_map (λ _ h. h) (λ q l h. evt app lists has closed (life_taint at alive still) (h, tt)) object)
-      (λ b at_body. fits_map (λ s same z takes. rw same (evt app lists has closed (life_receiver at_body takes) (live, tt))) (λ q l h z takes. evt app lists has closed (life_this at_body alive takes) (h, tt)) object)
+      (λ b at_body. fits_map (λ s same z takes. rw same (evt app lists has closed (life_receiver at_body takes) (live, tt))) (λ q l h z takes. evt app lists has closed (life_receiver_taint at_body alive takes) (h, tt)) object)
     where
       live : has (Live c life.from)
       live = subst (λ s. has (Live c s)) in_state (fits.live c (λ absent. alive (sym in_state ∙ absent)))
@@ -225,7 +225,7 @@ module _ (app : App) (lists : Lists) (has : Row → Type 0) (closed : Closed app
         is_event = is_event;
         owns = λ d there q l h. eff app lists has closed (effect_other (beside d) there) (h, (fits.live d there, tt));
         rows = λ row way. evt app lists has closed (live_begins to alive way) (live, tt);
-        receiver = fits_map (λ s same z takes. rw same (evt app lists has closed (live_receiver to alive takes) (live, tt))) (λ q l h z takes. evt app lists has closed (live_this to alive takes) (h, tt)) (fits.components c);
+        receiver = fits_map (λ s same z takes. rw same (evt app lists has closed (live_receiver to alive takes) (live, tt))) (λ q l h z takes. evt app lists has closed (live_receiver_taint to alive takes) (h, tt)) (fits.components c);
         types = types;
       }
 
@@ -246,7 +246,7 @@ module _ (app : App) (lists : Lists) (has : Row → Type 0) (closed : Closed app
         is_event = tt;
         owns = λ d there y l e. eff app lists has closed (effect_other tt there) (e, (fits.live d there, tt));
         rows = λ row way. evt app lists has closed (handed_begins of_site at way) (h.row, tt);
-        receiver = fits_map (λ s same z takes. rw same (evt app lists has closed (handed_receiver of_site at takes) (h.row, tt))) (λ y l t z takes. evt app lists has closed (handed_this of_site at takes) (t, tt)) h.fits;
+        receiver = fits_map (λ s same z takes. rw same (evt app lists has closed (handed_receiver of_site at takes) (h.row, tt))) (λ y l t z takes. evt app lists has closed (handed_receiver_taint of_site at takes) (t, tt)) h.fits;
         types = handed_types lists at;
       }
 

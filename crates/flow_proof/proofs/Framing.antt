@@ -23,7 +23,7 @@ use Rattle.fact_rows.specs.declared.row.Row.{Row}
 use Rattle.fact_rows.specs.declared.row.Row.TheVariants.{Reached, Points, CalledBy, ExitPoints, ExitTaint}
 use Rattle.flow_rules.specs.Nodes.{at_pc, entry, callee, pushed, activation_in, ArgumentRegister, InitialisedBy}
 use Rattle.flow_rules.specs.Sites.{SiteClass}
-use Rattle.flow_rules.specs.LocalRules.{throwing, reach_catch, throw_points, throw_taint, throw_exit_points, throw_exit_taint, return_points, return_taint}
+use Rattle.flow_rules.specs.LocalRules.{throwing, reach_caught, throw_points, throw_taint, throw_exit_points, throw_exit_taint, return_points, return_taint}
 use Rattle.flow_rules.specs.CallRules.{Enters, calls_it, is_called, reaches_it, enter_direct, enter_class, enter_receiver, pass_points, pass_taint, returned_points, returned_taint, caught_points, caught_taint, unwound_points, unwound_taint, enter_initialiser}
 use Rattle.flow_rules.specs.Rules.{Closed}
 use Rattle.flow_proof.proofs.Fitting.{Fits, fits_map, blank_fits, some_same}
@@ -92,7 +92,7 @@ module _ (app : App) (lists : Lists) (has : Row → Type 0) (closed : Closed app
   -- a handler of a frame goes on
   caught : {w : World} {site : ℕ → Site} {c : Ctx} {f : Frame} {fs : List Frame} {pc : ℕ} {v : Value} → RunsPending app lists has w site c f fs → Catches app f.method f.pc pc → RegisterFits has (at_pc (node_of c f) pc) w.heap site exception_register v → Known app lists has w (record f { pc = pc; registers = write f.registers exception_register v } ∷ fs)
   caught {w} {site} {c} {f} {fs} {pc} {v} known catch fits = running site c (record {
-    reached = loc app lists has closed (reach_catch {n = node_of c f} catch) (known.reached, tt);
+    reached = loc app lists has closed (reach_caught {n = node_of c f} catch) (known.reached, tt);
     world = known.world;
     registers = written (RegisterFits has (at_pc (node_of c f) pc) w.heap site) f.registers exception_register v fits (λ r other. settle_catch app lists has closed {n = node_of c f} catch other (known.registers r));
     event = known.event;

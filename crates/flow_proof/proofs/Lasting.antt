@@ -18,9 +18,9 @@ use Rattle.fact_rows.specs.declared.site.Site.{Site}
 use Rattle.fact_rows.specs.declared.site.Site.TheVariants.{Component}
 use Rattle.fact_rows.specs.declared.row.Row.{Row}
 use Rattle.fact_rows.specs.declared.row.Row.TheVariants.{Points, Taint, Cell, StaticPoints, StaticTaint, CalledBy, Effect, MethodEffect, CompTaint, Handed, HandedTaint}
-use Rattle.flow_rules.specs.Nodes.{at_pc, activation_in, Act_of, Next_of, Catch_of, writes}
-use Rattle.flow_rules.specs.LocalRules.{LocalRule, reach_next, keep_points, keep_taint, catch_points, catch_taint, cell_back}
-use Rattle.flow_rules.specs.EffectRules.{EffectRule, lift_effect, effect_next, effect_catch, method_effect, caller_effect, effect_static, effect_handed}
+use Rattle.flow_rules.specs.Nodes.{at_pc, activation_in, Acts, GoesOn, CaughtAt, writes}
+use Rattle.flow_rules.specs.LocalRules.{LocalRule, reach_next, keep_points, keep_taint, keep_points_caught, keep_taint_caught, cell_back}
+use Rattle.flow_rules.specs.EffectRules.{EffectRule, lift_effect, effect_next, effect_caught, method_effect, caller_effect, effect_static, effect_handed}
 use Rattle.flow_rules.specs.CallRules.{CallRule, initialiser_taint}
 use Rattle.flow_rules.specs.LibraryRules.{LibraryRule}
 use Rattle.flow_rules.specs.EventRules.{EventRule}
@@ -134,19 +134,19 @@ module _ (app : App) (lists : Lists) (has : Row → Type 0) (closed : Closed app
   }
 
   -- a register at the next node, and at a handler
-  pub settle_next : {heap : List Object} {site : ℕ → Site} {n : Node} {act : Act} {pc r : ℕ} {v : Value} → Act_of app n act → Next_of app n pc → IsFalse (writes act r) → PendingFits has n heap site r v → RegisterFits has (at_pc n pc) heap site r v
+  pub settle_next : {heap : List Object} {site : ℕ → Site} {n : Node} {act : Act} {pc r : ℕ} {v : Value} → Acts app n act → GoesOn app n pc → IsFalse (writes act r) → PendingFits has n heap site r v → RegisterFits has (at_pc n pc) heap site r v
   settle_next {n = n} {pc = pc} {r = r} act goes other fits = fits_map (λ s h. loc (keep_points {n = n} act other goes) (h, tt)) take_in fits
     where
       take_in : (q : Path) (l : ℕ) → Pending has n r q l → has (Taint (at_pc n pc) r q l)
       take_in q l (inl t) = loc (keep_taint {n = n} act other goes) (t, tt)
       take_in q l (inr (s, points, e)) = eff (effect_next {n = n} goes) (e, (loc (keep_points {n = n} act other goes) (points, tt), tt))
 
-  pub settle_catch : {heap : List Object} {site : ℕ → Site} {n : Node} {pc r : ℕ} {v : Value} → Catch_of app n pc → IsFalse (r == exception_register) → PendingFits has n heap site r v → RegisterFits has (at_pc n pc) heap site r v
-  settle_catch {n = n} {pc = pc} {r = r} caught other fits = fits_map (λ s h. loc (catch_points {n = n} other caught) (h, tt)) take_in fits
+  pub settle_catch : {heap : List Object} {site : ℕ → Site} {n : Node} {pc r : ℕ} {v : Value} → CaughtAt app n pc → IsFalse (r == exception_register) → PendingFits has n heap site r v → RegisterFits has (at_pc n pc) heap site r v
+  settle_catch {n = n} {pc = pc} {r = r} caught other fits = fits_map (λ s h. loc (keep_points_caught {n = n} other caught) (h, tt)) take_in fits
     where
       take_in : (q : Path) (l : ℕ) → Pending has n r q l → has (Taint (at_pc n pc) r q l)
-      take_in q l (inl t) = loc (catch_taint {n = n} other caught) (t, tt)
-      take_in q l (inr (s, points, e)) = eff (effect_catch {n = n} caught) (e, (loc (catch_points {n = n} other caught) (points, tt), tt))
+      take_in q l (inl t) = loc (keep_taint_caught {n = n} other caught) (t, tt)
+      take_in q l (inr (s, points, e)) = eff (effect_caught {n = n} caught) (e, (loc (keep_points_caught {n = n} other caught) (points, tt), tt))
 
   -- a new object leaves all that is known as it is
   pub world_grown : {w : World} {site : ℕ → Site} {new : Site} {o : Object} → WorldFits app lists has w site → NewFits app lists has w.heap site new o → WorldFits app lists has (record w { heap = w.heap ++ o ∷ [] }) (with_site site (length w.heap) new)

@@ -30,7 +30,7 @@ use Rattle.fact_rows.specs.declared.row.Row.TheVariants.{Points, Taint, Cell, St
 use Rattle.flow_rules.specs.Nodes.{at_pc}
 use Rattle.flow_rules.specs.Sites.{site_class, SiteClass}
 use Rattle.flow_rules.specs.EffectRules.{effect_next}
-use Rattle.flow_rules.specs.CallRules.{use_plain, use_class, Looks_up, finds_row}
+use Rattle.flow_rules.specs.CallRules.{use_by_name, use_by_class, LooksUp, finds_row}
 use Rattle.flow_rules.specs.LibraryRules.{RowAt, places_of, hand_points, hand_taint, sink_arrives, same_points, same_taint, taken_points, taken_taint, joined_points, joined_taint, joined_element, source_taint, source_element, shared_static_points, shared_points, shared_taint, row_put_cell, row_put_effect, store_static, store_cell, store_effect, copy_cell, copy_effect}
 use Rattle.flow_rules.specs.Rules.{Closed}
 use Rattle.flow_proof.proofs.HeapLaws.{EntryAt-add_all, ClassAt-add_all, length-add_all}
@@ -271,10 +271,10 @@ module _ (app : App) (lists : Lists) (has : Row → Type 0) (closed : Closed app
         by (inr h) = of_result (is_void r.at.proto.ret) refl h
 
   -- What a call on a library class finds in the lists has its row.
-  pub looked_up : {w : World} {site : ℕ → Site} {c : Ctx} {f : Frame} {fs : List Frame} {kind : CallKind} {at : MethodRef} {args : List ℕ} {t : Target} {class : Name} {row : Row} → Runs app lists has w site c f fs → ActAt app f.method f.pc (Call kind at args) → Calls_to app w.heap f kind at args t → t ≡ Library class → Looks_up app lists (node_of c f) kind at class row → has row
-  looked_up {c = c} {f = f} known act (by_name plain is_target) same found = cal app lists has closed (use_plain {n = node_of c f} act (is_target ∙ same) found) (known.reached, tt)
-  looked_up {c = c} {f = f} known act (by_nothing virtual none is_target) same found = cal app lists has closed (use_plain {n = node_of c f} act (is_target ∙ same) found) (known.reached, tt)
-  looked_up {c = c} {f = f} known act (by_class {x = x} {p = p} class virtual is_first there of_class is_target) same found = cal app lists has closed (use_class {n = node_of c f} act virtual is_first (known.world.heap.class p class of_class) (is_target ∙ same) found) ((known.registers x).pointed p there, tt)
+  pub looked_up : {w : World} {site : ℕ → Site} {c : Ctx} {f : Frame} {fs : List Frame} {kind : CallKind} {at : MethodRef} {args : List ℕ} {t : Target} {class : Name} {row : Row} → Runs app lists has w site c f fs → ActAt app f.method f.pc (Call kind at args) → Calls_to app w.heap f kind at args t → t ≡ Library class → LooksUp app lists (node_of c f) kind at class row → has row
+  looked_up {c = c} {f = f} known act (by_name plain is_target) same found = cal app lists has closed (use_by_name {n = node_of c f} act (is_target ∙ same) found) (known.reached, tt)
+  looked_up {c = c} {f = f} known act (by_nothing virtual none is_target) same found = cal app lists has closed (use_by_name {n = node_of c f} act (is_target ∙ same) found) (known.reached, tt)
+  looked_up {c = c} {f = f} known act (by_class {x = x} {p = p} class virtual is_first there of_class is_target) same found = cal app lists has closed (use_by_class {n = node_of c f} act virtual is_first (known.world.heap.class p class of_class) (is_target ∙ same) found) ((known.registers x).pointed p there, tt)
 
   pub record LibraryKnown (new : World) (c : Ctx) (f : Frame) (fs : List Frame) (v : Value) : Type 0 where
     pub sites : ℕ → Site

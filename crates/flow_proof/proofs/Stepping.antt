@@ -22,7 +22,7 @@ use Rattle.fact_rows.specs.declared.site.Site.{Site}
 use Rattle.fact_rows.specs.declared.site.Site.TheVariants.{At}
 use Rattle.fact_rows.specs.declared.row.Row.{Row}
 use Rattle.fact_rows.specs.declared.row.Row.TheVariants.{Points, Cell, Effect}
-use Rattle.flow_rules.specs.Nodes.{at_pc, Act_of}
+use Rattle.flow_rules.specs.Nodes.{at_pc, Acts}
 use Rattle.flow_rules.specs.Sites.{class_made, site_class, SiteClass}
 use Rattle.flow_rules.specs.LocalRules.{move_points, move_taint, result_points, result_taint, exception_points, exception_taint, join_taint, new_points, fill_points, fill_cell, fill_taint, get_points, get_taint, put_cell, put_effect, get_static_points, get_static_taint, put_static_points, put_static_taint}
 use Rattle.flow_rules.specs.Rules.{Closed}
@@ -34,7 +34,7 @@ use Rattle.flow_proof.proofs.Knowing.{node_of, Taints, SharedOnly, StaticFits, R
 use Rattle.flow_proof.proofs.Lasting.{loc, lift_at, running_after, pending_of, running_grown, goes_plain, goes_writing, goes_writing_all}
 
 -- the site of what a step makes has the class of it
-pub class_at : {app : App} {lists : Lists} {n : Node} {act : Act} {class : Name} → Act_of app n act → class_made act ≡ Some class → SiteClass app lists (At n) class
+pub class_at : {app : App} {lists : Lists} {n : Node} {act : Act} {class : Name} → Acts app n act → class_made act ≡ Some class → SiteClass app lists (At n) class
 unfolding site_class
 class_at {app} {lists} {n} {act} {class} acts made = record { is_class = by_step (step_at app n.by.method n.pc) acts.step acts.there acts.same }
   where

@@ -40,10 +40,21 @@ abbrev pub Names : Row → Activation → Type 0
 Names row a = In a (activations_in row)
 
 -- The states to which components come without any other row: from the starts by rules 40 and 47 alone.
-pub data ComesToState (app : App) : ℕ → ℕ → Type 0 where
-  from_start : {c state : ℕ} → Starts app (Live c state) → ComesToState app c state
-  by_event : {c e : ℕ} {class : Name} {life : LifeEvent} {body : Option ℕ} → LifeEventAt app c e class life body → ComesToState app c life.from → ComesToState app c life.to
-  by_application : {a c : ℕ} {component : Component} → IsApplication app a → IsAt app.components c component → (c ≡ a → ⊥) → ComesToState app a 2 → ComesToState app c 0
+module _ (app : App) where
+  pub data ComesToState : ℕ → ℕ → Type 0 where
+    from_start : {c state : ℕ} →
+        Starts app (Live c state) →
+        ComesToState c state
+    by_event : {c e : ℕ} {class : Name} {life : LifeEvent} {body : Option ℕ} →
+        LifeEventAt app c e class life body →
+        ComesToState c life.from →
+        ComesToState c life.to
+    by_application : {a c : ℕ} {component : Component} →
+        IsApplication app a →
+        IsAt app.components c component →
+        (c ≡ a → ⊥) →
+        ComesToState a 2 →
+        ComesToState c 0
 
 -- The start rows together name each activation that an event begins in one of these states.
 pub record StartsName (app : App) (lists : Lists) (a : Activation) : Type 0 where

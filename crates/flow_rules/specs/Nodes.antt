@@ -1,7 +1,7 @@
 -- Nodes and registers, as the rules name them.
 use Rattle.std.specs.Prelude.{◌≡◌, ◌==◌, ◌<◌, ◌+◌, ◌-◌, ℕ, Bool, false}
 use Rattle.app_machine.specs.declared.method.Act.{Act}
-use Rattle.app_machine.specs.declared.method.Act.TheVariants.{Skip, Join, Move, Blank, New, Fill, Get, Put, GetStatic, PutStatic, Call, Return, Throw, TakeResult, TakeException, Go}
+use Rattle.app_machine.specs.declared.method.Act.TheVariants.{Join, Move, Blank, New, Fill, Get, GetStatic, Call, TakeResult, TakeException}
 use Rattle.app_machine.specs.declared.method.Method.{Method}
 use Rattle.app_machine.specs.declared.app.App.{App}
 use Rattle.vet_base.specs.Members.{IsAt}
@@ -32,14 +32,16 @@ entry a = record { by = a; pc = 0 }
 abbrev pub callee : Node → ℕ → Activation
 callee n body = activation_in (pushed n.by.ctx n.by.method n.pc) body
 
-abbrev pub Act_of : App → Node → Act → Type 0
-Act_of app n act = ActAt app n.by.method n.pc act
+-- what the step at the node does, to where control goes on from it, and where what it raises is caught
+module _ (app : App) (n : Node) where
+  abbrev pub Acts : Act → Type 0
+  Acts act = ActAt app n.by.method n.pc act
 
-abbrev pub Next_of : App → Node → ℕ → Type 0
-Next_of app n pc = Goes app n.by.method n.pc pc
+  abbrev pub GoesOn : ℕ → Type 0
+  GoesOn pc = Goes app n.by.method n.pc pc
 
-abbrev pub Catch_of : App → Node → ℕ → Type 0
-Catch_of app n pc = Catches app n.by.method n.pc pc
+  abbrev pub CaughtAt : ℕ → Type 0
+  CaughtAt pc = Catches app n.by.method n.pc pc
 
 -- whether the act writes the register: a destination, or RES for a call and a filled array
 abbrev pub writes : Act → ℕ → Bool
@@ -53,12 +55,7 @@ writes (GetStatic ds g) r = holds ds r
 writes (Call kind at args) r = r == result_register
 writes (TakeResult ds) r = holds ds r
 writes (TakeException d) r = r == d
-writes Skip r = false
-writes (Put o k x) r = false
-writes (PutStatic g x) r = false
-writes (Return x) r = false
-writes (Throw x) r = false
-writes Go r = false
+writes act r = false
 
 -- the register that takes argument register i of a call: the i-th of the last `ins`
 pub record ArgumentRegister (app : App) (body i register : ℕ) : Type 0 where
