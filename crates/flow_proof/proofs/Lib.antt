@@ -7,6 +7,7 @@ pub mod Sounding
 pub mod Stepping
 pub mod Framing
 pub mod Librarian
+pub mod EventTypes
 pub mod Eventing
 pub mod Beginning
 pub mod Standing

@@ -3,6 +3,8 @@
 
 ghost use Rattle.flow_proof.specs.Covering.{EveryGoodTableCoversEveryRun};
 
+use access_path::paths_keep_their_laws;
+
 /// The soundness theorem.
 ///
 /// For each sound app, any lists and each table that names only what they have, holds the start
@@ -12,4 +14,6 @@ ghost use Rattle.flow_proof.specs.Covering.{EveryGoodTableCoversEveryRun};
 /// `Unknown` row is there, app, lists and declaration are safe.
 pub fn every_good_table_covers_every_run()
     ensures { EveryGoodTableCoversEveryRun }
-{}
+{
+    paths_keep_their_laws();
+}

@@ -11,7 +11,7 @@ use Rattle.app_machine.specs.Names.{Name, is_reference}
 use Rattle.app_machine.specs.Lookups.{elem_key, HasCode, IsNative}
 use Rattle.app_machine.specs.Summaries.{Below}
 use Rattle.app_machine.specs.LifeEvents.{LifeEvent}
-use Rattle.app_machine.specs.Events.{IsApplication, LifeEventAt, CallbackAt, ClickAt, HandedAt, InitialiserAt}
+use Rattle.app_machine.specs.Events.{IsApplication, LifeEventAt, CallbackAt, ClickAt, HandedAt, InitialiserAt, parameter_type}
 use Rattle.app_machine.specs.Safe.{native}
 use Rattle.fact_rows.specs.declared.context.Ctx.{Ctx}
 use Rattle.fact_rows.specs.declared.context.Ctx.TheVariants as ctx
@@ -20,7 +20,7 @@ use Rattle.fact_rows.specs.declared.site.Site.{Site}
 use Rattle.fact_rows.specs.declared.site.Site.TheVariants.{Param, Component}
 use Rattle.fact_rows.specs.declared.row.Row.{Row}
 use Rattle.fact_rows.specs.declared.row.Row.TheVariants.{Reached, Points, Taint, ExitPoints, ExitTaint, Live, CompTaint, Handed, HandedTaint, Unknown}
-use Rattle.fact_rows.specs.Contexts.{IsEvent, parameter_type}
+use Rattle.fact_rows.specs.Contexts.{IsEvent}
 use Rattle.flow_rules.specs.Nodes.{activation_in, entry, ArgumentRegister, EventRegister}
 use Rattle.flow_rules.specs.Sites.{SiteClass}
 use Rattle.flow_rules.specs.LocalRules.{returning}

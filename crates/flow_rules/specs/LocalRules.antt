@@ -10,12 +10,13 @@ use Rattle.vet_base.specs.Members.{In}
 use Rattle.app_machine.specs.Names.{Name}
 use Rattle.app_machine.specs.Lookups.{elem_key}
 use Rattle.app_machine.specs.State.{result_register, exception_register}
+use Rattle.app_machine.specs.Local.{writes}
 use Rattle.fact_rows.specs.declared.context.Node.{Node}
 use Rattle.fact_rows.specs.declared.site.Site.{Site}
 use Rattle.fact_rows.specs.declared.site.Site.TheVariants.{At}
 use Rattle.fact_rows.specs.declared.row.Row.{Row}
 use Rattle.fact_rows.specs.declared.row.Row.TheVariants.{Reached, Points, Taint, Cell, Back, StaticPoints, StaticTaint, Effect, ExitPoints, ExitTaint}
-use Rattle.flow_rules.specs.Nodes.{at_pc, Acts, GoesOn, CaughtAt, writes}
+use Rattle.flow_rules.specs.Nodes.{at_pc, Acts, GoesOn, CaughtAt}
 
 -- how an activation ends: it returns, or it throws
 abbrev pub returning : ℕ

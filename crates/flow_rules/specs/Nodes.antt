@@ -1,12 +1,10 @@
 -- Nodes and registers, as the rules name them.
-use Rattle.std.specs.Prelude.{◌≡◌, ◌==◌, ◌<◌, ◌+◌, ◌-◌, ℕ, Bool, false}
+use Rattle.std.specs.Prelude.{◌≡◌, ◌<◌, ◌+◌, ◌-◌, ℕ}
 use Rattle.app_machine.specs.declared.method.Act.{Act}
-use Rattle.app_machine.specs.declared.method.Act.TheVariants.{Join, Move, Blank, New, Fill, Get, GetStatic, Call, TakeResult, TakeException}
 use Rattle.app_machine.specs.declared.method.Method.{Method}
 use Rattle.app_machine.specs.declared.app.App.{App}
 use Rattle.vet_base.specs.Members.{IsAt}
 use Rattle.app_machine.specs.Lookups.{ActAt, Goes, Catches, HasCode, Initialises}
-use Rattle.app_machine.specs.State.{result_register, holds}
 use Rattle.app_machine.specs.Events.{layout}
 use Rattle.fact_rows.specs.declared.context.Ctx.{Ctx}
 use Rattle.fact_rows.specs.declared.context.Ctx.TheVariants as ctx
@@ -42,20 +40,6 @@ module _ (app : App) (n : Node) where
 
   abbrev pub CaughtAt : ℕ → Type 0
   CaughtAt pc = Catches app n.by.method n.pc pc
-
--- whether the act writes the register: a destination, or RES for a call and a filled array
-abbrev pub writes : Act → ℕ → Bool
-writes (Join ds xs) r = holds ds r
-writes (Move ds x) r = holds ds r
-writes (Blank ds) r = holds ds r
-writes (New d class) r = r == d
-writes (Fill xs class) r = r == result_register
-writes (Get ds o k) r = holds ds r
-writes (GetStatic ds g) r = holds ds r
-writes (Call kind at args) r = r == result_register
-writes (TakeResult ds) r = holds ds r
-writes (TakeException d) r = r == d
-writes act r = false
 
 -- the register that takes argument register i of a call: the i-th of the last `ins`
 pub record ArgumentRegister (app : App) (body i register : ℕ) : Type 0 where

@@ -8,9 +8,10 @@ use Rattle.app_machine.specs.declared.app.App.{App}
 use Rattle.app_machine.specs.Names.{Name, is_reference}
 use Rattle.app_machine.specs.Lookups.{step_at}
 use Rattle.app_machine.specs.Library.{shared_class}
+use Rattle.app_machine.specs.Events.{parameter_type}
 use Rattle.fact_rows.specs.declared.site.Site.{Site}
 use Rattle.fact_rows.specs.declared.site.Site.TheVariants.{At, Param, Component, Shared}
-use Rattle.fact_rows.specs.Contexts.{event_types, parameter_type}
+use Rattle.fact_rows.specs.Contexts.{event_types}
 
 -- the class of what the act makes: that which it names, or for a call the type of its result
 abbrev pub class_made : Act → Option Name
