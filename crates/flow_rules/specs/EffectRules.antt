@@ -20,11 +20,9 @@ use Rattle.flow_rules.specs.Nodes.{at_pc, activation_in, GoesOn, CaughtAt}
 -- the context is that of an event, but of none in the component's own life
 abbrev pub IsEventBeside : Ctx → ℕ → Type 0
 IsEventBeside (ctx.Row d e) c = d ≢ c
-IsEventBeside (ctx.Callback d q) c = Unit {0}
-IsEventBeside (ctx.Click d i) c = Unit {0}
-IsEventBeside (ctx.Handed q) c = Unit {0}
-IsEventBeside (ctx.Init d) c = Unit {0}
 IsEventBeside (ctx.Call m pc) c = ⊥
+IsEventBeside (ctx.Call2 m pc n qc) c = ⊥
+IsEventBeside event c = Unit {0}
 
 module _ (app : App) where
   pub data EffectRule : ℕ → List Row → Row → Type 0 where

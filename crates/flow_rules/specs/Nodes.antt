@@ -11,9 +11,12 @@ use Rattle.fact_rows.specs.declared.context.Ctx.TheVariants as ctx
 use Rattle.fact_rows.specs.declared.context.Activation.{Activation}
 use Rattle.fact_rows.specs.declared.context.Node.{Node}
 
--- The context of a method that is called: the call instruction. How many callers count is told here alone.
+-- The context of a method that is called: the call instruction where an event's own method calls, and otherwise the call and
+-- the last one before it. How many calls count is told here alone.
 unfoldable pub pushed : Ctx → ℕ → ℕ → Ctx
-pushed c method pc = ctx.Call method pc
+pushed (ctx.Call last at) method pc = ctx.Call2 method pc last at
+pushed (ctx.Call2 last at m at_m) method pc = ctx.Call2 method pc last at
+pushed event method pc = ctx.Call method pc
 
 -- another node of the same activation
 abbrev pub at_pc : Node → ℕ → Node
