@@ -13,7 +13,8 @@ use Rattle.fact_rows.specs.Contexts.{types_of, event_types}
 use Rattle.flow_proof.proofs.Sounding.{body_proto}
 
 -- the types of the parameters of a body that was found
-found_types : (app : App) {o : Option ℕ} {body : ℕ} {m : Method} → o ≡ Some body → slice_get app.methods body ≡ Some m → types_of app o ≡ m.at.proto.params
+found_types : (app : App) {o : Option ℕ} {body : ℕ} {m : Method} → o ≡ Some body → slice_get app.methods body ≡ Some m →
+    types_of app o ≡ m.at.proto.params
 found_types app found there = rw found (rw (types_of, there) refl)
 
 pub life_types : {app : App} (lists : Lists) {c e body : ℕ} {class : Name} {life : LifeEvent} → LifeEventAt app c e class life (Some body) →

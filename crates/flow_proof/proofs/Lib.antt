@@ -12,3 +12,9 @@ pub mod Eventing
 pub mod Beginning
 pub mod Standing
 pub mod Covering
+pub mod Places
+pub mod StayingSteps
+pub mod StayingCalls
+pub mod StayingLibrary
+pub mod StayingEvents
+pub mod Staying
