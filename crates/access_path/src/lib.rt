@@ -18,8 +18,9 @@ pub use path_keys::PathKeys;
 /// The laws by which everybody else knows paths.
 ///
 /// What a path covers, the path with a key in front covers behind that key; what it covers behind a
-/// key, the path without its first key covers; the empty path covers no keys; and a path that
-/// covers no keys has none.
+/// key, the path without its first key covers; the empty path covers no keys; a path that covers no
+/// keys has none; a path with a key in front has only that key and its own, and one without its
+/// first key only its own.
 pub fn paths_keep_their_laws()
     ensures { PathLaws }
 {}

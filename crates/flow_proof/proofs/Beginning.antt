@@ -3,10 +3,11 @@ use Rattle.std.proofs.Common.{◌≡◌, ◌==◌, ℕ, zero, suc, ◌+◌, ◌-
 use Rattle.std.proofs.lemmas.Bool.{eqb-true}
 use Rattle.std.specs.Prelude.{IsTrue, slice_get, map}
 use Rattle.std.specs.List.{cons_option}
+use Rattle.std.proofs.lemmas.Option.{none-some, same_Some}
 use Rattle.vet_base.specs.declared.key_id.KeyId.{KeyId}
+use Rattle.access_path.specs.Laws.{PathLaws}
 use Rattle.access_path.specs.declared.path.Path.{Path}
 use Rattle.access_path.specs.Paths.{cut, empty_path}
-use Rattle.access_path.proofs.PathLaws.{cut-covers, empty-covers}
 use Rattle.app_machine.specs.declared.method.Method.{Method}
 use Rattle.app_machine.specs.declared.method.Act.TheVariants.{Return}
 use Rattle.app_machine.specs.declared.lists.Lists.{Lists}
@@ -17,7 +18,7 @@ use Rattle.app_machine.specs.Lookups.{elem_key, ActAt, HasCode}
 use Rattle.app_machine.specs.Heap.{Value, Object, Reaches}
 use Rattle.app_machine.specs.State.{World, Frame, object_at}
 use Rattle.app_machine.specs.Calls.{returned, hand}
-use Rattle.app_machine.specs.Events.{layout_from, layout, labels_at, labelled_element, Parameter, is_blank, is_fresh, is_given, Parameters, no_more, one_more, MayInitialise}
+use Rattle.app_machine.specs.Events.{layout_from, layout, labels_at, labelled_element, Parameter, is_blank, is_fresh, is_given, Parameters, no_more, one_more, MayInitialise, parameter_type}
 use Rattle.app_machine.specs.Run.{frame_of}
 use Rattle.fact_rows.specs.declared.context.Ctx.{Ctx}
 use Rattle.fact_rows.specs.declared.context.Ctx.TheVariants as ctx
@@ -26,13 +27,13 @@ use Rattle.fact_rows.specs.declared.site.Site.{Site}
 use Rattle.fact_rows.specs.declared.site.Site.TheVariants.{Param}
 use Rattle.fact_rows.specs.declared.row.Row.{Row}
 use Rattle.fact_rows.specs.declared.row.Row.TheVariants.{Reached, Points, Taint}
-use Rattle.fact_rows.specs.Contexts.{IsEvent, event_types, parameter_type}
+use Rattle.fact_rows.specs.Contexts.{IsEvent, event_types}
 use Rattle.flow_rules.specs.Nodes.{activation_in, entry, ArgumentRegister, EventRegister}
 use Rattle.flow_rules.specs.Sites.{reference_type, site_class, SiteClass}
 use Rattle.flow_rules.specs.LocalRules.{return_points, return_taint}
 use Rattle.flow_rules.specs.EventRules.{ReferenceParameter, Begins, begin_reached, begin_points, begin_taint, begin_element, handed_parameter, handed_parameter_taint, exit_handed, exit_handed_taint}
 use Rattle.flow_rules.specs.Rules.{Starts, Closed}
-use Rattle.flow_proof.proofs.Fitting.{Fits, Covered, fits_map, blank_fits, placeless_fits, none_some, some_same}
+use Rattle.flow_proof.proofs.Fitting.{Fits, Covered, fits_map, blank_fits, placeless_fits}
 use Rattle.flow_proof.proofs.Growing.{with_site, NewFits, new_fits, fits_grown}
 use Rattle.flow_proof.proofs.Knowing.{node_of, RegisterFits, HandedFits, handed_of, WorldFits, Waits, none_waits, Runs, Known, idle, running}
 use Rattle.flow_proof.proofs.Lasting.{loc, evt, world_grown}
@@ -69,7 +70,7 @@ type_at [] i k position e = absurd (let none : ⊥ = cc in none)
 type_at (type ∷ types) i k position e = by_width (is_wide type) (type_at types (i + 1)) e
   where
     first : ◌≡◌ {A = Option ℕ} (Some i) (Some position) → TypeAt (type ∷ types) i position
-    first e = let same = some_same e in record { index = 0; type = type; there = refl; is = omega arith }
+    first e = let same = same_Some _ _ e in record { index = 0; type = type; there = refl; is = omega arith }
 
     next : TypeAt types (i + 1) position → TypeAt (type ∷ types) i position
     next later = let same = later.is in record { index = suc later.index; type = later.type; there = later.there; is = omega arith }
@@ -90,7 +91,7 @@ type_at (type ∷ types) i k position e = by_width (is_wide type) (type_at types
 -- what stands in the layout is the receiver or a parameter
 layout_at : (types : List Name) (k position : ℕ) → slice_get (layout types) k ≡ Some position → ((position ≡ 0) × (k ≡ 0)) ⊎ TypeAt types 1 position
 unfolding layout
-layout_at types zero position e = inl (sym (some_same e), refl)
+layout_at types zero position e = inl (sym (same_Some _ _ e), refl)
 layout_at types (suc k) position e = inr (type_at types 1 k position e)
 
 mapped_at : (value : ℕ → Value) (positions : List ℕ) (k : ℕ) (v : Value) → slice_get (map value positions) k ≡ Some v → (position : ℕ) × (slice_get positions k ≡ Some position) × (v ≡ value position)
@@ -98,7 +99,7 @@ mapped_at value [] k v e = absurd (let none : ⊥ = cc in none)
 mapped_at value (x ∷ xs) zero v e = (x, refl, let same : v ≡ value x = cc in same)
 mapped_at value (x ∷ xs) (suc k) v e = mapped_at value xs k v e
 
-module _ (app : App) (lists : Lists) (has : Row → Type 0) (closed : Closed app lists has) where
+module _ (app : App) (lists : Lists) (has : Row → Type 0) (closed : Closed app lists has) (laws : PathLaws) where
   -- the rows at the entry know the value of a position
   abbrev PositionFits : List Object → (ℕ → Site) → Ctx → ℕ → ℕ → Value → Type 0
   PositionFits heap site k body i v = Fits heap site v (λ s. (z : ℕ) → EventRegister app body i z → has (Points (entry (activation_in k body)) z s)) (λ q l. (z : ℕ) → EventRegister app body i z → has (Taint (entry (activation_in k body)) z q l))
@@ -112,7 +113,7 @@ module _ (app : App) (lists : Lists) (has : Row → Type 0) (closed : Closed app
 
   module _ (new : World) (k : Ctx) (body : ℕ) (m : Method) (code : HasCode app body m) (sources : List (ℕ × ℕ)) (is_event : IsEvent k) (rows : (row : Row) → Begins app k body sources row → has row) (types : event_types app lists k ≡ m.at.proto.params) where
     own_label : (i l : ℕ) → In l (labels_at sources i) → Covered (λ q l. (z : ℕ) → EventRegister app body i z → has (Taint (entry (activation_in k body)) z q l)) [] l
-    own_label i l h = record { path = empty_path; covers = empty-covers; row = λ z at. rows _ (begin_taint at (source_of sources i l h)) }
+    own_label i l h = record { path = empty_path; covers = laws.empty; row = λ z at. rows _ (begin_taint at (source_of sources i l h)) }
 
     parameter_site : (i : ℕ) (type : Name) → parameter_type m.at.proto.params i ≡ Some type → IsTrue (is_reference type) → SiteClass app lists (Param k i) type
     unfolding site_class
@@ -143,7 +144,7 @@ module _ (app : App) (lists : Lists) (has : Row → Type 0) (closed : Closed app
     }
     parameter_known {i} {type} {heap} {heap'} {value} {site} is_type fits (is_fresh reference) = record {
       sites = with_site site (length heap) (Param k i);
-      world = world_grown app lists has closed fits new_one;
+      world = world_grown app lists has closed laws fits new_one;
       stays = λ v P T old. fits_grown made (Param k i) fits.heap old;
       fits = new_fits heap site (Param k i) made (labels_at sources i) _ _
           (λ z at. rows _ (begin_points at (reference_parameter i type is_type reference)))
@@ -156,7 +157,7 @@ module _ (app : App) (lists : Lists) (has : Row → Type 0) (closed : Closed app
 
         no_place : {A : Type 0} (labels : List ℕ) (key : KeyId) (v : Value) (t : ℕ) → In {A = KeyId × Value} (key, v) (labelled_element labels) → v.place ≡ Some t → A
         no_place [] key v t h e = absurd h
-        no_place (l ∷ ls) key v t (inl same) e = none_some t (ap (λ (y : KeyId × Value). y.1.place) (sym same) ∙ e)
+        no_place (l ∷ ls) key v t (inl same) e = absurd (none-some t (ap (λ (y : KeyId × Value). y.1.place) (sym same) ∙ e))
         no_place (l ∷ ls) key v t (inr none) e = absurd none
 
         new_one : NewFits app lists has heap site (Param k i) (record { class = type; entries = labelled_element (labels_at sources i) })
@@ -174,15 +175,15 @@ module _ (app : App) (lists : Lists) (has : Row → Type 0) (closed : Closed app
             rw (ap (λ (y : KeyId × Value). y.0) same) (held (subst (λ (y : KeyId × Value). In l y.1.labels) same walk))
           where
             held : In l (x ∷ xs) → Covered (λ q l. (z : ℕ) → EventRegister app body i z → has (Taint (entry (activation_in k body)) z q l)) (elem_key ∷ []) l
-            held h = record { path = cut elem_key empty_path; covers = cut-covers elem_key empty_path [] empty-covers; row = λ z at. rows _ (begin_element at (reference_parameter i type is_type reference) (listed l h)) }
+            held h = record { path = cut elem_key empty_path; covers = laws.cut elem_key empty_path [] laws.empty; row = λ z at. rows _ (begin_element at (reference_parameter i type is_type reference) (listed l h)) }
     parameter_known {i} {type} {heap} {heap'} {value} {site} is_type fits (is_given {p = p} {class = class} reference is_one of_class below) = record {
       sites = site;
       world = fits;
       stays = λ v P T old. old;
       fits = with_labels (labels_at sources i)
           (fits_map
-          (λ s same z at. rw same (evt app lists has closed (handed_parameter {b = activation_in k body} is_event at (reference_parameter i type is_type reference) of_site below) (reached, (h.row, tt))))
-          (λ q l t z at. evt app lists has closed (handed_parameter_taint {b = activation_in k body} is_event at (reference_parameter i type is_type reference) of_site below) (reached, (h.row, (t, tt))))
+          (λ s same z at. rw same (evt app lists has closed laws (handed_parameter {b = activation_in k body} is_event at (reference_parameter i type is_type reference) of_site below) (reached, (h.row, tt))))
+          (λ q l t z at. evt app lists has closed laws (handed_parameter_taint {b = activation_in k body} is_event at (reference_parameter i type is_type reference) of_site below) (reached, (h.row, (t, tt))))
           h.fits)
           (λ l h. own_label i l h);
     }
@@ -239,9 +240,6 @@ module _ (app : App) (lists : Lists) (has : Row → Type 0) (closed : Closed app
           (fits_map (λ s h z at. h z (of_receiver z at)) (λ q l h z at. h z (of_receiver z at)) (known.stays _ _ _ begun.receiver))
           (λ l h. own_label new k body m code sources begun.is_event begun.rows (begun.types m code.there) 0 l h))
         where
-          some_equal : {x y : Method} → ◌≡◌ {A = Option Method} (Some x) (Some y) → x ≡ y
-          some_equal e = cc
-
           of_receiver : (z : ℕ) → EventRegister app body 0 z → ArgumentRegister app body 0 z
           of_receiver z at = elim (layout_at at.method.at.proto.params at.index 0 at.is_at.there) [
             | inl first ↦ let index = first.1 in let below = at.below in record { method = at.method; has = at.has; below = omega arith; is = at.is ∙ ap (λ x. (at.method.registers - at.method.ins) + x) index }
@@ -263,10 +261,10 @@ module _ (app : App) (lists : Lists) (has : Row → Type 0) (closed : Closed app
   -- An initialiser begins without arguments.
   pub known_begin_initialiser : ((row : Row) → Starts app row → has row) → {w : World} {site : ℕ → Site} {body : ℕ} {m : Method} → WorldFits app lists has w site → MayInitialise app w body → HasCode app body m → Known app lists has w (frame_of body m [] false ∷ [])
   known_begin_initialiser starts {w} {site} {body} {m} fits may code = running site (ctx.Init may.c) (record {
-    reached = initialiser_rows app lists has closed starts fits may _ (begin_reached code);
+    reached = initialiser_rows app lists has closed laws starts fits may _ (begin_reached code);
     world = fits;
     registers = entered_fits (RegisterFits has (entry (activation_in (ctx.Init may.c) body)) w.heap site) m [] (λ r. blank_fits _ _ _ _) (λ i z v e below is. absurd (let none : ⊥ = cc in none));
-    event = record { bottom = activation_in (ctx.Init may.c) body; is_event = tt; owns = initialiser_owns app lists has closed starts fits may.c };
+    event = record { bottom = activation_in (ctx.Init may.c) body; is_event = tt; owns = initialiser_owns app lists has closed laws starts fits may.c };
     waits = none_waits refl;
   })
 
@@ -290,8 +288,8 @@ module _ (app : App) (lists : Lists) (has : Row → Type 0) (closed : Closed app
 
       handed_place : (x p : ℕ) → ActAt app f.method f.pc (Return (Some x)) → (f.registers x).place ≡ Some p → HandedFits has w.heap site p
       handed_place x p act there = handed_of p (known.registers x) there
-          (λ s h. evt app lists has closed (exit_handed {b = activation_in c f.method} is_event) (loc app lists has closed (return_points {n = node_of c f} act) (h, tt), tt))
-          (λ s q l h t. evt app lists has closed (exit_handed_taint {b = activation_in c f.method} is_event) (loc app lists has closed (return_points {n = node_of c f} act) (h, tt), (loc app lists has closed (return_taint {n = node_of c f} act) (t, tt), tt)))
+          (λ s h. evt app lists has closed laws (exit_handed {b = activation_in c f.method} is_event) (loc app lists has closed laws (return_points {n = node_of c f} act) (h, tt), tt))
+          (λ s q l h t. evt app lists has closed laws (exit_handed_taint {b = activation_in c f.method} is_event) (loc app lists has closed laws (return_points {n = node_of c f} act) (h, tt), (loc app lists has closed laws (return_taint {n = node_of c f} act) (t, tt), tt)))
 
       with_place : (x : ℕ) → ActAt app f.method f.pc (Return (Some x)) → (place : Option ℕ) → (f.registers x).place ≡ place → (p : ℕ) → In p (hand place w.handed) → HandedFits has w.heap site p
       with_place x act None e p h = known.world.handed p h

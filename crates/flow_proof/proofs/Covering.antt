@@ -1,6 +1,6 @@
 -- Each step, and so each run, keeps what is known: the theorem.
 use Rattle.std.proofs.Common.{List, refl}
-use Rattle.std.specs.Prelude.{Contains}
+use Rattle.access_path.specs.Laws.{PathLaws}
 use Rattle.app_machine.specs.declared.lists.Lists.{Lists}
 use Rattle.app_machine.specs.declared.app.App.{App}
 use Rattle.vet_base.specs.Members.{In}
@@ -22,25 +22,25 @@ use Rattle.flow_proof.proofs.Eventing.{came}
 use Rattle.flow_proof.proofs.Beginning.{known_begin, known_begin_initialiser, known_end}
 use Rattle.flow_proof.proofs.Standing.{stands_known}
 
-module _ (app : App) (lists : Lists) (has : Row → Type 0) (closed : Closed app lists has) (starts : (row : Row) → Starts app row → has row) (sound : SoundApp app) where
+module _ (app : App) (lists : Lists) (has : Row → Type 0) (closed : Closed app lists has) (laws : PathLaws) (starts : (row : Row) → Starts app row → has row) (sound : SoundApp app) where
   known_step : {w : World} {fs : List Frame} {new : World} {gs : List Frame} → Known app lists has w fs → Steps app lists w fs new gs → Known app lists has new gs
-  known_step (running site c known) (goes_on step) = known_local app lists has closed sound known step
-  known_step (running site c known) (raises raised) = raised_blank app lists has closed sound (pending_of app lists has closed known) raised
-  known_step (running site c known) (throws act raised) = known_throw app lists has closed sound known act raised
-  known_step (running site c known) (calls act goes code) = known_call app lists has closed sound known act goes refl code
+  known_step (running site c known) (goes_on step) = known_local app lists has closed laws sound known step
+  known_step (running site c known) (raises raised) = raised_blank app lists has closed laws sound (pending_of app lists has closed laws known) raised
+  known_step (running site c known) (throws act raised) = known_throw app lists has closed laws sound known act raised
+  known_step (running site c known) (calls act goes code) = known_call app lists has closed laws sound known act goes refl code
   known_step (running site c known) (calls_library act next used call) =
-      let k = known_library app lists has closed known act used call in
-      goes_writing app lists has closed k.running act next result_register _ (λ _ other. other) (k.result _ next)
-  known_step (running site c known) (library_raises act used call raised) = raised_blank app lists has closed sound (known_library app lists has closed known act used call).running raised
-  known_step (running site c known) (returns ordinary act next) = known_return app lists has closed sound known ordinary act next
-  known_step (running site c known) (initialises is_one code) = known_initialiser app lists has closed sound known is_one code
-  known_step (running site c known) (has_initialised is_one act) = known_initialised app lists has closed sound known is_one
-  known_step (running site c known) (ends act) = known_end app lists has closed known act
-  known_step (idle site fits) (passes comes none) = let e = came app lists has closed starts fits comes in idle e.sites e.world
+      let k = known_library app lists has closed laws known act used call in
+      goes_writing app lists has closed laws k.running act next result_register _ (λ _ other. other) (k.result _ next)
+  known_step (running site c known) (library_raises act used call raised) = raised_blank app lists has closed laws sound (known_library app lists has closed laws known act used call).running raised
+  known_step (running site c known) (returns ordinary act next) = known_return app lists has closed laws sound known ordinary act next
+  known_step (running site c known) (initialises is_one code) = known_initialiser app lists has closed laws sound known is_one code
+  known_step (running site c known) (has_initialised is_one act) = known_initialised app lists has closed laws sound known is_one
+  known_step (running site c known) (ends act) = known_end app lists has closed laws known act
+  known_step (idle site fits) (passes comes none) = let e = came app lists has closed laws starts fits comes in idle e.sites e.world
   known_step (idle site fits) (begins {body = body} comes code receiver parameters) =
-      let e = came app lists has closed starts fits comes in
-      known_begin app lists has closed e.world (e.begins body refl).begun code receiver parameters
-  known_step (idle site fits) (begins_initialiser may code) = known_begin_initialiser app lists has closed starts fits may code
+      let e = came app lists has closed laws starts fits comes in
+      known_begin app lists has closed laws e.world (e.begins body refl).begun code receiver parameters
+  known_step (idle site fits) (begins_initialiser may code) = known_begin_initialiser app lists has closed laws starts fits may code
 
   known_run : {w : World} {fs : List Frame} → Run app lists w fs → Known app lists has w fs
   known_run run_starts = idle (λ p. Shared 0) (record {
@@ -62,12 +62,12 @@ module _ (app : App) (lists : Lists) (has : Row → Type 0) (closed : Closed app
   pub covers_every_run : CoversEveryRun app lists has
   covers_every_run = record {
     arrivals = λ w fs run. arrivals_of (known_run run);
-    stands = λ w fs run method pc cause stands. stands_known app lists has closed starts (known_run run) stands;
+    stands = λ w fs run method pc cause stands. stands_known app lists has closed laws starts (known_run run) stands;
     safe = λ declaration declared none. record {
       declared = λ w fs run a h. let arrived = arrivals_of (known_run run) a h in declared a.label a.sink arrived.node arrived.holds;
-      never_stands = λ w fs run method pc cause stands. let unknown = stands_known app lists has closed starts (known_run run) stands in none unknown.node cause unknown.holds;
+      never_stands = λ w fs run method pc cause stands. let unknown = stands_known app lists has closed laws starts (known_run run) stands in none unknown.node cause unknown.holds;
     };
   }
 
-pub every_good_table_covers_every_run : EveryGoodTableCoversEveryRun
-every_good_table_covers_every_run app lists table sound good = covers_every_run app lists (Contains table) good.closed good.starts sound
+pub every_good_table_covers_every_run : PathLaws → EveryGoodTableCoversEveryRun
+every_good_table_covers_every_run laws app lists table sound good = covers_every_run app lists (λ row. In row table) good.closed laws good.starts sound

@@ -2,6 +2,7 @@
 use Rattle.std.proofs.Common.{◌≡◌, ◌≢◌, ◌==◌, ℕ, zero, suc, List, [], ◌∷◌, ◌++◌, length, Bool, true, false, cond, ◌⊎◌, inl, inr, Option, Some, None, refl, ap, sym, ◌∙◌, subst, arith, eq-eqb}
 use Rattle.std.proofs.lemmas.Bool.{eqb-true}
 use Rattle.std.specs.Prelude.{IsFalse, slice_get}
+use Rattle.access_path.specs.Laws.{PathLaws}
 use Rattle.access_path.specs.declared.path.Path.{Path}
 use Rattle.app_machine.specs.declared.method.Method.{Method}
 use Rattle.app_machine.specs.declared.component.Kind.{Kind}
@@ -14,22 +15,22 @@ use Rattle.app_machine.specs.Names.{Name}
 use Rattle.app_machine.specs.Heap.{ClassAt}
 use Rattle.app_machine.specs.State.{World, Component_state, object_at, new_object}
 use Rattle.app_machine.specs.LifeEvents.{LifeEvent}
-use Rattle.app_machine.specs.Events.{IsApplication, MayBegin, set_component, after_event, LifeEventAt, CallbackAt, ClickAt, HandedAt, Comes, lives, is_born, calls_back, is_clicked, is_handed, MayInitialise}
+use Rattle.app_machine.specs.Events.{IsApplication, MayBegin, set_component, after_event, LifeEventAt, HandedAt, Comes, lives, is_born, calls_back, is_clicked, is_handed, MayInitialise}
 use Rattle.fact_rows.specs.declared.context.Ctx.{Ctx}
 use Rattle.fact_rows.specs.declared.context.Ctx.TheVariants as ctx
 use Rattle.fact_rows.specs.declared.site.Site.{Site}
 use Rattle.fact_rows.specs.declared.site.Site.TheVariants.{Component}
 use Rattle.fact_rows.specs.declared.row.Row.{Row}
 use Rattle.fact_rows.specs.declared.row.Row.TheVariants.{Points, Taint, MethodEffect, Live, CompTaint}
-use Rattle.fact_rows.specs.Contexts.{IsEvent, types_of, event_types}
+use Rattle.fact_rows.specs.Contexts.{IsEvent, event_types}
 use Rattle.flow_rules.specs.Nodes.{activation_in, entry, ArgumentRegister}
 use Rattle.flow_rules.specs.Sites.{site_class, SiteClass}
 use Rattle.flow_rules.specs.EffectRules.{IsEventBeside, effect_own, effect_other}
-use Rattle.flow_rules.specs.EventRules.{Begins, ComesToLive, by_callback, by_click, life_live, life_begins, life_receiver, life_taint, life_this, live_begins, live_receiver, live_this, handed_begins, handed_receiver, handed_this, initialiser_begins, application_live}
+use Rattle.flow_rules.specs.EventRules.{Begins, ComesToLive, by_callback, by_click, life_live, life_begins, life_receiver, life_taint, life_receiver_taint, live_begins, live_receiver, live_receiver_taint, handed_begins, handed_receiver, handed_receiver_taint, initialiser_begins, application_live}
 use Rattle.flow_rules.specs.Rules.{Starts, the_application, a_component, Closed}
 use Rattle.flow_proof.proofs.Fitting.{Fits, fits_map, blank_fits}
 use Rattle.flow_proof.proofs.Growing.{NewFits, new_fits}
-use Rattle.flow_proof.proofs.Sounding.{body_proto}
+use Rattle.flow_proof.proofs.EventTypes.{life_types, callback_types_of, click_types, handed_types}
 use Rattle.flow_proof.proofs.Knowing.{ComponentFits, HandedFits, Owns, WorldFits}
 use Rattle.flow_proof.proofs.Lasting.{eff, evt, world_grown}
 
@@ -91,38 +92,12 @@ pub record Came (app : App) (lists : Lists) (has : Row → Type 0) (new : World)
   pub world : WorldFits app lists has new sites
   pub begins : (b : ℕ) → body ≡ Some b → InContext app lists has new sites place sources b
 
--- the types of the parameters of a body that was found
-found_types : (app : App) {o : Option ℕ} {body : ℕ} {m : Method} → o ≡ Some body → slice_get app.methods body ≡ Some m → types_of app o ≡ m.at.proto.params
-found_types app found there = rw found (rw (types_of, there) refl)
-
-life_types : {app : App} (lists : Lists) {c e body : ℕ} {class : Name} {life : LifeEvent} → LifeEventAt app c e class life (Some body) → (m : Method) → slice_get app.methods body ≡ Some m → event_types app lists (ctx.Row c e) ≡ m.at.proto.params
-unfolding event_types
-life_types {app} lists {c} {e} at m there = found_types app (rw at.there.there (rw at.is_event.there (rw at.of_class at.is_body))) there
-
-callback_types_of : {app : App} (lists : Lists) {c q body : ℕ} {sources : List (ℕ × ℕ)} → CallbackAt app lists c q sources body → (m : Method) → slice_get app.methods body ≡ Some m → event_types app lists (ctx.Callback c q) ≡ m.at.proto.params
-unfolding event_types
-callback_types_of {app} lists {c} {q} at m there = found_types app (rw at.there.there (rw at.is_row.there at.is_body)) there
-
-click_types : {app : App} (lists : Lists) {c i body : ℕ} → ClickAt app c i body → (m : Method) → slice_get app.methods body ≡ Some m → event_types app lists (ctx.Click c i) ≡ m.at.proto.params
-unfolding event_types
-click_types {app} lists {c} {i} at m there = found_types app (rw at.there.there (rw at.is_click.there at.is_body)) there
-
-handed_types : {app : App} (lists : Lists) {q body : ℕ} {class : Name} {sources : List (ℕ × ℕ)} → HandedAt app lists q class sources body → (m : Method) → slice_get app.methods body ≡ Some m → event_types app lists (ctx.Handed q) ≡ m.at.proto.params
-unfolding event_types
-handed_types {app} lists {q} {body} {class} at m there =
-    let has_proto = body_proto app class at.callback.name at.callback.proto body at.is_body in
-    let same : has_proto.method ≡ m = some_equal (sym has_proto.there ∙ there) in
-    rw at.is_row.there (ap (λ p. p.params) (sym has_proto.is_proto ∙ ap (λ (x : Method). x.at.proto) same))
-  where
-    some_equal : {x y : Method} → ◌≡◌ {A = Option Method} (Some x) (Some y) → x ≡ y
-    some_equal e = cc
-
 -- the site of a component has its class
 component_site : {app : App} {lists : Lists} {c : ℕ} {component : ComponentOf} → IsAt app.components c component → SiteClass app lists (Component c) component.class
 unfolding site_class
 component_site at = record { is_class = rw at.there refl }
 
-module _ (app : App) (lists : Lists) (has : Row → Type 0) (closed : Closed app lists has) (starts : (row : Row) → Starts app row → has row) where
+module _ (app : App) (lists : Lists) (has : Row → Type 0) (closed : Closed app lists has) (laws : PathLaws) (starts : (row : Row) → Starts app row → has row) where
   -- a component that may come to life has its row
   may_live : {w : World} {site : ℕ → Site} {c : ℕ} {component : ComponentOf} → WorldFits app lists has w site → MayBegin app w c → IsAt app.components c component → has (Live c 0)
   may_live {w} {site} {c} {component} fits may at = elim (find_application app.components) [ inl found ↦ with_one found (c == found.index) refl | inr none ↦ starts _ (a_component (λ a is. none a is.component is.there.there is.kind) at) ]
@@ -140,7 +115,7 @@ module _ (app : App) (lists : Lists) (has : Row → Type 0) (closed : Closed app
         | inr created ↦
             let alive : (w.components found.index).state ≢ 0 = λ absent. two_not_zero (sym created ∙ absent) in
             let live : has (Live found.index 2) = subst (λ s. has (Live found.index s)) created (fits.live found.index alive) in
-            evt app lists has closed (application_live (application found) at (test_fails c found.index e)) (live, tt)
+            evt app lists has closed laws (application_live (application found) at (test_fails c found.index e)) (live, tt)
       ]
         where
           two_not_zero : ◌≡◌ {A = ℕ} 2 0 → ⊥
@@ -166,7 +141,7 @@ module _ (app : App) (lists : Lists) (has : Row → Type 0) (closed : Closed app
   }
     where
       live_after : has (Live c life.to)
-      live_after = evt app lists has closed (life_live at) (live, tt)
+      live_after = evt app lists has closed laws (life_live at) (live, tt)
 
       after_fits : (b : Bool) → (life.to == 0) ≡ b → ComponentFits has w.heap site c (record { state = life.to; place = cond b None place })
       after_fits true e = blank_fits _ _ _ _
@@ -174,8 +149,8 @@ module _ (app : App) (lists : Lists) (has : Row → Type 0) (closed : Closed app
 
       owns : (b : ℕ) → Owns has (activation_in (ctx.Row c e) b) (set_component w.components c (after_event life place))
       owns b = changed_component (λ d s. s.state ≢ 0 → (q : Path) (l : ℕ) → has (MethodEffect (activation_in (ctx.Row c e) b) (Component d) q l) → has (CompTaint d s.state q l)) w.components c (after_event life place)
-          (λ alive q l h. eff app lists has closed (effect_own at alive) (h, tt))
-          (λ d other alive q l h. eff app lists has closed (effect_other (λ same. other (sym same)) alive) (h, (fits.live d alive, tt)))
+          (λ alive q l h. eff app lists has closed laws (effect_own at alive) (h, tt))
+          (λ d other alive q l h. eff app lists has closed laws (effect_other (λ same. other (sym same)) alive) (h, (fits.live d alive, tt)))
 
       begins : (b : ℕ) → body ≡ Some b → InContext app lists has (record w { components = set_component w.components c (after_event life place) }) site place [] b
       begins b is_body =
@@ -185,7 +160,7 @@ module _ (app : App) (lists : Lists) (has : Row → Type 0) (closed : Closed app
             begun = record {
               is_event = tt;
               owns = owns b;
-              rows = λ row way. evt app lists has closed (life_begins at_body way) (live, tt);
+              rows = λ row way. evt app lists has closed laws (life_begins at_body way) (live, tt);
               receiver = receiver b at_body;
               types = life_types lists at_body;
             };
@@ -193,8 +168,8 @@ module _ (app : App) (lists : Lists) (has : Row → Type 0) (closed : Closed app
 
   came_alive : {w : World} {site : ℕ → Site} {c e : ℕ} {class : Name} {life : LifeEvent} {body : Option ℕ} → WorldFits app lists has w site → LifeEventAt app c e class life body → (w.components c).state ≡ life.from → life.from ≢ 0 → Came app lists has (record w { components = set_component w.components c (after_event life (w.components c).place) }) body (w.components c).place []
   came_alive {w} {site} {c} {e} {class} {life} fits at in_state alive = life_came (w.components c).place fits at live
-      (λ still. fits_map (λ _ h. h) (λ q l h. evt app lists has closed (life_taint at alive still) (h, tt)) object)
-      (λ b at_body. fits_map (λ s same z takes. rw same (evt app lists has closed (life_receiver at_body takes) (live, tt))) (λ q l h z takes. evt app lists has closed (life_this at_body alive takes) (h, tt)) object)
+      (λ still. fits_map (λ _ h. h) (λ q l h. evt app lists has closed laws (life_taint at alive still) (h, tt)) object)
+      (λ b at_body. fits_map (λ s same z takes. rw same (evt app lists has closed laws (life_receiver at_body takes) (live, tt))) (λ q l h z takes. evt app lists has closed laws (life_receiver_taint at_body alive takes) (h, tt)) object)
     where
       live : has (Live c life.from)
       live = subst (λ s. has (Live c s)) in_state (fits.live c (λ absent. alive (sym in_state ∙ absent)))
@@ -203,9 +178,9 @@ module _ (app : App) (lists : Lists) (has : Row → Type 0) (closed : Closed app
       object = subst (λ s. Fits w.heap site (object_at (w.components c).place) (λ x. x ≡ Component c) (λ q l. has (CompTaint c s q l))) in_state (fits.components c)
 
   came_born : {w : World} {site : ℕ → Site} {c e : ℕ} {class : Name} {life : LifeEvent} {body : Option ℕ} → WorldFits app lists has w site → LifeEventAt app c e class life body → (w.components c).state ≡ 0 → life.from ≡ 0 → MayBegin app w c → Came app lists has (record w { heap = w.heap ++ new_object class ∷ []; components = set_component w.components c (after_event life (Some (length w.heap))) }) body (Some (length w.heap)) []
-  came_born {w} {site} {c} {e} {class} {life} fits at in_state absent may = life_came (Some (length w.heap)) (world_grown app lists has closed fits no_entries) at live
+  came_born {w} {site} {c} {e} {class} {life} fits at in_state absent may = life_came (Some (length w.heap)) (world_grown app lists has closed laws fits no_entries) at live
       (λ _. new_fits w.heap site (Component c) (new_object class) [] (λ x. x ≡ Component c) _ refl (λ l h. absurd h) (λ k v h. absurd h))
-      (λ b at_body. new_fits w.heap site (Component c) (new_object class) [] _ _ (λ z takes. evt app lists has closed (life_receiver at_body takes) (live, tt)) (λ l h. absurd h) (λ k v h. absurd h))
+      (λ b at_body. new_fits w.heap site (Component c) (new_object class) [] _ _ (λ z takes. evt app lists has closed laws (life_receiver at_body takes) (live, tt)) (λ l h. absurd h) (λ k v h. absurd h))
     where
       no_entries : NewFits app lists has w.heap site (Component c) (new_object class)
       no_entries = record { within = λ _ _ _ h _. absurd h; cell = λ _ _ _ h _. absurd h; class = subst (λ x. SiteClass app lists (Component c) x) at.of_class (component_site at.there) }
@@ -223,9 +198,9 @@ module _ (app : App) (lists : Lists) (has : Row → Type 0) (closed : Closed app
       begun : Begun app lists has w site (w.components c).place sources k body
       begun = record {
         is_event = is_event;
-        owns = λ d there q l h. eff app lists has closed (effect_other (beside d) there) (h, (fits.live d there, tt));
-        rows = λ row way. evt app lists has closed (live_begins to alive way) (live, tt);
-        receiver = fits_map (λ s same z takes. rw same (evt app lists has closed (live_receiver to alive takes) (live, tt))) (λ q l h z takes. evt app lists has closed (live_this to alive takes) (h, tt)) (fits.components c);
+        owns = λ d there q l h. eff app lists has closed laws (effect_other (beside d) there) (h, (fits.live d there, tt));
+        rows = λ row way. evt app lists has closed laws (live_begins to alive way) (live, tt);
+        receiver = fits_map (λ s same z takes. rw same (evt app lists has closed laws (live_receiver to alive takes) (live, tt))) (λ q l h z takes. evt app lists has closed laws (live_receiver_taint to alive takes) (h, tt)) (fits.components c);
         types = types;
       }
 
@@ -244,9 +219,9 @@ module _ (app : App) (lists : Lists) (has : Row → Type 0) (closed : Closed app
       begun : Begun app lists has w site (Some p) sources (ctx.Handed q) body
       begun = record {
         is_event = tt;
-        owns = λ d there y l e. eff app lists has closed (effect_other tt there) (e, (fits.live d there, tt));
-        rows = λ row way. evt app lists has closed (handed_begins of_site at way) (h.row, tt);
-        receiver = fits_map (λ s same z takes. rw same (evt app lists has closed (handed_receiver of_site at takes) (h.row, tt))) (λ y l t z takes. evt app lists has closed (handed_this of_site at takes) (t, tt)) h.fits;
+        owns = λ d there y l e. eff app lists has closed laws (effect_other tt there) (e, (fits.live d there, tt));
+        rows = λ row way. evt app lists has closed laws (handed_begins of_site at way) (h.row, tt);
+        receiver = fits_map (λ s same z takes. rw same (evt app lists has closed laws (handed_receiver of_site at takes) (h.row, tt))) (λ y l t z takes. evt app lists has closed laws (handed_receiver_taint of_site at takes) (t, tt)) h.fits;
         types = handed_types lists at;
       }
 
@@ -262,7 +237,7 @@ module _ (app : App) (lists : Lists) (has : Row → Type 0) (closed : Closed app
 
   -- the rows with which an initialiser begins
   pub initialiser_rows : {w : World} {site : ℕ → Site} {body : ℕ} → WorldFits app lists has w site → (may : MayInitialise app w body) → (row : Row) → Begins app (ctx.Init may.c) body [] row → has row
-  initialiser_rows fits may row way = evt app lists has closed (initialiser_begins may.at way) (may_live fits may.begins may.at.there, tt)
+  initialiser_rows fits may row way = evt app lists has closed laws (initialiser_begins may.at way) (may_live fits may.begins may.at.there, tt)
 
   pub initialiser_owns : {w : World} {site : ℕ → Site} {body : ℕ} → WorldFits app lists has w site → (c : ℕ) → Owns has (activation_in (ctx.Init c) body) w.components
-  initialiser_owns fits c d there q l h = eff app lists has closed (effect_other tt there) (h, (fits.live d there, tt))
+  initialiser_owns fits c d there q l h = eff app lists has closed laws (effect_other tt there) (h, (fits.live d there, tt))

@@ -1,9 +1,10 @@
 -- When rows fit a value in a heap, and how this lasts over a change of the heap.
-use Rattle.std.proofs.Common.{◌≡◌, ℕ, ◌<◌, List, [], ◌∷◌, length, ◌⊎◌, inl, inr, Option, Some, None, arith}
+use Rattle.std.proofs.Common.{◌≡◌, ℕ, ◌<◌, List, [], ◌∷◌, length, ◌⊎◌, inl, inr, Some, arith}
+use Rattle.std.proofs.lemmas.Option.{none-some}
 use Rattle.vet_base.specs.declared.key_id.KeyId.{KeyId}
 use Rattle.access_path.specs.declared.path.Path.{Path}
+use Rattle.access_path.specs.Laws.{PathLaws}
 use Rattle.access_path.specs.Paths.{Covers, cut}
-use Rattle.access_path.proofs.PathLaws.{cut-covers}
 use Rattle.app_machine.specs.declared.app.App.{App}
 use Rattle.app_machine.specs.declared.lists.Lists.{Lists}
 use Rattle.vet_base.specs.Members.{In}
@@ -32,21 +33,15 @@ pub record HeapFits (app : App) (lists : Lists) (has : Row → Type 0) (heap : L
   pub cell : (p : ℕ) (k : KeyId) (w : Value) (t : ℕ) → EntryAt heap p k w → w.place ≡ Some t → has (Cell (site p) k (site t))
   pub class : (p : ℕ) (c : Name) → ClassAt heap p c → SiteClass app lists (site p) c
 
-pub none_some : {A : Type 0} (p : ℕ) → ◌≡◌ {A = Option ℕ} None (Some p) → A
-none_some p e = cc
-
-pub some_same : {a b : ℕ} → ◌≡◌ {A = Option ℕ} (Some a) (Some b) → a ≡ b
-some_same e = cc
-
 pub covered_map : {T T' : Path → ℕ → Type 0} {ks : List KeyId} {label : ℕ} → ((q : Path) (l : ℕ) → T q l → T' q l) → Covered T ks label → Covered T' ks label
 covered_map f c = record { path = c.path; covers = c.covers; row = f c.path _ c.row }
 
 -- a value without a place is known by its own labels
 pub placeless_fits : (heap : List Object) (site : ℕ → Site) (labels : List ℕ) (points : Site → Type 0) (taints : Path → ℕ → Type 0) → ((l : ℕ) → In l labels → Covered taints [] l) → Fits heap site (labelled labels) points taints
 placeless_fits heap site labels points taints own = record {
-  within = λ p e. none_some p e;
-  pointed = λ p e. none_some p e;
-  tainted = elim [ [] ↦ λ label h. own label h | k ∷ ks ↦ λ label h. none_some h.0 h.1 ];
+  within = λ p e. absurd (none-some p e);
+  pointed = λ p e. absurd (none-some p e);
+  tainted = elim [ [] ↦ λ label h. own label h | k ∷ ks ↦ λ label h. absurd (none-some h.0 h.1) ];
 }
 
 pub blank_fits : (heap : List Object) (site : ℕ → Site) (points : Site → Type 0) (taints : Path → ℕ → Type 0) → Fits heap site blank points taints
@@ -91,10 +86,10 @@ pub record Affected (effect : Site → Path → ℕ → Type 0) (site : ℕ → 
   pub covered : Covered (effect (site place)) ks label
 
 -- The central lemma: after a change each walk is an old one, or the effect on its first object covers it.
-pub walk_after : {app : App} {lists : Lists} {has : Row → Type 0} {effect : Site → Path → ℕ → Type 0} {site : ℕ → Site} {heap heap' : List Object} → HeapFits app lists has heap site → Changed has effect site heap heap' → (ks : List KeyId) (v : Value) (label : ℕ) → Reaches heap' v ks label → Reaches heap v ks label ⊎ Affected effect site v ks label
-walk_after fits changed [] v label h = inl h
-walk_after {app} {lists} {has} {effect} {site} {heap} {heap'} fits changed (k ∷ ks) v label (p, there, (w, entered, walk)) =
-    elim (walk_after fits changed ks w label walk) [
+pub walk_after : PathLaws → {app : App} {lists : Lists} {has : Row → Type 0} {effect : Site → Path → ℕ → Type 0} {site : ℕ → Site} {heap heap' : List Object} → HeapFits app lists has heap site → Changed has effect site heap heap' → (ks : List KeyId) (v : Value) (label : ℕ) → Reaches heap' v ks label → Reaches heap v ks label ⊎ Affected effect site v ks label
+walk_after laws fits changed [] v label h = inl h
+walk_after laws {app} {lists} {has} {effect} {site} {heap} {heap'} fits changed (k ∷ ks) v label (p, there, (w, entered, walk)) =
+    elim (walk_after laws fits changed ks w label walk) [
       | inl old ↦ elim (changed.entries p k w entered) [
         | inl before ↦ inl (p, there, (w, before, old))
         | inr put ↦ inr (record { place = p; there = there; covered = put.covered ks label old })
@@ -108,17 +103,17 @@ walk_after {app} {lists} {has} {effect} {site} {heap} {heap'} fits changed (k �
       there = there;
       covered = record {
         path = cut k a.covered.path;
-        covers = cut-covers k a.covered.path ks a.covered.covers;
+        covers = laws.cut k a.covered.path ks a.covered.covers;
         row = changed.lift k label (site p) (site a.place) a.covered.path a.covered.row ((heap_changed fits changed).cell p k w a.place entered a.there);
       };
     }
 
 -- So a value that the rows knew is known with the effect besides.
-pub fits_after : {app : App} {lists : Lists} {has : Row → Type 0} {effect : Site → Path → ℕ → Type 0} {site : ℕ → Site} {heap heap' : List Object} → HeapFits app lists has heap site → Changed has effect site heap heap' → {v : Value} {P : Site → Type 0} {T T' : Path → ℕ → Type 0} → ((q : Path) (l : ℕ) → T q l ⊎ Touched P effect q l → T' q l) → Fits heap site v P T → Fits heap' site v P T'
-fits_after {app} {lists} {has} {effect} {site} {heap} {heap'} heap_fits changed {v} {P} {T} {T'} take_in fits = record {
+pub fits_after : PathLaws → {app : App} {lists : Lists} {has : Row → Type 0} {effect : Site → Path → ℕ → Type 0} {site : ℕ → Site} {heap heap' : List Object} → HeapFits app lists has heap site → Changed has effect site heap heap' → {v : Value} {P : Site → Type 0} {T T' : Path → ℕ → Type 0} → ((q : Path) (l : ℕ) → T q l ⊎ Touched P effect q l → T' q l) → Fits heap site v P T → Fits heap' site v P T'
+fits_after laws {app} {lists} {has} {effect} {site} {heap} {heap'} heap_fits changed {v} {P} {T} {T'} take_in fits = record {
   within = λ p e. let below = fits.within p e in let same = changed.same_length in omega arith;
   pointed = fits.pointed;
-  tainted = λ ks label h. go ks label (walk_after heap_fits changed ks v label h);
+  tainted = λ ks label h. go ks label (walk_after laws heap_fits changed ks v label h);
 }
   where
     go : (ks : List KeyId) (label : ℕ) → Reaches heap v ks label ⊎ Affected effect site v ks label → Covered T' ks label

@@ -2,6 +2,7 @@
 use Rattle.std.proofs.Common.{◌≡◌, ◌==◌, ℕ, ◌<◌, List, [], ◌∷◌, ◌++◌, length, cond, ◌⊎◌, inl, inr, Some, refl, sym, subst, arith, eq-eqb}
 use Rattle.std.proofs.lemmas.List.{length-append}
 use Rattle.std.proofs.lemmas.Bool.Decides.{eqb_tells}
+use Rattle.std.proofs.lemmas.Option.{same_Some}
 use Rattle.vet_base.specs.declared.key_id.KeyId.{KeyId}
 use Rattle.access_path.specs.declared.path.Path.{Path}
 use Rattle.app_machine.specs.declared.app.App.{App}
@@ -14,7 +15,7 @@ use Rattle.fact_rows.specs.declared.row.Row.{Row}
 use Rattle.fact_rows.specs.declared.row.Row.TheVariants.{Cell}
 use Rattle.flow_rules.specs.Sites.{SiteClass}
 use Rattle.flow_proof.proofs.HeapLaws.{EntryAt-append, EntryAt-within, EntryAt-new, ClassAt-append, ClassAt-within}
-use Rattle.flow_proof.proofs.Fitting.{Fits, HeapFits, Covered, some_same}
+use Rattle.flow_proof.proofs.Fitting.{Fits, HeapFits, Covered}
 
 -- the sites when the object at the place is new
 abbrev pub with_site : (ℕ → Site) → ℕ → Site → ℕ → Site
@@ -76,7 +77,7 @@ heap_grown {app} {lists} {has} {site} {heap} {o} {new} fits new_fits = record {
 -- the new object in a value
 pub new_fits : (heap : List Object) (site : ℕ → Site) (new : Site) (o : Object) (labels : List ℕ) (points : Site → Type 0) (taints : Path → ℕ → Type 0) → points new → ((l : ℕ) → In l labels → Covered taints [] l) → ((k : KeyId) (w : Value) → In (k, w) o.entries → (ks : List KeyId) (l : ℕ) → Reaches (heap ++ o ∷ []) w ks l → Covered taints (k ∷ ks) l) → Fits (heap ++ o ∷ []) (with_site site (length heap) new) (record { place = Some (length heap); labels = labels }) points taints
 new_fits heap site new o labels points taints pointed own entries = record {
-  within = λ p e. let same = some_same e in omega (arith, length-append heap (o ∷ []));
-  pointed = λ p e. subst (λ q. points (with_site site (length heap) new q)) (some_same e) (rw with_site-new pointed);
-  tainted = elim [ [] ↦ λ l h. own l h | k ∷ ks ↦ λ l h. entries k h.2.0 (EntryAt-new heap o h.0 k h.2.0 (some_same h.1) h.2.1) ks l h.2.2 ];
+  within = λ p e. let same = same_Some _ _ e in omega (arith, length-append heap (o ∷ []));
+  pointed = λ p e. subst (λ q. points (with_site site (length heap) new q)) (same_Some _ _ e) (rw with_site-new pointed);
+  tainted = elim [ [] ↦ λ l h. own l h | k ∷ ks ↦ λ l h. entries k h.2.0 (EntryAt-new heap o h.0 k h.2.0 (same_Some _ _ h.1) h.2.1) ks l h.2.2 ];
 }

@@ -1,7 +1,9 @@
 -- What the rows of a closed set know of a state.
-use Rattle.std.proofs.Common.{◌≡◌, ◌≢◌, ◌==◌, ℕ, List, [], ◌∷◌, Bool, true, false, cond, ◌||◌, ◌⊎◌, inl, inr, Some, None, refl, ap, sym, ◌∙◌, subst, arith}
+use Rattle.std.proofs.Common.{◌≡◌, ◌≢◌, ◌==◌, ℕ, List, [], ◌∷◌, Bool, true, false, cond, ◌⊎◌, Some, None, refl, ap, sym, ◌∙◌, subst, arith}
 use Rattle.std.proofs.lemmas.Bool.{eqb-true}
 use Rattle.std.specs.Prelude.{IsFalse}
+use Rattle.std.proofs.lemmas.Option.{same_Some}
+use Rattle.vet_base.proofs.Members.{one_passes}
 use Rattle.access_path.specs.declared.path.Path.{Path}
 use Rattle.app_machine.specs.declared.call.MethodRef.{MethodRef}
 use Rattle.app_machine.specs.declared.call.CallKind.{CallKind}
@@ -22,7 +24,7 @@ use Rattle.fact_rows.specs.declared.row.Row.TheVariants.{Reached, Points, Taint,
 use Rattle.fact_rows.specs.Contexts.{IsEvent}
 use Rattle.flow_rules.specs.Nodes.{activation_in, InitialisedBy}
 use Rattle.flow_proof.specs.Covering.{InSomeContext}
-use Rattle.flow_proof.proofs.Fitting.{Fits, HeapFits, Touched, covered_map, some_same}
+use Rattle.flow_proof.proofs.Fitting.{Fits, HeapFits, Touched, covered_map}
 
 abbrev pub node_of : Ctx → Frame → Node
 node_of c f = record { by = record { ctx = c; method = f.method }; pc = f.pc }
@@ -57,12 +59,7 @@ written P registers d v new old r = go (r == d) refl
     go false e = old r e
 
 held_in : (ds : List ℕ) (r : ℕ) → holds ds r ≡ true → In r ds
-held_in [] r h = absurd (let none : ⊥ = cc in none)
-held_in (d ∷ ds) r h = go (r == d) (held_in ds r) refl h
-  where
-    go : (b : Bool) → (holds ds r ≡ true → In r ds) → (r == d) ≡ b → (b || holds ds r) ≡ true → In r (d ∷ ds)
-    go true later e more = inl (eqb-true r d e)
-    go false later e more = inr (later more)
+held_in ds r h = let found = one_passes (λ d. r == d) ds h in subst (λ d. In d ds) (sym (eqb-true r found.0 found.2)) found.1
 
 pub written_all : (P : ℕ → Value → Type 0) (registers : ℕ → Value) (ds : List ℕ) (v : Value) → ((d : ℕ) → In d ds → P d v) → ((r : ℕ) → IsFalse (holds ds r) → P r (registers r)) → (r : ℕ) → P r (write_all registers ds v r)
 written_all P registers ds v new old r = go (holds ds r) refl
@@ -143,8 +140,8 @@ handed_of {has} {heap} {site} {v} {P} {T} p fits there row taint = record {
   of = site p;
   row = row _ (fits.pointed p there);
   fits = record {
-    within = λ q e. let same = some_same e in let below = fits.within p there in omega arith;
-    pointed = λ q e. ap site (sym (some_same e));
+    within = λ q e. let same = same_Some _ _ e in let below = fits.within p there in omega arith;
+    pointed = λ q e. ap site (sym (same_Some _ _ e));
     tainted = elim [ [] ↦ λ l h. absurd h | k ∷ ks ↦ λ l h. covered_map (λ q l t. taint _ q l (fits.pointed p there) t) (fits.tainted (k ∷ ks) l (h.0, there ∙ h.1, h.2)) ];
   };
 }

@@ -1,7 +1,9 @@
 -- How what is known lasts over an effect of the running node, over a new object and over a step to another pc.
 use Rattle.std.proofs.Common.{◌≡◌, ◌≢◌, ◌==◌, ℕ, List, [], ◌∷◌, ◌++◌, length, Bool, ◌⊎◌, inl, inr, Option, Some, None, refl, sym, ◌∙◌, subst}
 use Rattle.std.specs.Prelude.{IsFalse}
+use Rattle.std.proofs.lemmas.Option.{none-some}
 use Rattle.vet_base.specs.declared.key_id.KeyId.{KeyId}
+use Rattle.access_path.specs.Laws.{PathLaws}
 use Rattle.access_path.specs.declared.path.Path.{Path}
 use Rattle.access_path.specs.Paths.{cut}
 use Rattle.app_machine.specs.declared.method.Act.{Act}
@@ -11,6 +13,7 @@ use Rattle.vet_base.specs.Members.{In}
 use Rattle.app_machine.specs.Lookups.{ActAt, Goes}
 use Rattle.app_machine.specs.Heap.{Value, Object}
 use Rattle.app_machine.specs.State.{exception_register, holds, write, write_all, World, Frame}
+use Rattle.app_machine.specs.Local.{writes}
 use Rattle.fact_rows.specs.declared.context.Ctx.{Ctx}
 use Rattle.fact_rows.specs.declared.context.Activation.{Activation}
 use Rattle.fact_rows.specs.declared.context.Node.{Node}
@@ -18,18 +21,18 @@ use Rattle.fact_rows.specs.declared.site.Site.{Site}
 use Rattle.fact_rows.specs.declared.site.Site.TheVariants.{Component}
 use Rattle.fact_rows.specs.declared.row.Row.{Row}
 use Rattle.fact_rows.specs.declared.row.Row.TheVariants.{Points, Taint, Cell, StaticPoints, StaticTaint, CalledBy, Effect, MethodEffect, CompTaint, Handed, HandedTaint}
-use Rattle.flow_rules.specs.Nodes.{at_pc, activation_in, Act_of, Next_of, Catch_of, writes}
-use Rattle.flow_rules.specs.LocalRules.{LocalRule, reach_next, keep_points, keep_taint, catch_points, catch_taint, cell_back}
-use Rattle.flow_rules.specs.EffectRules.{EffectRule, lift_effect, effect_next, effect_catch, method_effect, caller_effect, effect_static, effect_handed}
+use Rattle.flow_rules.specs.Nodes.{at_pc, activation_in, Acts, GoesOn, CaughtAt}
+use Rattle.flow_rules.specs.LocalRules.{LocalRule, reach_next, keep_points, keep_taint, keep_points_caught, keep_taint_caught, cell_back}
+use Rattle.flow_rules.specs.EffectRules.{EffectRule, lift_effect, effect_next, effect_caught, method_effect, caller_effect, effect_static, effect_handed}
 use Rattle.flow_rules.specs.CallRules.{CallRule, initialiser_taint}
 use Rattle.flow_rules.specs.LibraryRules.{LibraryRule}
 use Rattle.flow_rules.specs.EventRules.{EventRule}
 use Rattle.flow_rules.specs.Rules.{by_local, by_effect, by_call, by_library, by_event, Each, Closed}
-use Rattle.flow_proof.proofs.Fitting.{HeapFits, Changed, Touched, fits_map, fits_after, heap_changed, blank_fits, none_some}
+use Rattle.flow_proof.proofs.Fitting.{HeapFits, Changed, Touched, fits_map, fits_after, heap_changed, blank_fits}
 use Rattle.flow_proof.proofs.Growing.{with_site, fits_grown, heap_grown, NewFits}
 use Rattle.flow_proof.proofs.Knowing.{node_of, Pending, RegisterFits, PendingFits, SharedOnly, written, written_all, ComponentFits, WorldFits, Waits, none_waits, waits_call, waits_initialiser, Running, Runs, RunsPending, Known, running, waits_map}
 
-module _ (app : App) (lists : Lists) (has : Row → Type 0) (closed : Closed app lists has) where
+module _ (app : App) (lists : Lists) (has : Row → Type 0) (closed : Closed app lists has) (laws : PathLaws) where
   -- the rules, applied to rows that are there
   pub loc : {rule : ℕ} {ps : List Row} {row : Row} → LocalRule app rule ps row → Each has ps → has row
   loc r h = closed _ _ _ (by_local r) h
@@ -62,7 +65,7 @@ module _ (app : App) (lists : Lists) (has : Row → Type 0) (closed : Closed app
   waits_after fits changed carry (none_waits at_bottom) = none_waits at_bottom
   waits_after {bottom} {effect} {heap} {heap'} {site} {b} fits changed carry (waits_call {g = g} c kind at args act reached called registers more) =
       waits_call c kind at args act reached called
-      (λ r. fits_after fits changed (take_in r) (registers r))
+      (λ r. fits_after laws fits changed (take_in r) (registers r))
       (waits_after fits changed (in_caller {n = node_of c g} carry called) more)
     where
       take_in : (r : ℕ) (q : Path) (l : ℕ) → Pending has (node_of c g) r q l ⊎ Touched (λ s. has (Points (node_of c g) r s)) effect q l → Pending has (node_of c g) r q l
@@ -70,7 +73,7 @@ module _ (app : App) (lists : Lists) (has : Row → Type 0) (closed : Closed app
       take_in r q l (inr (s, points, e)) = inr (s, points, at_caller carry called s q l e)
   waits_after {bottom} {effect} {heap} {heap'} {site} {b} fits changed carry (waits_initialiser {g = g} c is_one reached called registers more) =
       waits_initialiser c is_one reached called
-      (λ r. fits_after fits changed (take_in r) (registers r))
+      (λ r. fits_after laws fits changed (take_in r) (registers r))
       (waits_after fits changed (in_caller {n = node_of c g} carry called) more)
     where
       take_in : (r : ℕ) (q : Path) (l : ℕ) → has (Taint (node_of c g) r q l) ⊎ Touched (λ s. has (Points (node_of c g) r s)) effect q l → has (Taint (node_of c g) r q l)
@@ -87,12 +90,12 @@ module _ (app : App) (lists : Lists) (has : Row → Type 0) (closed : Closed app
   world_after : {w : World} {site : ℕ → Site} {n : Node} {heap : List Object} → WorldFits app lists has w site → ((c : ℕ) → (w.components c).state ≢ 0 → (q : Path) (l : ℕ) → has (Effect n (Component c) q l) → has (CompTaint c (w.components c).state q l)) → Changed has (λ s q l. has (Effect n s q l)) site w.heap heap → WorldFits app lists has (record w { heap = heap }) site
   world_after {w} {site} {n} {heap} fits reaches changed = record {
     heap = heap_changed fits.heap changed;
-    statics = λ g. fits_after fits.heap changed (take_in g) (fits.statics g);
+    statics = λ g. fits_after laws fits.heap changed (take_in g) (fits.statics g);
     arrivals = fits.arrivals;
     live = fits.live;
     absent = fits.absent;
     components = λ c. component c (w.components c).place refl;
-    handed = λ p h. let old = fits.handed p h in record { of = old.of; row = old.row; fits = fits_after fits.heap changed (at_handed old.of old.row) old.fits };
+    handed = λ p h. let old = fits.handed p h in record { of = old.of; row = old.row; fits = fits_after laws fits.heap changed (at_handed old.of old.row) old.fits };
   }
     where
       take_in : (g : ℕ) (q : Path) (l : ℕ) → has (StaticTaint g q l) ⊎ Touched (λ s. has (StaticPoints g s) × SharedOnly app g s) (λ s p k. has (Effect n s p k)) q l → has (StaticTaint g q l)
@@ -109,13 +112,13 @@ module _ (app : App) (lists : Lists) (has : Row → Type 0) (closed : Closed app
 
       component : (c : ℕ) (place : Option ℕ) → (w.components c).place ≡ place → ComponentFits has heap site c (w.components c)
       component c None e = rw e (blank_fits heap site (λ x. x ≡ Component c) (λ q l. has (CompTaint c (w.components c).state q l)))
-      component c (Some p) e = fits_after fits.heap changed (at_component c (λ zero_state. none_some p (sym (fits.absent c zero_state) ∙ e))) (fits.components c)
+      component c (Some p) e = fits_after laws fits.heap changed (at_component c (λ zero_state. absurd (none-some p (sym (fits.absent c zero_state) ∙ e)))) (fits.components c)
 
   pub running_after : {w : World} {site : ℕ → Site} {c : Ctx} {f : Frame} {fs : List Frame} {heap : List Object} → Runs app lists has w site c f fs → Changed has (λ s q l. has (Effect (node_of c f) s q l)) site w.heap heap → RunsPending app lists has (record w { heap = heap }) site c f fs
   running_after {w} {site} {c} {f} {fs} {heap} known changed = record {
     reached = known.reached;
     world = world_after known.world (λ d there q l e. known.event.owns d there q l (bottom_effect {effect = λ s q l. has (Effect (node_of c f) s q l)} known.waits of_method (Component d) q l e)) changed;
-    registers = λ r. fits_after known.world.heap changed (λ q l t. t) (known.registers r);
+    registers = λ r. fits_after laws known.world.heap changed (λ q l t. t) (known.registers r);
     event = known.event;
     waits = waits_after known.world.heap changed of_method known.waits;
   }
@@ -134,19 +137,19 @@ module _ (app : App) (lists : Lists) (has : Row → Type 0) (closed : Closed app
   }
 
   -- a register at the next node, and at a handler
-  pub settle_next : {heap : List Object} {site : ℕ → Site} {n : Node} {act : Act} {pc r : ℕ} {v : Value} → Act_of app n act → Next_of app n pc → IsFalse (writes act r) → PendingFits has n heap site r v → RegisterFits has (at_pc n pc) heap site r v
+  pub settle_next : {heap : List Object} {site : ℕ → Site} {n : Node} {act : Act} {pc r : ℕ} {v : Value} → Acts app n act → GoesOn app n pc → IsFalse (writes act r) → PendingFits has n heap site r v → RegisterFits has (at_pc n pc) heap site r v
   settle_next {n = n} {pc = pc} {r = r} act goes other fits = fits_map (λ s h. loc (keep_points {n = n} act other goes) (h, tt)) take_in fits
     where
       take_in : (q : Path) (l : ℕ) → Pending has n r q l → has (Taint (at_pc n pc) r q l)
       take_in q l (inl t) = loc (keep_taint {n = n} act other goes) (t, tt)
       take_in q l (inr (s, points, e)) = eff (effect_next {n = n} goes) (e, (loc (keep_points {n = n} act other goes) (points, tt), tt))
 
-  pub settle_catch : {heap : List Object} {site : ℕ → Site} {n : Node} {pc r : ℕ} {v : Value} → Catch_of app n pc → IsFalse (r == exception_register) → PendingFits has n heap site r v → RegisterFits has (at_pc n pc) heap site r v
-  settle_catch {n = n} {pc = pc} {r = r} caught other fits = fits_map (λ s h. loc (catch_points {n = n} other caught) (h, tt)) take_in fits
+  pub settle_catch : {heap : List Object} {site : ℕ → Site} {n : Node} {pc r : ℕ} {v : Value} → CaughtAt app n pc → IsFalse (r == exception_register) → PendingFits has n heap site r v → RegisterFits has (at_pc n pc) heap site r v
+  settle_catch {n = n} {pc = pc} {r = r} caught other fits = fits_map (λ s h. loc (keep_points_caught {n = n} other caught) (h, tt)) take_in fits
     where
       take_in : (q : Path) (l : ℕ) → Pending has n r q l → has (Taint (at_pc n pc) r q l)
-      take_in q l (inl t) = loc (catch_taint {n = n} other caught) (t, tt)
-      take_in q l (inr (s, points, e)) = eff (effect_catch {n = n} caught) (e, (loc (catch_points {n = n} other caught) (points, tt), tt))
+      take_in q l (inl t) = loc (keep_taint_caught {n = n} other caught) (t, tt)
+      take_in q l (inr (s, points, e)) = eff (effect_caught {n = n} caught) (e, (loc (keep_points_caught {n = n} other caught) (points, tt), tt))
 
   -- a new object leaves all that is known as it is
   pub world_grown : {w : World} {site : ℕ → Site} {new : Site} {o : Object} → WorldFits app lists has w site → NewFits app lists has w.heap site new o → WorldFits app lists has (record w { heap = w.heap ++ o ∷ [] }) (with_site site (length w.heap) new)

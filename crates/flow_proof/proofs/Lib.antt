@@ -7,7 +7,14 @@ pub mod Sounding
 pub mod Stepping
 pub mod Framing
 pub mod Librarian
+pub mod EventTypes
 pub mod Eventing
 pub mod Beginning
 pub mod Standing
 pub mod Covering
+pub mod Places
+pub mod StayingSteps
+pub mod StayingCalls
+pub mod StayingLibrary
+pub mod StayingEvents
+pub mod Staying

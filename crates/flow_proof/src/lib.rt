@@ -1,7 +1,11 @@
-//! The soundness of the rules: every closed set of rows covers every run of the machine.
+//! The soundness of the rules: every closed set of rows covers every run of the machine. And what the
+//! rules give of rows in the app is in the app.
 #![tactic(auto)]
 
 ghost use Rattle.flow_proof.specs.Covering.{EveryGoodTableCoversEveryRun};
+ghost use Rattle.flow_proof.specs.Staying.{RulesStayInApp};
+
+use access_path::paths_keep_their_laws;
 
 /// The soundness theorem.
 ///
@@ -12,4 +16,16 @@ ghost use Rattle.flow_proof.specs.Covering.{EveryGoodTableCoversEveryRun};
 /// `Unknown` row is there, app, lists and declaration are safe.
 pub fn every_good_table_covers_every_run()
     ensures { EveryGoodTableCoversEveryRun }
-{}
+{
+    paths_keep_their_laws();
+}
+
+/// What the rules give of rows in the app is in the app.
+///
+/// For each sound app and sound lists: the start rows name only what app and lists have, what
+/// follows from rows that do so does so too, and hence each derivable row does.
+pub fn rules_stay_in_app()
+    ensures { RulesStayInApp }
+{
+    paths_keep_their_laws();
+}

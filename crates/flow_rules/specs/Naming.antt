@@ -1,4 +1,4 @@
--- Which activations a row names, by which a solver divides its work.
+-- Which activations the start rows together name, by which a solver divides its work.
 use Rattle.std.specs.Prelude.{◌≡◌, ℕ, List, [], ◌∷◌, Option}
 use Rattle.app_machine.specs.declared.component.Component.{Component}
 use Rattle.app_machine.specs.declared.lists.Lists.{Lists}
@@ -9,41 +9,27 @@ use Rattle.app_machine.specs.LifeEvents.{LifeEvent}
 use Rattle.app_machine.specs.Events.{IsApplication, LifeEventAt}
 use Rattle.fact_rows.specs.declared.context.Activation.{Activation}
 use Rattle.fact_rows.specs.declared.row.Row.{Row}
-use Rattle.fact_rows.specs.declared.row.Row.TheVariants.{Reached, Points, Taint, Cell, Back, StaticPoints, StaticTaint, Calls, CalledBy, Effect, MethodEffect, ExitPoints, ExitTaint, Live, CompTaint, Handed, HandedTaint, Arrive, Unknown, Uses}
+use Rattle.fact_rows.specs.declared.row.Row.TheVariants.{Live}
+use Rattle.fact_rows.specs.Naming.{Names}
 use Rattle.flow_rules.specs.EventRules.{EventRule}
 use Rattle.flow_rules.specs.Rules.{Starts}
 
--- the activations in a row's fields and in its nodes; sites are not looked into
-abbrev pub activations_in : Row → List Activation
-activations_in (Reached n) = n.by ∷ []
-activations_in (Points n r s) = n.by ∷ []
-activations_in (Taint n r p l) = n.by ∷ []
-activations_in (Cell s k t) = []
-activations_in (Back t k s) = []
-activations_in (StaticPoints g s) = []
-activations_in (StaticTaint g p l) = []
-activations_in (Calls n b) = n.by ∷ b ∷ []
-activations_in (CalledBy b n) = b ∷ n.by ∷ []
-activations_in (Effect n s p l) = n.by ∷ []
-activations_in (MethodEffect a s p l) = a ∷ []
-activations_in (ExitPoints a how s) = a ∷ []
-activations_in (ExitTaint a how p l) = a ∷ []
-activations_in (Live c state) = []
-activations_in (CompTaint c state p l) = []
-activations_in (Handed s) = []
-activations_in (HandedTaint s p l) = []
-activations_in (Arrive l sink n) = n.by ∷ []
-activations_in (Unknown n cause) = n.by ∷ []
-activations_in (Uses n u) = n.by ∷ []
-
-abbrev pub Names : Row → Activation → Type 0
-Names row a = In a (activations_in row)
-
 -- The states to which components come without any other row: from the starts by rules 40 and 47 alone.
-pub data ComesToState (app : App) : ℕ → ℕ → Type 0 where
-  from_start : {c state : ℕ} → Starts app (Live c state) → ComesToState app c state
-  by_event : {c e : ℕ} {class : Name} {life : LifeEvent} {body : Option ℕ} → LifeEventAt app c e class life body → ComesToState app c life.from → ComesToState app c life.to
-  by_application : {a c : ℕ} {component : Component} → IsApplication app a → IsAt app.components c component → (c ≡ a → ⊥) → ComesToState app a 2 → ComesToState app c 0
+module _ (app : App) where
+  pub data ComesToState : ℕ → ℕ → Type 0 where
+    from_start : {c state : ℕ} →
+        Starts app (Live c state) →
+        ComesToState c state
+    by_event : {c e : ℕ} {class : Name} {life : LifeEvent} {body : Option ℕ} →
+        LifeEventAt app c e class life body →
+        ComesToState c life.from →
+        ComesToState c life.to
+    by_application : {a c : ℕ} {component : Component} →
+        IsApplication app a →
+        IsAt app.components c component →
+        (c ≡ a → ⊥) →
+        ComesToState a 2 →
+        ComesToState c 0
 
 -- The start rows together name each activation that an event begins in one of these states.
 pub record StartsName (app : App) (lists : Lists) (a : Activation) : Type 0 where

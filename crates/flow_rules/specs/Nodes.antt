@@ -1,21 +1,22 @@
 -- Nodes and registers, as the rules name them.
-use Rattle.std.specs.Prelude.{◌≡◌, ◌==◌, ◌<◌, ◌+◌, ◌-◌, ℕ, Bool, false}
+use Rattle.std.specs.Prelude.{◌≡◌, ◌<◌, ◌+◌, ◌-◌, ℕ}
 use Rattle.app_machine.specs.declared.method.Act.{Act}
-use Rattle.app_machine.specs.declared.method.Act.TheVariants.{Skip, Join, Move, Blank, New, Fill, Get, Put, GetStatic, PutStatic, Call, Return, Throw, TakeResult, TakeException, Go}
 use Rattle.app_machine.specs.declared.method.Method.{Method}
 use Rattle.app_machine.specs.declared.app.App.{App}
 use Rattle.vet_base.specs.Members.{IsAt}
 use Rattle.app_machine.specs.Lookups.{ActAt, Goes, Catches, HasCode, Initialises}
-use Rattle.app_machine.specs.State.{result_register, holds}
 use Rattle.app_machine.specs.Events.{layout}
 use Rattle.fact_rows.specs.declared.context.Ctx.{Ctx}
 use Rattle.fact_rows.specs.declared.context.Ctx.TheVariants as ctx
 use Rattle.fact_rows.specs.declared.context.Activation.{Activation}
 use Rattle.fact_rows.specs.declared.context.Node.{Node}
 
--- The context of a method that is called: the call instruction. How many callers count is told here alone.
+-- The context of a method that is called: the call instruction where an event's own method calls, and otherwise the call and
+-- the last one before it. How many calls count is told here alone.
 unfoldable pub pushed : Ctx → ℕ → ℕ → Ctx
-pushed c method pc = ctx.Call method pc
+pushed (ctx.Call last at) method pc = ctx.Call2 method pc last at
+pushed (ctx.Call2 last at m at_m) method pc = ctx.Call2 method pc last at
+pushed event method pc = ctx.Call method pc
 
 -- another node of the same activation
 abbrev pub at_pc : Node → ℕ → Node
@@ -32,33 +33,16 @@ entry a = record { by = a; pc = 0 }
 abbrev pub callee : Node → ℕ → Activation
 callee n body = activation_in (pushed n.by.ctx n.by.method n.pc) body
 
-abbrev pub Act_of : App → Node → Act → Type 0
-Act_of app n act = ActAt app n.by.method n.pc act
+-- what the step at the node does, to where control goes on from it, and where what it raises is caught
+module _ (app : App) (n : Node) where
+  abbrev pub Acts : Act → Type 0
+  Acts act = ActAt app n.by.method n.pc act
 
-abbrev pub Next_of : App → Node → ℕ → Type 0
-Next_of app n pc = Goes app n.by.method n.pc pc
+  abbrev pub GoesOn : ℕ → Type 0
+  GoesOn pc = Goes app n.by.method n.pc pc
 
-abbrev pub Catch_of : App → Node → ℕ → Type 0
-Catch_of app n pc = Catches app n.by.method n.pc pc
-
--- whether the act writes the register: a destination, or RES for a call and a filled array
-abbrev pub writes : Act → ℕ → Bool
-writes (Join ds xs) r = holds ds r
-writes (Move ds x) r = holds ds r
-writes (Blank ds) r = holds ds r
-writes (New d class) r = r == d
-writes (Fill xs class) r = r == result_register
-writes (Get ds o k) r = holds ds r
-writes (GetStatic ds g) r = holds ds r
-writes (Call kind at args) r = r == result_register
-writes (TakeResult ds) r = holds ds r
-writes (TakeException d) r = r == d
-writes Skip r = false
-writes (Put o k x) r = false
-writes (PutStatic g x) r = false
-writes (Return x) r = false
-writes (Throw x) r = false
-writes Go r = false
+  abbrev pub CaughtAt : ℕ → Type 0
+  CaughtAt pc = Catches app n.by.method n.pc pc
 
 -- the register that takes argument register i of a call: the i-th of the last `ins`
 pub record ArgumentRegister (app : App) (body i register : ℕ) : Type 0 where

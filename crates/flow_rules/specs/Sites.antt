@@ -1,35 +1,24 @@
 -- The class of the objects that are made at a site.
 use Rattle.std.specs.Prelude.{◌≡◌, if◌then◌else◌, Option, Some, None, option_map, slice_get}
 use Rattle.app_machine.specs.declared.method.Act.{Act}
-use Rattle.app_machine.specs.declared.method.Act.TheVariants.{Skip, Join, Move, Blank, New, Fill, Get, Put, GetStatic, PutStatic, Call, Return, Throw, TakeResult, TakeException, Go}
+use Rattle.app_machine.specs.declared.method.Act.TheVariants.{New, Fill, Call}
 use Rattle.app_machine.specs.declared.component.Component.{Component as ComponentOf}
 use Rattle.app_machine.specs.declared.lists.Lists.{Lists}
 use Rattle.app_machine.specs.declared.app.App.{App}
 use Rattle.app_machine.specs.Names.{Name, is_reference}
 use Rattle.app_machine.specs.Lookups.{step_at}
 use Rattle.app_machine.specs.Library.{shared_class}
+use Rattle.app_machine.specs.Events.{parameter_type}
 use Rattle.fact_rows.specs.declared.site.Site.{Site}
 use Rattle.fact_rows.specs.declared.site.Site.TheVariants.{At, Param, Component, Shared}
-use Rattle.fact_rows.specs.Contexts.{event_types, parameter_type}
+use Rattle.fact_rows.specs.Contexts.{event_types}
 
 -- the class of what the act makes: that which it names, or for a call the type of its result
 abbrev pub class_made : Act → Option Name
 class_made (New d class) = Some class
 class_made (Fill xs class) = Some class
 class_made (Call kind at args) = if is_reference at.proto.ret then Some at.proto.ret else None
-class_made Skip = None
-class_made (Join ds xs) = None
-class_made (Move ds x) = None
-class_made (Blank ds) = None
-class_made (Get ds o k) = None
-class_made (Put o k x) = None
-class_made (GetStatic ds g) = None
-class_made (PutStatic g x) = None
-class_made (Return x) = None
-class_made (Throw x) = None
-class_made (TakeResult ds) = None
-class_made (TakeException d) = None
-class_made Go = None
+class_made act = None
 
 -- the type, where it is a reference type
 abbrev pub reference_type : Option Name → Option Name

@@ -1,4 +1,4 @@
-use Rattle.access_path.specs.Laws.{path_laws}
+use Rattle.access_path.proofs.PathLaws.{path_laws}
 use Rattle.access_path.proofs.paths_keep_their_laws.Goals as goal
 
 pub returns : goal.returns
