@@ -1,12 +1,9 @@
 -- A loop over the items of a list that keeps a state alone: the laws of `each`, over the list itself and over its items seen by
 -- a view.
-use Rattle.std.proofs.Common.{◌≡◌, ℕ, ◌+◌, ◌<◌, ◌≤◌, Result, Ok, Err, List, [], ◌∷◌, length, map, drop, get_or, add-one, refl, ap, sym, ◌∙◌}
-use Rattle.std.proofs.lemmas.List.{get_or-map, length-map, drop_all}
-use Rattle.std.proofs.Math.Seq.{drop-cons}
+use Rattle.std.proofs.Common.{◌≡◌, ℕ, ◌+◌, ◌<◌, ◌≤◌, Result, Ok, List, length, map, get_or}
+use Rattle.std.proofs.lemmas.List.{length-map}
 use Rattle.vet_base.specs.declared.stop.Stop.{Stop}
-use Rattle.vet_base.specs.declared.stop.Stop.TheVariants as stops
 use Rattle.vet_base.specs.Script.{Script, run, Fails, each}
-use Rattle.vet_base.proofs.Scripts.{run_bind}
 use Rattle.vet_base.proofs.Lists.{get_or-map_read}
 use Rattle.vet_base.proofs.Eaches.{Eaches, each_begins, each_goes_on, each_fails, each_is_done}
 

@@ -20,7 +20,7 @@ use Rattle.office_forms.specs.Places.{place_of}
 use Rattle.office_forms.specs.Fields.{at_key}
 use Rattle.office_forms.specs.Positions.{has_key, position_in, position_of, position_due, position_at, items_at, position_row, position_rows, positions_at, are_two, pair_in, pair_row, pair_rows, pairs_at, number_named, name_in, name_at, named_in, named_row, named_rows, named_at, number_free, listed_free, listed_at}
 use Rattle.office_forms.specs.Methods.{result_at, from_fits, shared_fits, shared_at, gives_of, gives_at, sink_fits, sink_with, sink_at}
-use Rattle.office_forms.specs.Sound.{SoundGives, TwoPositions, NamedPosition, SoundSink}
+use Rattle.app_machine.specs.SoundLists.{SoundGives, TwoPositions, NamedPosition, SoundSink}
 use Rattle.office_forms.proofs.Placing.{place_is_within}
 use Rattle.office_forms.proofs.Yields.{Yields, yields_value, yields_test, yields_tested, yields_never, yields_then, yields_past, yields_walk_all}
 

@@ -1,5 +1,5 @@
 -- A search for an item that does not have the shape, and the items of an array by their place.
-use Rattle.std.proofs.Common.{◌≡◌, ℕ, zero, suc, ◌+◌, ◌<◌, ◌≤◌, Bool, true, false, List, [], ◌∷◌, length, get_or, take, map, ap, sym, ◌∙◌, refl, Option, option_map, Bor, slice_get, option_copied}
+use Rattle.std.proofs.Common.{◌≡◌, ℕ, ◌+◌, ◌<◌, ◌≤◌, Bool, true, false, List, length, get_or, take, map, ap, sym, ◌∙◌, refl, Option, option_map, Bor, slice_get, option_copied}
 use Rattle.std.proofs.lemmas.List.{take_all}
 use Rattle.std.proofs.lemmas.List.Folds.{list_all-map, list_all_at, list_all_more}
 use Rattle.std.specs.List.{list_all}

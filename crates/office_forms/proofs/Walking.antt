@@ -1,6 +1,6 @@
 -- A loop over the items of a list that a script sees through a view: the laws of `walk`, the view put in.
-use Rattle.std.proofs.Common.{◌≡◌, ℕ, ◌+◌, ◌<◌, ◌≤◌, Result, Ok, List, [], ◌∷◌, ◌++◌, length, map, get_or, ap, sym, ◌∙◌}
-use Rattle.std.proofs.lemmas.List.{get_or-map, length-map}
+use Rattle.std.proofs.Common.{◌≡◌, ℕ, ◌+◌, ◌<◌, ◌≤◌, Result, Ok, List, [], ◌∷◌, ◌++◌, length, map, get_or}
+use Rattle.std.proofs.lemmas.List.{length-map}
 use Rattle.vet_base.specs.declared.stop.Stop.{Stop}
 use Rattle.vet_base.specs.Script.{Script, run, walk, Fails}
 use Rattle.vet_base.proofs.Scripts.{Walks, walk_begins, walk_goes_on, walk_fails, walk_is_done}

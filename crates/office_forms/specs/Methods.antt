@@ -1,5 +1,5 @@
 -- What the lists say of methods of the library.
-use Rattle.std.specs.Prelude.{ℕ, ◌+◌, ◌==◌, not, Bool, true, false, codes, List, [], ◌∷◌, ◌++◌, length, slice_index, Option, Some, None, is_some, is_none, unwrap_or, if◌then◌else◌}
+use Rattle.std.specs.Prelude.{ℕ, ◌==◌, not, Bool, true, false, codes, List, [], ◌∷◌, ◌++◌, length, slice_index, Option, Some, None, is_some, is_none, unwrap_or, if◌then◌else◌}
 use Rattle.std.specs.Str.{bytes_eq}
 use Rattle.toml.specs.Data.{Data, Members}
 use Rattle.vet_base.specs.Script.{Script, Value, Test, ◌>>=◌, test, each}
