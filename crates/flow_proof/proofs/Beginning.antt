@@ -45,13 +45,16 @@ source_of : (sources : List (ℕ × ℕ)) (i l : ℕ) → In l (labels_at source
 source_of [] i l h = absurd h
 source_of (s ∷ sources) i l h = go (s.0 == i) refl (source_of sources i l) h
   where
-    go : (b : Bool) → (s.0 == i) ≡ b → (In l (labels_at sources i) → In {A = ℕ × ℕ} (i, l) sources) → In l (cons_option (cond b (Some s.1) None) (labels_at sources i)) → In {A = ℕ × ℕ} (i, l) (s ∷ sources)
+    go : (b : Bool) → (s.0 == i) ≡ b → (In l (labels_at sources i) → In {A = ℕ × ℕ} (i, l) sources) →
+        In l (cons_option (cond b (Some s.1) None) (labels_at sources i)) → In {A = ℕ × ℕ} (i, l) (s ∷ sources)
     go true e later (inl same) = inl (let index : s.0 ≡ i = eqb-true s.0 i e in rw (sym index, same) refl)
     go true e later (inr h) = inr (later h)
     go false e later h = inr (later h)
 
 -- a value with a place and labels of its own
-with_labels : {heap : List Object} {site : ℕ → Site} {place : Option ℕ} {P : Site → Type 0} {T : Path → ℕ → Type 0} (labels : List ℕ) → Fits heap site (object_at place) P T → ((l : ℕ) → In l labels → Covered T [] l) → Fits heap site (record { place = place; labels = labels }) P T
+with_labels : {heap : List Object} {site : ℕ → Site} {place : Option ℕ} {P : Site → Type 0} {T : Path → ℕ → Type 0} (labels : List ℕ) →
+    Fits heap site (object_at place) P T → ((l : ℕ) → In l labels → Covered T [] l) →
+    Fits heap site (record { place = place; labels = labels }) P T
 with_labels labels fits own = record {
   within = fits.within;
   pointed = fits.pointed;
@@ -75,7 +78,9 @@ type_at (type ∷ types) i k position e = by_width (is_wide type) (type_at types
     next : TypeAt types (i + 1) position → TypeAt (type ∷ types) i position
     next later = let same = later.is in record { index = suc later.index; type = later.type; there = later.there; is = omega arith }
 
-    by_width : (b : Bool) → ((k position : ℕ) → slice_get (layout_from (i + 1) types) k ≡ Some position → TypeAt types (i + 1) position) → slice_get (cond b (i ∷ i ∷ layout_from (i + 1) types) (i ∷ layout_from (i + 1) types)) k ≡ Some position → TypeAt (type ∷ types) i position
+    by_width : (b : Bool) → ((k position : ℕ) → slice_get (layout_from (i + 1) types) k ≡ Some position → TypeAt types (i + 1) position) →
+        slice_get (cond b (i ∷ i ∷ layout_from (i + 1) types) (i ∷ layout_from (i + 1) types)) k ≡ Some position →
+        TypeAt (type ∷ types) i position
     by_width true more e = wide k e
       where
         wide : (k : ℕ) → slice_get (i ∷ i ∷ layout_from (i + 1) types) k ≡ Some position → TypeAt (type ∷ types) i position
@@ -94,7 +99,8 @@ unfolding layout
 layout_at types zero position e = inl (sym (same_Some _ _ e), refl)
 layout_at types (suc k) position e = inr (type_at types 1 k position e)
 
-mapped_at : (value : ℕ → Value) (positions : List ℕ) (k : ℕ) (v : Value) → slice_get (map value positions) k ≡ Some v → (position : ℕ) × (slice_get positions k ≡ Some position) × (v ≡ value position)
+mapped_at : (value : ℕ → Value) (positions : List ℕ) (k : ℕ) (v : Value) → slice_get (map value positions) k ≡ Some v →
+    (position : ℕ) × (slice_get positions k ≡ Some position) × (v ≡ value position)
 mapped_at value [] k v e = absurd (let none : ⊥ = cc in none)
 mapped_at value (x ∷ xs) zero v e = (x, refl, let same : v ≡ value x = cc in same)
 mapped_at value (x ∷ xs) (suc k) v e = mapped_at value xs k v e
@@ -102,7 +108,8 @@ mapped_at value (x ∷ xs) (suc k) v e = mapped_at value xs k v e
 module _ (app : App) (lists : Lists) (has : Row → Type 0) (closed : Closed app lists has) (laws : PathLaws) where
   -- the rows at the entry know the value of a position
   abbrev PositionFits : List Object → (ℕ → Site) → Ctx → ℕ → ℕ → Value → Type 0
-  PositionFits heap site k body i v = Fits heap site v (λ s. (z : ℕ) → EventRegister app body i z → has (Points (entry (activation_in k body)) z s)) (λ q l. (z : ℕ) → EventRegister app body i z → has (Taint (entry (activation_in k body)) z q l))
+  PositionFits heap site k body i v =
+      Fits heap site v (λ s. (z : ℕ) → EventRegister app body i z → has (Points (entry (activation_in k body)) z s)) (λ q l. (z : ℕ) → EventRegister app body i z → has (Taint (entry (activation_in k body)) z q l))
 
   -- All parameters are known, and what was known of values is known still.
   record ParametersKnown (new : World) (k : Ctx) (body i : ℕ) (types : List Name) (value : ℕ → Value) (site : ℕ → Site) (heap heap' : List Object) : Type 1 where
@@ -112,10 +119,12 @@ module _ (app : App) (lists : Lists) (has : Row → Type 0) (closed : Closed app
     values : (j : ℕ) (type : Name) → slice_get types j ≡ Some type → PositionFits heap' sites k body (i + j) (value (i + j))
 
   module _ (new : World) (k : Ctx) (body : ℕ) (m : Method) (code : HasCode app body m) (sources : List (ℕ × ℕ)) (is_event : IsEvent k) (rows : (row : Row) → Begins app k body sources row → has row) (types : event_types app lists k ≡ m.at.proto.params) where
-    own_label : (i l : ℕ) → In l (labels_at sources i) → Covered (λ q l. (z : ℕ) → EventRegister app body i z → has (Taint (entry (activation_in k body)) z q l)) [] l
+    own_label : (i l : ℕ) → In l (labels_at sources i) →
+        Covered (λ q l. (z : ℕ) → EventRegister app body i z → has (Taint (entry (activation_in k body)) z q l)) [] l
     own_label i l h = record { path = empty_path; covers = laws.empty; row = λ z at. rows _ (begin_taint at (source_of sources i l h)) }
 
-    parameter_site : (i : ℕ) (type : Name) → parameter_type m.at.proto.params i ≡ Some type → IsTrue (is_reference type) → SiteClass app lists (Param k i) type
+    parameter_site : (i : ℕ) (type : Name) → parameter_type m.at.proto.params i ≡ Some type → IsTrue (is_reference type) →
+        SiteClass app lists (Param k i) type
     unfolding site_class
     parameter_site i type is_type reference = record { is_class = of_types (event_types app lists k) types }
       where
@@ -125,7 +134,8 @@ module _ (app : App) (lists : Lists) (has : Row → Type 0) (closed : Closed app
         of_types : (ts : List Name) → ts ≡ m.at.proto.params → reference_type (parameter_type ts i) ≡ Some type
         of_types ts e = rw (e, is_type) (referred (is_reference type) reference)
 
-    reference_parameter : (i : ℕ) (type : Name) → parameter_type m.at.proto.params i ≡ Some type → IsTrue (is_reference type) → ReferenceParameter app body i type
+    reference_parameter : (i : ℕ) (type : Name) → parameter_type m.at.proto.params i ≡ Some type → IsTrue (is_reference type) →
+        ReferenceParameter app body i type
     reference_parameter i type is_type reference = record { method = m; there = code.there; is_type = is_type; reference = reference }
 
     -- one parameter
@@ -135,7 +145,9 @@ module _ (app : App) (lists : Lists) (has : Row → Type 0) (closed : Closed app
       stays : (v : Value) (P : Site → Type 0) (T : Path → ℕ → Type 0) → Fits heap site v P T → Fits heap' sites v P T
       fits : PositionFits heap' sites k body i value
 
-    parameter_known : {i : ℕ} {type : Name} {heap heap' : List Object} {value : Value} {site : ℕ → Site} → parameter_type m.at.proto.params i ≡ Some type → WorldFits app lists has (record new { heap = heap }) site → Parameter app lists new.handed (labels_at sources i) type heap value heap' → ParameterKnown i value site heap heap'
+    parameter_known : {i : ℕ} {type : Name} {heap heap' : List Object} {value : Value} {site : ℕ → Site} →
+        parameter_type m.at.proto.params i ≡ Some type → WorldFits app lists has (record new { heap = heap }) site →
+        Parameter app lists new.handed (labels_at sources i) type heap value heap' → ParameterKnown i value site heap heap'
     parameter_known {i} {type} {heap} {heap'} {value} {site} is_type fits is_blank = record {
       sites = site;
       world = fits;
@@ -155,7 +167,8 @@ module _ (app : App) (lists : Lists) (has : Row → Type 0) (closed : Closed app
         made : Object
         made = record { class = type; entries = labelled_element (labels_at sources i) }
 
-        no_place : {A : Type 0} (labels : List ℕ) (key : KeyId) (v : Value) (t : ℕ) → In {A = KeyId × Value} (key, v) (labelled_element labels) → v.place ≡ Some t → A
+        no_place : {A : Type 0} (labels : List ℕ) (key : KeyId) (v : Value) (t : ℕ) →
+            In {A = KeyId × Value} (key, v) (labelled_element labels) → v.place ≡ Some t → A
         no_place [] key v t h e = absurd h
         no_place (l ∷ ls) key v t (inl same) e = absurd (none-some t (ap (λ (y : KeyId × Value). y.1.place) (sym same) ∙ e))
         no_place (l ∷ ls) key v t (inr none) e = absurd none
@@ -167,15 +180,19 @@ module _ (app : App) (lists : Lists) (has : Row → Type 0) (closed : Closed app
           class = parameter_site i type is_type reference;
         }
 
-        element : (labels : List ℕ) → ((l : ℕ) → In l labels → In {A = ℕ × ℕ} (i, l) sources) → (key : KeyId) (v : Value) → In {A = KeyId × Value} (key, v) (labelled_element labels) → (ks : List KeyId) (l : ℕ) → Reaches (heap ++ made ∷ []) v ks l → Covered (λ q l. (z : ℕ) → EventRegister app body i z → has (Taint (entry (activation_in k body)) z q l)) (key ∷ ks) l
+        element : (labels : List ℕ) → ((l : ℕ) → In l labels → In {A = ℕ × ℕ} (i, l) sources) → (key : KeyId) (v : Value) →
+            In {A = KeyId × Value} (key, v) (labelled_element labels) → (ks : List KeyId) (l : ℕ) → Reaches (heap ++ made ∷ []) v ks l →
+            Covered (λ q l. (z : ℕ) → EventRegister app body i z → has (Taint (entry (activation_in k body)) z q l)) (key ∷ ks) l
         element [] listed key v h ks l walk = absurd h
         element (x ∷ xs) listed key v h (j ∷ ks) l walk = no_place (x ∷ xs) key v walk.0 h walk.1
         element (x ∷ xs) listed key v (inr none) [] l walk = absurd none
         element (x ∷ xs) listed key v (inl same) [] l walk =
             rw (ap (λ (y : KeyId × Value). y.0) same) (held (subst (λ (y : KeyId × Value). In l y.1.labels) same walk))
           where
-            held : In l (x ∷ xs) → Covered (λ q l. (z : ℕ) → EventRegister app body i z → has (Taint (entry (activation_in k body)) z q l)) (elem_key ∷ []) l
-            held h = record { path = cut elem_key empty_path; covers = laws.cut elem_key empty_path [] laws.empty; row = λ z at. rows _ (begin_element at (reference_parameter i type is_type reference) (listed l h)) }
+            held : In l (x ∷ xs) →
+                Covered (λ q l. (z : ℕ) → EventRegister app body i z → has (Taint (entry (activation_in k body)) z q l)) (elem_key ∷ []) l
+            held h =
+                record { path = cut elem_key empty_path; covers = laws.cut elem_key empty_path [] laws.empty; row = λ z at. rows _ (begin_element at (reference_parameter i type is_type reference) (listed l h)) }
     parameter_known {i} {type} {heap} {heap'} {value} {site} is_type fits (is_given {p = p} {class = class} reference is_one of_class below) = record {
       sites = site;
       world = fits;
@@ -197,8 +214,12 @@ module _ (app : App) (lists : Lists) (has : Row → Type 0) (closed : Closed app
         reached : has (Reached (entry (activation_in k body)))
         reached = rows _ (begin_reached code)
 
-    parameters_known : {value : ℕ → Value} {i : ℕ} {ts : List Name} {heap heap' : List Object} (site : ℕ → Site) → ((j : ℕ) (type : Name) → slice_get ts j ≡ Some type → parameter_type m.at.proto.params (i + j) ≡ Some type) → WorldFits app lists has (record new { heap = heap }) site → Parameters app lists new.handed sources value i ts heap heap' → ParametersKnown new k body i ts value site heap heap'
-    parameters_known site typed fits no_more = record { sites = site; world = fits; stays = λ v P T old. old; values = λ j type e. absurd (let none : ⊥ = cc in none) }
+    parameters_known : {value : ℕ → Value} {i : ℕ} {ts : List Name} {heap heap' : List Object} (site : ℕ → Site) →
+        ((j : ℕ) (type : Name) → slice_get ts j ≡ Some type → parameter_type m.at.proto.params (i + j) ≡ Some type) →
+        WorldFits app lists has (record new { heap = heap }) site → Parameters app lists new.handed sources value i ts heap heap' →
+        ParametersKnown new k body i ts value site heap heap'
+    parameters_known site typed fits no_more =
+        record { sites = site; world = fits; stays = λ v P T old. old; values = λ j type e. absurd (let none : ⊥ = cc in none) }
     parameters_known {value} {i} {ts} {heap} {heap'} site typed fits (one_more {type = type} {types = types} {heap1 = heap1} first more) =
         let here = parameter_known (at_zero type refl) fits first in
         let others = parameters_known here.sites at_next here.world more in
@@ -215,16 +236,24 @@ module _ (app : App) (lists : Lists) (has : Row → Type 0) (closed : Closed app
         at_next : (j : ℕ) (t : Name) → slice_get types j ≡ Some t → parameter_type m.at.proto.params ((i + 1) + j) ≡ Some t
         at_next j t e = let same : i + suc j ≡ (i + 1) + j = omega arith in subst (λ x. parameter_type m.at.proto.params x ≡ Some t) same (typed (suc j) t e)
 
-        values : (sites : ℕ → Site) → ((j : ℕ) (t : Name) → slice_get types j ≡ Some t → PositionFits heap' sites k body ((i + 1) + j) (value ((i + 1) + j))) → PositionFits heap' sites k body i (value i) → (j : ℕ) (t : Name) → slice_get (type ∷ types) j ≡ Some t → PositionFits heap' sites k body (i + j) (value (i + j))
+        values : (sites : ℕ → Site) →
+            ((j : ℕ) (t : Name) → slice_get types j ≡ Some t → PositionFits heap' sites k body ((i + 1) + j) (value ((i + 1) + j))) →
+            PositionFits heap' sites k body i (value i) → (j : ℕ) (t : Name) → slice_get (type ∷ types) j ≡ Some t →
+            PositionFits heap' sites k body (i + j) (value (i + j))
         values sites later first zero t e = let same : i ≡ i + 0 = omega arith in subst (λ x. PositionFits heap' sites k body x (value x)) same first
         values sites later first (suc j) t e = let same : (i + 1) + j ≡ i + suc j = omega arith in subst (λ x. PositionFits heap' sites k body x (value x)) same (later j t e)
 
   -- A body begins with its receiver and parameters.
-  pub known_begin : {new : World} {site : ℕ → Site} {place : Option ℕ} {sources : List (ℕ × ℕ)} {k : Ctx} {body : ℕ} {m : Method} {value : ℕ → Value} {heap : List Object} → WorldFits app lists has new site → Begun app lists has new site place sources k body → HasCode app body m → value 0 ≡ record { place = place; labels = labels_at sources 0 } → Parameters app lists new.handed sources value 1 m.at.proto.params new.heap heap → Known app lists has (record new { heap = heap }) (frame_of body m (map value (layout m.at.proto.params)) false ∷ [])
+  pub known_begin : {new : World} {site : ℕ → Site} {place : Option ℕ} {sources : List (ℕ × ℕ)} {k : Ctx} {body : ℕ} {m : Method} {value : ℕ → Value} {heap : List Object} →
+      WorldFits app lists has new site → Begun app lists has new site place sources k body → HasCode app body m →
+      value 0 ≡ record { place = place; labels = labels_at sources 0 } →
+      Parameters app lists new.handed sources value 1 m.at.proto.params new.heap heap →
+      Known app lists has (record new { heap = heap }) (frame_of body m (map value (layout m.at.proto.params)) false ∷ [])
   known_begin {new} {site} {place} {sources} {k} {body} {m} {value} {heap} fits begun code receiver parameters = running known.sites k (record {
     reached = begun.rows _ (begin_reached code);
     world = known.world;
-    registers = entered_fits (RegisterFits has (entry (activation_in k body)) heap known.sites) m (map value (layout m.at.proto.params)) (λ r. blank_fits _ _ _ _) passed;
+    registers =
+        entered_fits (RegisterFits has (entry (activation_in k body)) heap known.sites) m (map value (layout m.at.proto.params)) (λ r. blank_fits _ _ _ _) passed;
     event = record { bottom = activation_in k body; is_event = begun.is_event; owns = begun.owns };
     waits = none_waits refl;
   })
@@ -246,33 +275,41 @@ module _ (app : App) (lists : Lists) (has : Row → Type 0) (closed : Closed app
             | inr later ↦ let same = later.is in absurd (omega arith)
           ]
 
-      at_position : (index position : ℕ) → slice_get (layout m.at.proto.params) index ≡ Some position → PositionFits heap known.sites k body position (value position)
+      at_position : (index position : ℕ) → slice_get (layout m.at.proto.params) index ≡ Some position →
+          PositionFits heap known.sites k body position (value position)
       at_position index position e = elim (layout_at m.at.proto.params index position e) [
         | inl first ↦ subst (λ x. PositionFits heap known.sites k body x (value x)) (sym first.0) at_receiver
         | inr later ↦ subst (λ x. PositionFits heap known.sites k body x (value x)) (sym later.is) (known.values later.index later.type later.there)
       ]
 
-      passed : (i z : ℕ) (v : Value) → slice_get (map value (layout m.at.proto.params)) i ≡ Some v → i < m.ins → z ≡ (m.registers - m.ins) + i → RegisterFits has (entry (activation_in k body)) heap known.sites z v
+      passed : (i z : ℕ) (v : Value) → slice_get (map value (layout m.at.proto.params)) i ≡ Some v → i < m.ins →
+          z ≡ (m.registers - m.ins) + i → RegisterFits has (entry (activation_in k body)) heap known.sites z v
       passed i z v e below is =
           let at = mapped_at value (layout m.at.proto.params) i v e in
-          let register : EventRegister app body at.0 z = record { method = m; has = code; index = i; is_at = record { there = at.1 }; below = below; is = is } in
+          let register : EventRegister app body at.0 z =
+          record { method = m; has = code; index = i; is_at = record { there = at.1 }; below = below; is = is } in
           subst (λ x. RegisterFits has (entry (activation_in k body)) heap known.sites z x) (sym at.2) (fits_map (λ s h. h z register) (λ q l h. h z register) (at_position i at.0 at.1))
 
   -- An initialiser begins without arguments.
-  pub known_begin_initialiser : ((row : Row) → Starts app row → has row) → {w : World} {site : ℕ → Site} {body : ℕ} {m : Method} → WorldFits app lists has w site → MayInitialise app w body → HasCode app body m → Known app lists has w (frame_of body m [] false ∷ [])
+  pub known_begin_initialiser : ((row : Row) → Starts app row → has row) → {w : World} {site : ℕ → Site} {body : ℕ} {m : Method} →
+      WorldFits app lists has w site → MayInitialise app w body → HasCode app body m → Known app lists has w (frame_of body m [] false ∷ [])
   known_begin_initialiser starts {w} {site} {body} {m} fits may code = running site (ctx.Init may.c) (record {
     reached = initialiser_rows app lists has closed laws starts fits may _ (begin_reached code);
     world = fits;
-    registers = entered_fits (RegisterFits has (entry (activation_in (ctx.Init may.c) body)) w.heap site) m [] (λ r. blank_fits _ _ _ _) (λ i z v e below is. absurd (let none : ⊥ = cc in none));
-    event = record { bottom = activation_in (ctx.Init may.c) body; is_event = tt; owns = initialiser_owns app lists has closed laws starts fits may.c };
+    registers =
+        entered_fits (RegisterFits has (entry (activation_in (ctx.Init may.c) body)) w.heap site) m [] (λ r. blank_fits _ _ _ _) (λ i z v e below is. absurd (let none : ⊥ = cc in none));
+    event =
+        record { bottom = activation_in (ctx.Init may.c) body; is_event = tt; owns = initialiser_owns app lists has closed laws starts fits may.c };
     waits = none_waits refl;
   })
 
   -- The result of a bottom frame is handed.
-  at_bottom_of : {bottom : Activation} {heap : List Object} {site : ℕ → Site} {b : Activation} {i : Bool} → Waits app has bottom heap site b i [] → b ≡ bottom
+  at_bottom_of : {bottom : Activation} {heap : List Object} {site : ℕ → Site} {b : Activation} {i : Bool} →
+      Waits app has bottom heap site b i [] → b ≡ bottom
   at_bottom_of (none_waits e) = e
 
-  pub known_end : {w : World} {site : ℕ → Site} {c : Ctx} {f : Frame} {x : Option ℕ} → Runs app lists has w site c f [] → ActAt app f.method f.pc (Return x) → Known app lists has (record w { handed = hand (returned f x).place w.handed }) []
+  pub known_end : {w : World} {site : ℕ → Site} {c : Ctx} {f : Frame} {x : Option ℕ} → Runs app lists has w site c f [] →
+      ActAt app f.method f.pc (Return x) → Known app lists has (record w { handed = hand (returned f x).place w.handed }) []
   known_end {w} {site} {c} {f} {x} known act = idle site (record {
     heap = known.world.heap;
     statics = known.world.statics;
@@ -291,11 +328,13 @@ module _ (app : App) (lists : Lists) (has : Row → Type 0) (closed : Closed app
           (λ s h. evt app lists has closed laws (exit_handed {b = activation_in c f.method} is_event) (loc app lists has closed laws (return_points {n = node_of c f} act) (h, tt), tt))
           (λ s q l h t. evt app lists has closed laws (exit_handed_taint {b = activation_in c f.method} is_event) (loc app lists has closed laws (return_points {n = node_of c f} act) (h, tt), (loc app lists has closed laws (return_taint {n = node_of c f} act) (t, tt), tt)))
 
-      with_place : (x : ℕ) → ActAt app f.method f.pc (Return (Some x)) → (place : Option ℕ) → (f.registers x).place ≡ place → (p : ℕ) → In p (hand place w.handed) → HandedFits has w.heap site p
+      with_place : (x : ℕ) → ActAt app f.method f.pc (Return (Some x)) → (place : Option ℕ) → (f.registers x).place ≡ place → (p : ℕ) →
+          In p (hand place w.handed) → HandedFits has w.heap site p
       with_place x act None e p h = known.world.handed p h
       with_place x act (Some y) e p (inl same) = handed_place x p act (e ∙ ap (λ j. Some j) (sym same))
       with_place x act (Some y) e p (inr h) = known.world.handed p h
 
-      handed : (x : Option ℕ) → ActAt app f.method f.pc (Return x) → (p : ℕ) → In p (hand (returned f x).place w.handed) → HandedFits has w.heap site p
+      handed : (x : Option ℕ) → ActAt app f.method f.pc (Return x) → (p : ℕ) → In p (hand (returned f x).place w.handed) →
+          HandedFits has w.heap site p
       handed None act p h = known.world.handed p h
       handed (Some x) act p h = with_place x act (f.registers x).place refl p h

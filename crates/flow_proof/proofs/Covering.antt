@@ -23,7 +23,8 @@ use Rattle.flow_proof.proofs.Beginning.{known_begin, known_begin_initialiser, kn
 use Rattle.flow_proof.proofs.Standing.{stands_known}
 
 module _ (app : App) (lists : Lists) (has : Row → Type 0) (closed : Closed app lists has) (laws : PathLaws) (starts : (row : Row) → Starts app row → has row) (sound : SoundApp app) where
-  known_step : {w : World} {fs : List Frame} {new : World} {gs : List Frame} → Known app lists has w fs → Steps app lists w fs new gs → Known app lists has new gs
+  known_step : {w : World} {fs : List Frame} {new : World} {gs : List Frame} → Known app lists has w fs → Steps app lists w fs new gs →
+      Known app lists has new gs
   known_step (running site c known) (goes_on step) = known_local app lists has closed laws sound known step
   known_step (running site c known) (raises raised) = raised_blank app lists has closed laws sound (pending_of app lists has closed laws known) raised
   known_step (running site c known) (throws act raised) = known_throw app lists has closed laws sound known act raised
@@ -31,7 +32,8 @@ module _ (app : App) (lists : Lists) (has : Row → Type 0) (closed : Closed app
   known_step (running site c known) (calls_library act next used call) =
       let k = known_library app lists has closed laws known act used call in
       goes_writing app lists has closed laws k.running act next result_register _ (λ _ other. other) (k.result _ next)
-  known_step (running site c known) (library_raises act used call raised) = raised_blank app lists has closed laws sound (known_library app lists has closed laws known act used call).running raised
+  known_step (running site c known) (library_raises act used call raised) =
+      raised_blank app lists has closed laws sound (known_library app lists has closed laws known act used call).running raised
   known_step (running site c known) (returns ordinary act next) = known_return app lists has closed laws sound known ordinary act next
   known_step (running site c known) (initialises is_one code) = known_initialiser app lists has closed laws sound known is_one code
   known_step (running site c known) (has_initialised is_one act) = known_initialised app lists has closed laws sound known is_one
@@ -70,4 +72,5 @@ module _ (app : App) (lists : Lists) (has : Row → Type 0) (closed : Closed app
   }
 
 pub every_good_table_covers_every_run : PathLaws → EveryGoodTableCoversEveryRun
-every_good_table_covers_every_run laws app lists table sound good = covers_every_run app lists (λ row. In row table) good.closed laws good.starts sound
+every_good_table_covers_every_run laws app lists table sound good =
+    covers_every_run app lists (λ row. In row table) good.closed laws good.starts sound

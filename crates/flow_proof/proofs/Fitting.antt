@@ -33,11 +33,13 @@ pub record HeapFits (app : App) (lists : Lists) (has : Row → Type 0) (heap : L
   pub cell : (p : ℕ) (k : KeyId) (w : Value) (t : ℕ) → EntryAt heap p k w → w.place ≡ Some t → has (Cell (site p) k (site t))
   pub class : (p : ℕ) (c : Name) → ClassAt heap p c → SiteClass app lists (site p) c
 
-pub covered_map : {T T' : Path → ℕ → Type 0} {ks : List KeyId} {label : ℕ} → ((q : Path) (l : ℕ) → T q l → T' q l) → Covered T ks label → Covered T' ks label
+pub covered_map : {T T' : Path → ℕ → Type 0} {ks : List KeyId} {label : ℕ} → ((q : Path) (l : ℕ) → T q l → T' q l) → Covered T ks label →
+    Covered T' ks label
 covered_map f c = record { path = c.path; covers = c.covers; row = f c.path _ c.row }
 
 -- a value without a place is known by its own labels
-pub placeless_fits : (heap : List Object) (site : ℕ → Site) (labels : List ℕ) (points : Site → Type 0) (taints : Path → ℕ → Type 0) → ((l : ℕ) → In l labels → Covered taints [] l) → Fits heap site (labelled labels) points taints
+pub placeless_fits : (heap : List Object) (site : ℕ → Site) (labels : List ℕ) (points : Site → Type 0) (taints : Path → ℕ → Type 0) →
+    ((l : ℕ) → In l labels → Covered taints [] l) → Fits heap site (labelled labels) points taints
 placeless_fits heap site labels points taints own = record {
   within = λ p e. absurd (none-some p e);
   pointed = λ p e. absurd (none-some p e);
@@ -47,7 +49,8 @@ placeless_fits heap site labels points taints own = record {
 pub blank_fits : (heap : List Object) (site : ℕ → Site) (points : Site → Type 0) (taints : Path → ℕ → Type 0) → Fits heap site blank points taints
 blank_fits heap site points taints = placeless_fits heap site [] points taints (λ l h. absurd h)
 
-pub fits_map : {heap : List Object} {site : ℕ → Site} {v : Value} {P P' : Site → Type 0} {T T' : Path → ℕ → Type 0} → ((s : Site) → P s → P' s) → ((q : Path) (l : ℕ) → T q l → T' q l) → Fits heap site v P T → Fits heap site v P' T'
+pub fits_map : {heap : List Object} {site : ℕ → Site} {v : Value} {P P' : Site → Type 0} {T T' : Path → ℕ → Type 0} →
+    ((s : Site) → P s → P' s) → ((q : Path) (l : ℕ) → T q l → T' q l) → Fits heap site v P T → Fits heap site v P' T'
 fits_map f g fits = record {
   within = fits.within;
   pointed = λ p e. f _ (fits.pointed p e);
@@ -72,7 +75,8 @@ pub record Changed (has : Row → Type 0) (effect : Site → Path → ℕ → Ty
 abbrev pub Touched : (Site → Type 0) → (Site → Path → ℕ → Type 0) → Path → ℕ → Type 0
 Touched points effect q l = (s : Site) × points s × effect s q l
 
-pub heap_changed : {app : App} {lists : Lists} {has : Row → Type 0} {effect : Site → Path → ℕ → Type 0} {site : ℕ → Site} {heap heap' : List Object} → HeapFits app lists has heap site → Changed has effect site heap heap' → HeapFits app lists has heap' site
+pub heap_changed : {app : App} {lists : Lists} {has : Row → Type 0} {effect : Site → Path → ℕ → Type 0} {site : ℕ → Site} {heap heap' : List Object} →
+    HeapFits app lists has heap site → Changed has effect site heap heap' → HeapFits app lists has heap' site
 heap_changed {app} {lists} {has} {effect} {site} {heap} {heap'} fits changed = record {
   within = λ p k w t h e. let below = elim (changed.entries p k w h) as (λ _. t < length heap) [ inl old ↦ fits.within p k w t old e | inr put ↦ put.within t e ] in let same = changed.same_length in omega arith;
   cell = λ p k w t h e. elim (changed.entries p k w h) [ inl old ↦ fits.cell p k w t old e | inr put ↦ put.cell t e ];
@@ -86,7 +90,10 @@ pub record Affected (effect : Site → Path → ℕ → Type 0) (site : ℕ → 
   pub covered : Covered (effect (site place)) ks label
 
 -- The central lemma: after a change each walk is an old one, or the effect on its first object covers it.
-pub walk_after : PathLaws → {app : App} {lists : Lists} {has : Row → Type 0} {effect : Site → Path → ℕ → Type 0} {site : ℕ → Site} {heap heap' : List Object} → HeapFits app lists has heap site → Changed has effect site heap heap' → (ks : List KeyId) (v : Value) (label : ℕ) → Reaches heap' v ks label → Reaches heap v ks label ⊎ Affected effect site v ks label
+pub walk_after : PathLaws →
+    {app : App} {lists : Lists} {has : Row → Type 0} {effect : Site → Path → ℕ → Type 0} {site : ℕ → Site} {heap heap' : List Object} →
+    HeapFits app lists has heap site → Changed has effect site heap heap' → (ks : List KeyId) (v : Value) (label : ℕ) →
+    Reaches heap' v ks label → Reaches heap v ks label ⊎ Affected effect site v ks label
 walk_after laws fits changed [] v label h = inl h
 walk_after laws {app} {lists} {has} {effect} {site} {heap} {heap'} fits changed (k ∷ ks) v label (p, there, (w, entered, walk)) =
     elim (walk_after laws fits changed ks w label walk) [
@@ -104,12 +111,16 @@ walk_after laws {app} {lists} {has} {effect} {site} {heap} {heap'} fits changed 
       covered = record {
         path = cut k a.covered.path;
         covers = laws.cut k a.covered.path ks a.covered.covers;
-        row = changed.lift k label (site p) (site a.place) a.covered.path a.covered.row ((heap_changed fits changed).cell p k w a.place entered a.there);
+        row =
+            changed.lift k label (site p) (site a.place) a.covered.path a.covered.row ((heap_changed fits changed).cell p k w a.place entered a.there);
       };
     }
 
 -- So a value that the rows knew is known with the effect besides.
-pub fits_after : PathLaws → {app : App} {lists : Lists} {has : Row → Type 0} {effect : Site → Path → ℕ → Type 0} {site : ℕ → Site} {heap heap' : List Object} → HeapFits app lists has heap site → Changed has effect site heap heap' → {v : Value} {P : Site → Type 0} {T T' : Path → ℕ → Type 0} → ((q : Path) (l : ℕ) → T q l ⊎ Touched P effect q l → T' q l) → Fits heap site v P T → Fits heap' site v P T'
+pub fits_after : PathLaws →
+    {app : App} {lists : Lists} {has : Row → Type 0} {effect : Site → Path → ℕ → Type 0} {site : ℕ → Site} {heap heap' : List Object} →
+    HeapFits app lists has heap site → Changed has effect site heap heap' → {v : Value} {P : Site → Type 0} {T T' : Path → ℕ → Type 0} →
+    ((q : Path) (l : ℕ) → T q l ⊎ Touched P effect q l → T' q l) → Fits heap site v P T → Fits heap' site v P T'
 fits_after laws {app} {lists} {has} {effect} {site} {heap} {heap'} heap_fits changed {v} {P} {T} {T'} take_in fits = record {
   within = λ p e. let below = fits.within p e in let same = changed.same_length in omega arith;
   pointed = fits.pointed;

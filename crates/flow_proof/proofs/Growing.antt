@@ -32,7 +32,9 @@ with_site-below site n s p below =
     ]
 
 -- a walk from an old value stays among the old objects
-pub walk_before : (app : App) (lists : Lists) (has : Row → Type 0) (site : ℕ → Site) (heap : List Object) (o : Object) → HeapFits app lists has heap site → (ks : List KeyId) (v : Value) (label : ℕ) → ((p : ℕ) → v.place ≡ Some p → p < length heap) → Reaches (heap ++ o ∷ []) v ks label → Reaches heap v ks label
+pub walk_before : (app : App) (lists : Lists) (has : Row → Type 0) (site : ℕ → Site) (heap : List Object) (o : Object) →
+    HeapFits app lists has heap site → (ks : List KeyId) (v : Value) (label : ℕ) → ((p : ℕ) → v.place ≡ Some p → p < length heap) →
+    Reaches (heap ++ o ∷ []) v ks label → Reaches heap v ks label
 walk_before app lists has site heap o fits [] v label within h = h
 walk_before app lists has site heap o fits (k ∷ ks) v label within (p, there, (w, entry, walk)) =
     elim (EntryAt-append heap o p k w entry) [
@@ -40,7 +42,8 @@ walk_before app lists has site heap o fits (k ∷ ks) v label within (p, there, 
       | inr old ↦ (p, there, (w, old, walk_before app lists has site heap o fits ks w label (λ t e. fits.within p k w t old e) walk))
     ]
 
-pub fits_grown : {app : App} {lists : Lists} {has : Row → Type 0} {site : ℕ → Site} {heap : List Object} {v : Value} {P : Site → Type 0} {T : Path → ℕ → Type 0} (o : Object) (new : Site) → HeapFits app lists has heap site → Fits heap site v P T → Fits (heap ++ o ∷ []) (with_site site (length heap) new) v P T
+pub fits_grown : {app : App} {lists : Lists} {has : Row → Type 0} {site : ℕ → Site} {heap : List Object} {v : Value} {P : Site → Type 0} {T : Path → ℕ → Type 0} (o : Object) (new : Site) →
+    HeapFits app lists has heap site → Fits heap site v P T → Fits (heap ++ o ∷ []) (with_site site (length heap) new) v P T
 fits_grown {app} {lists} {has} {site} {heap} {v} {P} o new heap_fits fits = record {
   within = λ p e. let below = fits.within p e in omega (arith, length-append heap (o ∷ []));
   pointed = λ p e. let same = with_site-below site (length heap) new p (fits.within p e) in subst P (sym same) (fits.pointed p e);
@@ -53,18 +56,22 @@ pub record NewFits (app : App) (lists : Lists) (has : Row → Type 0) (heap : Li
   pub cell : (k : KeyId) (w : Value) (t : ℕ) → In (k, w) o.entries → w.place ≡ Some t → has (Cell new k (site t))
   pub class : SiteClass app lists new o.class
 
-pub heap_grown : {app : App} {lists : Lists} {has : Row → Type 0} {site : ℕ → Site} {heap : List Object} {o : Object} {new : Site} → HeapFits app lists has heap site → NewFits app lists has heap site new o → HeapFits app lists has (heap ++ o ∷ []) (with_site site (length heap) new)
+pub heap_grown : {app : App} {lists : Lists} {has : Row → Type 0} {site : ℕ → Site} {heap : List Object} {o : Object} {new : Site} →
+    HeapFits app lists has heap site → NewFits app lists has heap site new o →
+    HeapFits app lists has (heap ++ o ∷ []) (with_site site (length heap) new)
 heap_grown {app} {lists} {has} {site} {heap} {o} {new} fits new_fits = record {
   within = λ p k w t entry e. let below = within p k w t e (EntryAt-append heap o p k w entry) in omega (arith, length-append heap (o ∷ []));
   cell = λ p k w t entry e. cell p k w t e (EntryAt-append heap o p k w entry);
   class = λ p c h. class p c (ClassAt-append heap o p c h);
 }
   where
-    within : (p : ℕ) (k : KeyId) (w : Value) (t : ℕ) → w.place ≡ Some t → ((p ≡ length heap) × In (k, w) o.entries) ⊎ EntryAt heap p k w → t < length heap
+    within : (p : ℕ) (k : KeyId) (w : Value) (t : ℕ) → w.place ≡ Some t → ((p ≡ length heap) × In (k, w) o.entries) ⊎ EntryAt heap p k w →
+        t < length heap
     within p k w t e (inl (at_end, entry)) = new_fits.within k w t entry e
     within p k w t e (inr old) = fits.within p k w t old e
 
-    cell : (p : ℕ) (k : KeyId) (w : Value) (t : ℕ) → w.place ≡ Some t → ((p ≡ length heap) × In (k, w) o.entries) ⊎ EntryAt heap p k w → has (Cell (with_site site (length heap) new p) k (with_site site (length heap) new t))
+    cell : (p : ℕ) (k : KeyId) (w : Value) (t : ℕ) → w.place ≡ Some t → ((p ≡ length heap) × In (k, w) o.entries) ⊎ EntryAt heap p k w →
+        has (Cell (with_site site (length heap) new p) k (with_site site (length heap) new t))
     cell p k w t e (inl (at_end, entry)) =
         rw (at_end, with_site-new site (length heap) new, with_site-below site (length heap) new t (new_fits.within k w t entry e)) (new_fits.cell k w t entry e)
     cell p k w t e (inr old) =
@@ -75,7 +82,10 @@ heap_grown {app} {lists} {has} {site} {heap} {o} {new} fits new_fits = record {
     class p c (inr old) = rw (with_site-below site (length heap) new p (ClassAt-within heap p c old)) (fits.class p c old)
 
 -- the new object in a value
-pub new_fits : (heap : List Object) (site : ℕ → Site) (new : Site) (o : Object) (labels : List ℕ) (points : Site → Type 0) (taints : Path → ℕ → Type 0) → points new → ((l : ℕ) → In l labels → Covered taints [] l) → ((k : KeyId) (w : Value) → In (k, w) o.entries → (ks : List KeyId) (l : ℕ) → Reaches (heap ++ o ∷ []) w ks l → Covered taints (k ∷ ks) l) → Fits (heap ++ o ∷ []) (with_site site (length heap) new) (record { place = Some (length heap); labels = labels }) points taints
+pub new_fits : (heap : List Object) (site : ℕ → Site) (new : Site) (o : Object) (labels : List ℕ) (points : Site → Type 0) (taints : Path → ℕ → Type 0) →
+    points new → ((l : ℕ) → In l labels → Covered taints [] l) →
+    ((k : KeyId) (w : Value) → In (k, w) o.entries → (ks : List KeyId) (l : ℕ) → Reaches (heap ++ o ∷ []) w ks l → Covered taints (k ∷ ks) l) →
+    Fits (heap ++ o ∷ []) (with_site site (length heap) new) (record { place = Some (length heap); labels = labels }) points taints
 new_fits heap site new o labels points taints pointed own entries = record {
   within = λ p e. let same = same_Some _ _ e in omega (arith, length-append heap (o ∷ []));
   pointed = λ p e. subst (λ q. points (with_site site (length heap) new q)) (same_Some _ _ e) (rw with_site-new pointed);

@@ -33,7 +33,8 @@ pub record IsPut (p : ℕ) (k : KeyId) (v : Value) (q : ℕ) (j : KeyId) (w : Va
   pub key : j ≡ k
   pub value : w ≡ v
 
-pub EntryAt-put : (heap : List Object) (p : ℕ) (k : KeyId) (v : Value) (q : ℕ) (j : KeyId) (w : Value) → EntryAt (put_at heap p k v) q j w → IsPut p k v q j w ⊎ EntryAt heap q j w
+pub EntryAt-put : (heap : List Object) (p : ℕ) (k : KeyId) (v : Value) (q : ℕ) (j : KeyId) (w : Value) → EntryAt (put_at heap p k v) q j w →
+    IsPut p k v q j w ⊎ EntryAt heap q j w
 EntryAt-put [] p k v q j w h = absurd h
 EntryAt-put (o ∷ os) zero k v zero j w h =
     elim (In-put_entry k v (j, w) o.entries h) [
@@ -61,7 +62,8 @@ ClassAt-put (o ∷ os) (suc p) k v zero c h = h
 ClassAt-put (o ∷ os) (suc p) k v (suc q) c h = ClassAt-put os p k v q c h
 
 -- an entry beside a new object is of that object, or was there before
-pub EntryAt-append : (heap : List Object) (o : Object) (p : ℕ) (k : KeyId) (w : Value) → EntryAt (heap ++ o ∷ []) p k w → ((p ≡ length heap) × In (k, w) o.entries) ⊎ EntryAt heap p k w
+pub EntryAt-append : (heap : List Object) (o : Object) (p : ℕ) (k : KeyId) (w : Value) → EntryAt (heap ++ o ∷ []) p k w →
+    ((p ≡ length heap) × In (k, w) o.entries) ⊎ EntryAt heap p k w
 EntryAt-append [] o zero k w h = inl (refl, h)
 EntryAt-append [] o (suc p) k w h = absurd h
 EntryAt-append (x ∷ heap) o zero k w h = inr h
@@ -74,14 +76,16 @@ EntryAt-within (x ∷ heap) zero k w h = omega arith
 EntryAt-within (x ∷ heap) (suc p) k w h = let below = EntryAt-within heap p k w h in omega arith
 
 -- the entries at the place of a new object are its own
-pub EntryAt-new : (heap : List Object) (o : Object) (p : ℕ) (k : KeyId) (w : Value) → length heap ≡ p → EntryAt (heap ++ o ∷ []) p k w → In (k, w) o.entries
+pub EntryAt-new : (heap : List Object) (o : Object) (p : ℕ) (k : KeyId) (w : Value) → length heap ≡ p → EntryAt (heap ++ o ∷ []) p k w →
+    In (k, w) o.entries
 EntryAt-new heap o p k w at_end h =
     elim (EntryAt-append heap o p k w h) [
       | inl new ↦ new.1
       | inr old ↦ let below = EntryAt-within heap p k w old in absurd (omega arith)
     ]
 
-pub ClassAt-append : (heap : List Object) (o : Object) (p : ℕ) (c : Name) → ClassAt (heap ++ o ∷ []) p c → ((p ≡ length heap) × (o.class ≡ c)) ⊎ ClassAt heap p c
+pub ClassAt-append : (heap : List Object) (o : Object) (p : ℕ) (c : Name) → ClassAt (heap ++ o ∷ []) p c →
+    ((p ≡ length heap) × (o.class ≡ c)) ⊎ ClassAt heap p c
 ClassAt-append [] o zero c h = inl (refl, h)
 ClassAt-append [] o (suc p) c h = absurd h
 ClassAt-append (x ∷ heap) o zero c h = inr h
@@ -94,7 +98,8 @@ ClassAt-within (x ∷ heap) zero c h = omega arith
 ClassAt-within (x ∷ heap) (suc p) c h = let below = ClassAt-within heap p c h in omega arith
 
 -- an entry after values were added as elements is one of those, or was there before
-pub EntryAt-add_all : (added : List (ℕ × Value)) (heap : List Object) (p : ℕ) (k : KeyId) (w : Value) → EntryAt (add_all heap added) p k w → ((k ≡ elem_key) × In (p, w) added) ⊎ EntryAt heap p k w
+pub EntryAt-add_all : (added : List (ℕ × Value)) (heap : List Object) (p : ℕ) (k : KeyId) (w : Value) → EntryAt (add_all heap added) p k w →
+    ((k ≡ elem_key) × In (p, w) added) ⊎ EntryAt heap p k w
 EntryAt-add_all [] heap p k w h = inr h
 EntryAt-add_all (a ∷ more) heap p k w h =
     elim (EntryAt-add_all more (put_at heap a.0 elem_key a.1) p k w h) [

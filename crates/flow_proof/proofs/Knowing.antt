@@ -51,7 +51,8 @@ abbrev pub StaticFits : App → (Row → Type 0) → List Object → (ℕ → Si
 StaticFits app has heap site g v = Fits heap site v (λ s. has (StaticPoints g s) × SharedOnly app g s) (λ q l. has (StaticTaint g q l))
 
 -- what a write leaves, by the written registers and the others
-pub written : (P : ℕ → Value → Type 0) (registers : ℕ → Value) (d : ℕ) (v : Value) → P d v → ((r : ℕ) → IsFalse (r == d) → P r (registers r)) → (r : ℕ) → P r (write registers d v r)
+pub written : (P : ℕ → Value → Type 0) (registers : ℕ → Value) (d : ℕ) (v : Value) → P d v →
+    ((r : ℕ) → IsFalse (r == d) → P r (registers r)) → (r : ℕ) → P r (write registers d v r)
 written P registers d v new old r = go (r == d) refl
   where
     go : (b : Bool) → (r == d) ≡ b → P r (cond b v (registers r))
@@ -61,7 +62,8 @@ written P registers d v new old r = go (r == d) refl
 held_in : (ds : List ℕ) (r : ℕ) → holds ds r ≡ true → In r ds
 held_in ds r h = let found = one_passes (λ d. r == d) ds h in subst (λ d. In d ds) (sym (eqb-true r found.0 found.2)) found.1
 
-pub written_all : (P : ℕ → Value → Type 0) (registers : ℕ → Value) (ds : List ℕ) (v : Value) → ((d : ℕ) → In d ds → P d v) → ((r : ℕ) → IsFalse (holds ds r) → P r (registers r)) → (r : ℕ) → P r (write_all registers ds v r)
+pub written_all : (P : ℕ → Value → Type 0) (registers : ℕ → Value) (ds : List ℕ) (v : Value) → ((d : ℕ) → In d ds → P d v) →
+    ((r : ℕ) → IsFalse (holds ds r) → P r (registers r)) → (r : ℕ) → P r (write_all registers ds v r)
 written_all P registers ds v new old r = go (holds ds r) refl
   where
     go : (b : Bool) → holds ds r ≡ b → P r (cond b v (registers r))
@@ -92,7 +94,8 @@ pub record WorldFits (app : App) (lists : Lists) (has : Row → Type 0) (w : Wor
 
 -- an effect of the activation on a component comes to it in its present state
 abbrev pub Owns : (Row → Type 0) → Activation → (ℕ → Component_state) → Type 0
-Owns has bottom components = (c : ℕ) → (components c).state ≢ 0 → (q : Path) (l : ℕ) → has (MethodEffect bottom (Component c) q l) → has (CompTaint c (components c).state q l)
+Owns has bottom components =
+    (c : ℕ) → (components c).state ≢ 0 → (q : Path) (l : ℕ) → has (MethodEffect bottom (Component c) q l) → has (CompTaint c (components c).state q l)
 
 -- the activation that the event began
 pub record EventOf (has : Row → Type 0) (components : ℕ → Component_state) : Type 0 where
@@ -104,9 +107,13 @@ pub record EventOf (has : Row → Type 0) (components : ℕ → Component_state)
 -- call is known with the effects of its node, one that waits for an initialiser as if it ran.
 pub data Waits (app : App) (has : Row → Type 0) (bottom : Activation) (heap : List Object) (site : ℕ → Site) : Activation → Bool → List Frame → Type 0 where
   none_waits : {b : Activation} {i : Bool} → b ≡ bottom → Waits app has bottom heap site b i []
-  waits_call : {b : Activation} {g : Frame} {gs : List Frame} (c : Ctx) (kind : CallKind) (at : MethodRef) (args : List ℕ) → ActAt app g.method g.pc (Call kind at args) → has (Reached (node_of c g)) → has (CalledBy b (node_of c g)) → ((r : ℕ) → PendingFits has (node_of c g) heap site r (g.registers r)) →
+  waits_call : {b : Activation} {g : Frame} {gs : List Frame} (c : Ctx) (kind : CallKind) (at : MethodRef) (args : List ℕ) →
+      ActAt app g.method g.pc (Call kind at args) → has (Reached (node_of c g)) → has (CalledBy b (node_of c g)) →
+      ((r : ℕ) → PendingFits has (node_of c g) heap site r (g.registers r)) →
       Waits app has bottom heap site (activation_in c g.method) g.initialises gs → Waits app has bottom heap site b false (g ∷ gs)
-  waits_initialiser : {b : Activation} {g : Frame} {gs : List Frame} (c : Ctx) → InitialisedBy app (node_of c g) b → has (Reached (node_of c g)) → has (CalledBy b (node_of c g)) → ((r : ℕ) → RegisterFits has (node_of c g) heap site r (g.registers r)) →
+  waits_initialiser : {b : Activation} {g : Frame} {gs : List Frame} (c : Ctx) → InitialisedBy app (node_of c g) b →
+      has (Reached (node_of c g)) → has (CalledBy b (node_of c g)) →
+      ((r : ℕ) → RegisterFits has (node_of c g) heap site r (g.registers r)) →
       Waits app has bottom heap site (activation_in c g.method) g.initialises gs → Waits app has bottom heap site b true (g ∷ gs)
 
 -- what is known while a frame runs, with or without the effects of its step
@@ -129,19 +136,26 @@ pub data Known (app : App) (lists : Lists) (has : Row → Type 0) : World → Li
   running : {w : World} {f : Frame} {fs : List Frame} (site : ℕ → Site) (c : Ctx) → Runs app lists has w site c f fs → Known app lists has w (f ∷ fs)
 
 -- values that stay known, as when an object is made, keep waiting frames known
-pub waits_map : {app : App} {has : Row → Type 0} {bottom : Activation} {heap heap' : List Object} {site site' : ℕ → Site} {b : Activation} {i : Bool} {fs : List Frame} → ((v : Value) (P : Site → Type 0) (T : Path → ℕ → Type 0) → Fits heap site v P T → Fits heap' site' v P T) → Waits app has bottom heap site b i fs → Waits app has bottom heap' site' b i fs
+pub waits_map : {app : App} {has : Row → Type 0} {bottom : Activation} {heap heap' : List Object} {site site' : ℕ → Site} {b : Activation} {i : Bool} {fs : List Frame} →
+    ((v : Value) (P : Site → Type 0) (T : Path → ℕ → Type 0) → Fits heap site v P T → Fits heap' site' v P T) →
+    Waits app has bottom heap site b i fs → Waits app has bottom heap' site' b i fs
 waits_map stays (none_waits at_bottom) = none_waits at_bottom
-waits_map stays (waits_call c kind at args act reached called registers more) = waits_call c kind at args act reached called (λ r. stays _ _ _ (registers r)) (waits_map stays more)
-waits_map stays (waits_initialiser c is_one reached called registers more) = waits_initialiser c is_one reached called (λ r. stays _ _ _ (registers r)) (waits_map stays more)
+waits_map stays (waits_call c kind at args act reached called registers more) =
+    waits_call c kind at args act reached called (λ r. stays _ _ _ (registers r)) (waits_map stays more)
+waits_map stays (waits_initialiser c is_one reached called registers more) =
+    waits_initialiser c is_one reached called (λ r. stays _ _ _ (registers r)) (waits_map stays more)
 
 -- a value's object, handed on
-pub handed_of : {has : Row → Type 0} {heap : List Object} {site : ℕ → Site} {v : Value} {P : Site → Type 0} {T : Path → ℕ → Type 0} (p : ℕ) → Fits heap site v P T → v.place ≡ Some p → ((s : Site) → P s → has (Handed s)) → ((s : Site) (q : Path) (l : ℕ) → P s → T q l → has (HandedTaint s q l)) → HandedFits has heap site p
+pub handed_of : {has : Row → Type 0} {heap : List Object} {site : ℕ → Site} {v : Value} {P : Site → Type 0} {T : Path → ℕ → Type 0} (p : ℕ) →
+    Fits heap site v P T → v.place ≡ Some p → ((s : Site) → P s → has (Handed s)) →
+    ((s : Site) (q : Path) (l : ℕ) → P s → T q l → has (HandedTaint s q l)) → HandedFits has heap site p
 handed_of {has} {heap} {site} {v} {P} {T} p fits there row taint = record {
   of = site p;
   row = row _ (fits.pointed p there);
   fits = record {
     within = λ q e. let same = same_Some _ _ e in let below = fits.within p there in omega arith;
     pointed = λ q e. ap site (sym (same_Some _ _ e));
-    tainted = elim [ [] ↦ λ l h. absurd h | k ∷ ks ↦ λ l h. covered_map (λ q l t. taint _ q l (fits.pointed p there) t) (fits.tainted (k ∷ ks) l (h.0, there ∙ h.1, h.2)) ];
+    tainted =
+        elim [ [] ↦ λ l h. absurd h | k ∷ ks ↦ λ l h. covered_map (λ q l t. taint _ q l (fits.pointed p there) t) (fits.tainted (k ∷ ks) l (h.0, there ∙ h.1, h.2)) ];
   };
 }

@@ -53,14 +53,16 @@ record WithResult (app : App) (lists : Lists) (has : Row → Type 0) (heap : Lis
   result : (pc : ℕ) → Goes app f.method f.pc pc → RegisterFits has (at_pc (node_of c f) pc) w.heap later.sites result_register v
 
 -- the same heap, and the same components
-waits_at : {app : App} {has : Row → Type 0} {bottom : Activation} {new old : List Object} {site : ℕ → Site} {b : Activation} {i : Bool} {fs : List Frame} → new ≡ old → Waits app has bottom old site b i fs → Waits app has bottom new site b i fs
+waits_at : {app : App} {has : Row → Type 0} {bottom : Activation} {new old : List Object} {site : ℕ → Site} {b : Activation} {i : Bool} {fs : List Frame} →
+    new ≡ old → Waits app has bottom old site b i fs → Waits app has bottom new site b i fs
 waits_at e h = rw e h
 
 owns_at : (has : Row → Type 0) (bottom : Activation) (new old : ℕ → Component_state) → new ≡ old → Owns has bottom old → Owns has bottom new
 owns_at has bottom new old e h = rw e h
 
 -- the value of a position is that of its register, or a blank
-position_fits : {heap : List Object} {site : ℕ → Site} (f : Frame) (places : List ℕ) (i : ℕ) {P : Site → Type 0} {T : Path → ℕ → Type 0} → ((x : ℕ) → IsAt places i x → Fits heap site (f.registers x) P T) → Fits heap site (value_at f places i) P T
+position_fits : {heap : List Object} {site : ℕ → Site} (f : Frame) (places : List ℕ) (i : ℕ) {P : Site → Type 0} {T : Path → ℕ → Type 0} →
+    ((x : ℕ) → IsAt places i x → Fits heap site (f.registers x) P T) → Fits heap site (value_at f places i) P T
 position_fits {heap} {site} f places i {P} {T} fits = go (slice_get places i) refl
   where
     go : (o : Option ℕ) → slice_get places i ≡ o → Fits heap site (elim o [ Some x ↦ f.registers x | None ↦ blank ]) P T
@@ -94,7 +96,9 @@ in_either x (y ∷ xs) ys (inr h) = elim (in_either x xs ys h) [ inl a ↦ inl (
 
 module _ (app : App) (lists : Lists) (has : Row → Type 0) (closed : Closed app lists has) (laws : PathLaws) where
   -- a new object leaves all known
-  abbrev made_later : {w : World} {site : ℕ → Site} {c : Ctx} {f : Frame} {fs : List Frame} {new : Site} {o : Object} → Runs app lists has w site c f fs → NewFits app lists has w.heap site new o → Later app lists has w.heap site (record w { heap = w.heap ++ o ∷ [] }) c f fs
+  abbrev made_later : {w : World} {site : ℕ → Site} {c : Ctx} {f : Frame} {fs : List Frame} {new : Site} {o : Object} →
+      Runs app lists has w site c f fs → NewFits app lists has w.heap site new o →
+      Later app lists has w.heap site (record w { heap = w.heap ++ o ∷ [] }) c f fs
   made_later {w} {site} {c} {f} {fs} {new} {o} known fits = record {
     sites = with_site site (length w.heap) new;
     running = running_grown app lists has closed laws known fits;
@@ -102,17 +106,23 @@ module _ (app : App) (lists : Lists) (has : Row → Type 0) (closed : Closed app
   }
 
   -- the shared objects
-  shared_later : {more : List ℕ} {heap heap' : List Object} {statics statics' : ℕ → Value} (w : World) (site : ℕ → Site) {c : Ctx} {f : Frame} {fs : List Frame} → ((i : ℕ) → In i more → has (StaticPoints (shared_static app i) (Shared i))) → Makes_shared app lists more heap statics heap' statics' → Runs app lists has (record w { heap = heap; statics = statics }) site c f fs → Later app lists has heap site (record w { heap = heap'; statics = statics' }) c f fs
+  shared_later : {more : List ℕ} {heap heap' : List Object} {statics statics' : ℕ → Value} (w : World) (site : ℕ → Site) {c : Ctx} {f : Frame} {fs : List Frame} →
+      ((i : ℕ) → In i more → has (StaticPoints (shared_static app i) (Shared i))) → Makes_shared app lists more heap statics heap' statics' →
+      Runs app lists has (record w { heap = heap; statics = statics }) site c f fs →
+      Later app lists has heap site (record w { heap = heap'; statics = statics' }) c f fs
   shared_later w site points all_there known = record { sites = site; running = known; stays = λ v P T old. old }
   shared_later w site points (is_there there others) known = shared_later w site (λ i h. points i (inr h)) others known
   shared_later w site {c} {f} {fs} points (is_made {i = i} {class = class} {heap = heap} none of_class others) known =
       let g : ℕ = shared_static app i in
       let o : Object = new_object class in
-      let fits : NewFits app lists has heap site (Shared i) o = record { within = λ _ _ _ h _. absurd h; cell = λ _ _ _ h _. absurd h; class = shared_site of_class } in
+      let fits : NewFits app lists has heap site (Shared i) o =
+      record { within = λ _ _ _ h _. absurd h; cell = λ _ _ _ h _. absurd h; class = shared_site of_class } in
       let grown = running_grown app lists has closed laws known fits in
       let v : Value = object_at (Some (length heap)) in
-      let v_fits : StaticFits app has (heap ++ o ∷ []) (with_site site (length heap) (Shared i)) g v = new_fits heap site (Shared i) o [] (λ s. has (StaticPoints g s) × SharedOnly app g s) (λ q l. has (StaticTaint g q l)) (points i (inl refl), only i) (λ l h. absurd h) (λ k w h. absurd h) in
-      let rest_of = shared_later w (with_site site (length heap) (Shared i)) (λ i h. points i (inr h)) others (running_writing app lists has g v grown v_fits) in
+      let v_fits : StaticFits app has (heap ++ o ∷ []) (with_site site (length heap) (Shared i)) g v =
+      new_fits heap site (Shared i) o [] (λ s. has (StaticPoints g s) × SharedOnly app g s) (λ q l. has (StaticTaint g q l)) (points i (inl refl), only i) (λ l h. absurd h) (λ k w h. absurd h) in
+      let rest_of =
+      shared_later w (with_site site (length heap) (Shared i)) (λ i h. points i (inr h)) others (running_writing app lists has g v grown v_fits) in
       record {
         sites = rest_of.sites;
         running = rest_of.running;
@@ -124,32 +134,43 @@ module _ (app : App) (lists : Lists) (has : Row → Type 0) (closed : Closed app
 
   module _ (w : World) (site : ℕ → Site) (c : Ctx) (f : Frame) (fs : List Frame) (known : Runs app lists has w site c f fs) (u : SummaryId) (r : RowAt app lists (node_of c f) u) (uses : has (Uses (node_of c f) u)) where
     -- a label of a joined result
-    joined_label : {from : List ℕ} (pc : ℕ) → Goes app f.method f.pc pc → r.row.gives ≡ Joined from → IsFalse (is_void r.at.proto.ret) → (l : ℕ) → Joins w.heap f (places_of r) from r.row.source l → has (Taint (at_pc (node_of c f) pc) result_register empty_path l)
-    joined_label pc next is_result not_void l (inl is_source) = lib app lists has closed laws (source_taint {n = node_of c f} r is_result is_source not_void next) (uses, tt)
+    joined_label : {from : List ℕ} (pc : ℕ) → Goes app f.method f.pc pc → r.row.gives ≡ Joined from → IsFalse (is_void r.at.proto.ret) →
+        (l : ℕ) → Joins w.heap f (places_of r) from r.row.source l → has (Taint (at_pc (node_of c f) pc) result_register empty_path l)
+    joined_label pc next is_result not_void l (inl is_source) =
+        lib app lists has closed laws (source_taint {n = node_of c f} r is_result is_source not_void next) (uses, tt)
     joined_label pc next is_result not_void l (inr (i, is_from, (ks, walk))) = reached (slice_get (places_of r) i) refl walk
       where
-        reached : (o : Option ℕ) → slice_get (places_of r) i ≡ o → Reaches w.heap (elim o [ Some x ↦ f.registers x | None ↦ blank ]) ks l → has (Taint (at_pc (node_of c f) pc) result_register empty_path l)
+        reached : (o : Option ℕ) → slice_get (places_of r) i ≡ o → Reaches w.heap (elim o [ Some x ↦ f.registers x | None ↦ blank ]) ks l →
+            has (Taint (at_pc (node_of c f) pc) result_register empty_path l)
         reached None e walk = absurd {0} (no_walk ks walk)
           where
             no_walk : (ks : List KeyId) → Reaches w.heap blank ks l → ⊥
             no_walk [] h = h
             no_walk (k ∷ ks) h = absurd (none-some h.0 h.1)
-        reached (Some x) e walk = lib app lists has closed laws (joined_taint {n = node_of c f} i r is_result is_from not_void (record { there = e }) next) (uses, (((known.registers x).tainted ks l walk).row, tt))
+        reached (Some x) e walk =
+            lib app lists has closed laws (joined_taint {n = node_of c f} i r is_result is_from not_void (record { there = e }) next) (uses, (((known.registers x).tainted ks l walk).row, tt))
 
-    joined_as_element : {from : List ℕ} (pc : ℕ) → Goes app f.method f.pc pc → r.row.gives ≡ Joined from → IsFalse (is_void r.at.proto.ret) → IsTrue (is_reference r.at.proto.ret) → (l : ℕ) → Joins w.heap f (places_of r) from r.row.source l → has (Taint (at_pc (node_of c f) pc) result_register (cut elem_key empty_path) l)
-    joined_as_element pc next is_result not_void reference l (inl is_source) = lib app lists has closed laws (source_element {n = node_of c f} r is_result is_source not_void reference next) (uses, tt)
+    joined_as_element : {from : List ℕ} (pc : ℕ) → Goes app f.method f.pc pc → r.row.gives ≡ Joined from → IsFalse (is_void r.at.proto.ret) →
+        IsTrue (is_reference r.at.proto.ret) → (l : ℕ) → Joins w.heap f (places_of r) from r.row.source l →
+        has (Taint (at_pc (node_of c f) pc) result_register (cut elem_key empty_path) l)
+    joined_as_element pc next is_result not_void reference l (inl is_source) =
+        lib app lists has closed laws (source_element {n = node_of c f} r is_result is_source not_void reference next) (uses, tt)
     joined_as_element pc next is_result not_void reference l (inr (i, is_from, (ks, walk))) = reached (slice_get (places_of r) i) refl walk
       where
-        reached : (o : Option ℕ) → slice_get (places_of r) i ≡ o → Reaches w.heap (elim o [ Some x ↦ f.registers x | None ↦ blank ]) ks l → has (Taint (at_pc (node_of c f) pc) result_register (cut elem_key empty_path) l)
+        reached : (o : Option ℕ) → slice_get (places_of r) i ≡ o → Reaches w.heap (elim o [ Some x ↦ f.registers x | None ↦ blank ]) ks l →
+            has (Taint (at_pc (node_of c f) pc) result_register (cut elem_key empty_path) l)
         reached None e walk = absurd {0} (no_walk ks walk)
           where
             no_walk : (ks : List KeyId) → Reaches w.heap blank ks l → ⊥
             no_walk [] h = h
             no_walk (k ∷ ks) h = absurd (none-some h.0 h.1)
-        reached (Some x) e walk = lib app lists has closed laws (joined_element {n = node_of c f} i r is_result is_from not_void reference (record { there = e }) next) (uses, (((known.registers x).tainted ks l walk).row, tt))
+        reached (Some x) e walk =
+            lib app lists has closed laws (joined_element {n = node_of c f} i r is_result is_from not_void reference (record { there = e }) next) (uses, (((known.registers x).tainted ks l walk).row, tt))
 
     -- the result
-    result_later : {w' : World} {heap : List Object} {v : Value} {gives : Gives} → (later : Later app lists has w.heap site w' c f fs) → r.row.gives ≡ gives → Results app w.heap f (places_of r) r.row.source r.at.proto.ret w'.statics w'.heap gives heap v → WithResult app lists has w.heap site (record w' { heap = heap }) c f fs v
+    result_later : {w' : World} {heap : List Object} {v : Value} {gives : Gives} → (later : Later app lists has w.heap site w' c f fs) →
+        r.row.gives ≡ gives → Results app w.heap f (places_of r) r.row.source r.at.proto.ret w'.statics w'.heap gives heap v →
+        WithResult app lists has w.heap site (record w' { heap = heap }) c f fs v
     result_later later is_result (of_void _) = record { later = later; result = λ pc next. blank_fits _ _ _ _ }
     result_later later is_result (as_blank _) = record { later = later; result = λ pc next. blank_fits _ _ _ _ }
     result_later later is_result (as_same {i = i} not_void) = record {
@@ -178,13 +199,15 @@ module _ (app : App) (lists : Lists) (has : Row → Type 0) (closed : Closed app
     result_later {w'} later is_result (as_object {labels = labels} not_void reference which) =
         record {
           later = record { sites = grown.sites; running = grown.running; stays = λ v P T old. grown.stays v P T (later.stays v P T old) };
-          result = λ pc next. new_fits w'.heap later.sites (At (node_of c f)) (joined_object r.at.proto.ret labels) labels _ (Taints has (at_pc (node_of c f) pc) result_register)
+          result =
+              λ pc next. new_fits w'.heap later.sites (At (node_of c f)) (joined_object r.at.proto.ret labels) labels _ (Taints has (at_pc (node_of c f) pc) result_register)
               (lib app lists has closed laws (joined_points {n = node_of c f} r is_result not_void reference next) (uses, tt))
               (λ l h. record { path = empty_path; covers = laws.empty; row = joined_label pc next is_result not_void l ((which l).0 h) })
               (walks pc next);
         }
       where
-        no_place : {A : Type 0} (k : KeyId) (v : Value) (t : ℕ) → In {A = KeyId × Value} (k, v) ((elem_key, labelled labels) ∷ []) → v.place ≡ Some t → A
+        no_place : {A : Type 0} (k : KeyId) (v : Value) (t : ℕ) → In {A = KeyId × Value} (k, v) ((elem_key, labelled labels) ∷ []) →
+            v.place ≡ Some t → A
         no_place k v t (inl same) e = absurd (none-some t (ap (λ (y : KeyId × Value). y.1.place) (sym same) ∙ e))
         no_place k v t (inr none) e = absurd none
 
@@ -195,19 +218,27 @@ module _ (app : App) (lists : Lists) (has : Row → Type 0) (closed : Closed app
             referred t b e = rw e refl
 
         grown : Later app lists has w'.heap later.sites (record w' { heap = w'.heap ++ joined_object r.at.proto.ret labels ∷ [] }) c f fs
-        grown = made_later later.running (record { within = λ k v t h e. no_place k v t h e; cell = λ k v t h e. no_place k v t h e; class = made_class })
+        grown =
+            made_later later.running (record { within = λ k v t h e. no_place k v t h e; cell = λ k v t h e. no_place k v t h e; class = made_class })
 
-        walks : (pc : ℕ) → Goes app f.method f.pc pc → (k : KeyId) (v : Value) → In {A = KeyId × Value} (k, v) ((elem_key, labelled labels) ∷ []) → (ks : List KeyId) (l : ℕ) → Reaches (w'.heap ++ joined_object r.at.proto.ret labels ∷ []) v ks l → Covered (Taints has (at_pc (node_of c f) pc) result_register) (k ∷ ks) l
+        walks : (pc : ℕ) → Goes app f.method f.pc pc → (k : KeyId) (v : Value) →
+            In {A = KeyId × Value} (k, v) ((elem_key, labelled labels) ∷ []) → (ks : List KeyId) (l : ℕ) →
+            Reaches (w'.heap ++ joined_object r.at.proto.ret labels ∷ []) v ks l →
+            Covered (Taints has (at_pc (node_of c f) pc) result_register) (k ∷ ks) l
         walks pc next k v h (j ∷ ks) l walk = no_place k v walk.0 h walk.1
         walks pc next k v (inr none) [] l walk = absurd none
         walks pc next k v (inl same) [] l walk =
             rw (ap (λ (y : KeyId × Value). y.0) same) (element (subst (λ (y : KeyId × Value). In l y.1.labels) same walk))
           where
             element : In l labels → Covered (Taints has (at_pc (node_of c f) pc) result_register) (elem_key ∷ []) l
-            element h = record { path = cut elem_key empty_path; covers = laws.cut elem_key empty_path [] laws.empty; row = joined_as_element pc next is_result not_void reference l ((which l).0 h) }
+            element h =
+                record { path = cut elem_key empty_path; covers = laws.cut elem_key empty_path [] laws.empty; row = joined_as_element pc next is_result not_void reference l ((which l).0 h) }
 
     -- an added value, in the heap with the result
-    put_of : {w' : World} (later : Later app lists has w.heap site w' c f fs) (p : ℕ) (v : Value) {P : Site → Type 0} {T : Path → ℕ → Type 0} → ((t : Site) → P t → has (Cell (later.sites p) elem_key t)) → ((q : Path) (l : ℕ) → T q l → has (Effect (node_of c f) (later.sites p) (cut elem_key q) l)) → Fits w'.heap later.sites v P T → PutFits has (λ s q l. has (Effect (node_of c f) s q l)) w'.heap later.sites p elem_key v
+    put_of : {w' : World} (later : Later app lists has w.heap site w' c f fs) (p : ℕ) (v : Value) {P : Site → Type 0} {T : Path → ℕ → Type 0} →
+        ((t : Site) → P t → has (Cell (later.sites p) elem_key t)) →
+        ((q : Path) (l : ℕ) → T q l → has (Effect (node_of c f) (later.sites p) (cut elem_key q) l)) → Fits w'.heap later.sites v P T →
+        PutFits has (λ s q l. has (Effect (node_of c f) s q l)) w'.heap later.sites p elem_key v
     put_of later p v cell_rule effect_rule fits = record {
       within = fits.within;
       cell = λ t e. cell_rule _ (fits.pointed t e);
@@ -218,11 +249,15 @@ module _ (app : App) (lists : Lists) (has : Row → Type 0) (closed : Closed app
     placed : {i p : ℕ} → (value_at f (places_of r) i).place ≡ Some p → (x : ℕ) × IsAt (places_of r) i x × ((f.registers x).place ≡ Some p)
     placed {i} {p} there = go (slice_get (places_of r) i) refl there
       where
-        go : (o : Option ℕ) → slice_get (places_of r) i ≡ o → (elim o as (λ _. Value) [ Some x ↦ f.registers x | None ↦ blank ]).place ≡ Some p → (x : ℕ) × IsAt (places_of r) i x × ((f.registers x).place ≡ Some p)
+        go : (o : Option ℕ) → slice_get (places_of r) i ≡ o →
+            (elim o as (λ _. Value) [ Some x ↦ f.registers x | None ↦ blank ]).place ≡ Some p →
+            (x : ℕ) × IsAt (places_of r) i x × ((f.registers x).place ≡ Some p)
         go None e there = absurd (none-some p there)
         go (Some x) e there = (x, record { there = e }, there)
 
-    added_fits : {w' : World} → (later : Later app lists has w.heap site w' c f fs) → (p : ℕ) (v : Value) → Adds app w.heap f (places_of r) w'.statics r.row (p, v) → PutFits has (λ s q l. has (Effect (node_of c f) s q l)) w'.heap later.sites p elem_key v
+    added_fits : {w' : World} → (later : Later app lists has w.heap site w' c f fs) → (p : ℕ) (v : Value) →
+        Adds app w.heap f (places_of r) w'.statics r.row (p, v) →
+        PutFits has (λ s q l. has (Effect (node_of c f) s q l)) w'.heap later.sites p elem_key v
     added_fits later p v (by_put i j is_put there) =
         let object = placed there in
         let points = (later.running.registers object.0).pointed p object.2 in
@@ -247,7 +282,9 @@ module _ (app : App) (lists : Lists) (has : Row → Type 0) (closed : Closed app
         (λ y q l taint cut_off. lib app lists has closed laws (copy_effect {n = node_of c f} i j r is_copy from.1 object.1 cut_off) (uses, (taint, (points, tt))))
         (known.registers from.0) (entry_of from.2 found)))
 
-    adds_changed : {w' : World} → (later : Later app lists has w.heap site w' c f fs) → (added : List (ℕ × Value)) → ((a : ℕ × Value) → In a added → Adds app w.heap f (places_of r) w'.statics r.row a) → Changed has (λ s q l. has (Effect (node_of c f) s q l)) later.sites w'.heap (add_all w'.heap added)
+    adds_changed : {w' : World} → (later : Later app lists has w.heap site w' c f fs) → (added : List (ℕ × Value)) →
+        ((a : ℕ × Value) → In a added → Adds app w.heap f (places_of r) w'.statics r.row a) →
+        Changed has (λ s q l. has (Effect (node_of c f) s q l)) later.sites w'.heap (add_all w'.heap added)
     adds_changed {w'} later added adds = record {
       same_length = length-add_all added w'.heap;
       same_class = λ p d h. ClassAt-add_all added w'.heap p d h;
@@ -255,7 +292,8 @@ module _ (app : App) (lists : Lists) (has : Row → Type 0) (closed : Closed app
       lift = lift_at app lists has closed laws (node_of c f);
     }
       where
-        entries : (p : ℕ) (k : KeyId) (v : Value) → ((k ≡ elem_key) × In {A = ℕ × Value} (p, v) added) ⊎ EntryAt w'.heap p k v → EntryAt w'.heap p k v ⊎ PutFits has (λ s q l. has (Effect (node_of c f) s q l)) w'.heap later.sites p k v
+        entries : (p : ℕ) (k : KeyId) (v : Value) → ((k ≡ elem_key) × In {A = ℕ × Value} (p, v) added) ⊎ EntryAt w'.heap p k v →
+            EntryAt w'.heap p k v ⊎ PutFits has (λ s q l. has (Effect (node_of c f) s q l)) w'.heap later.sites p k v
         entries p k v (inl (key, h)) = inr (rw key (added_fits later p v (adds (p, v) h)))
         entries p k v (inr old) = inl old
 
@@ -263,26 +301,35 @@ module _ (app : App) (lists : Lists) (has : Row → Type 0) (closed : Closed app
     names_shared : (i : ℕ) → In i (shared_named r.row r.at.proto.ret) → has (StaticPoints (shared_static app i) (Shared i))
     names_shared i h = by (in_either i (map (λ (s : ℕ × ℕ). s.1) r.row.stores) _ h)
       where
-        of_result : (b : Bool) → is_void r.at.proto.ret ≡ b → In i (cond b [] (result_shared r.row.gives)) → has (StaticPoints (shared_static app i) (Shared i))
+        of_result : (b : Bool) → is_void r.at.proto.ret ≡ b → In i (cond b [] (result_shared r.row.gives)) →
+            has (StaticPoints (shared_static app i) (Shared i))
         of_result true e h = absurd h
         of_result false e h = lib app lists has closed laws (shared_static_points {n = node_of c f} r (shared_result r.row.gives i h) e) (uses, tt)
 
-        by : In i (map (λ (s : ℕ × ℕ). s.1) r.row.stores) ⊎ In i (cond (is_void r.at.proto.ret) [] (result_shared r.row.gives)) → has (StaticPoints (shared_static app i) (Shared i))
+        by : In i (map (λ (s : ℕ × ℕ). s.1) r.row.stores) ⊎ In i (cond (is_void r.at.proto.ret) [] (result_shared r.row.gives)) →
+            has (StaticPoints (shared_static app i) (Shared i))
         by (inl h) = let store = stored r.row.stores i h in lib app lists has closed laws (store_static {n = node_of c f} store.0 i r store.1) (uses, tt)
         by (inr h) = of_result (is_void r.at.proto.ret) refl h
 
   -- What a call on a library class finds in the lists has its row.
-  pub looked_up : {w : World} {site : ℕ → Site} {c : Ctx} {f : Frame} {fs : List Frame} {kind : CallKind} {at : MethodRef} {args : List ℕ} {t : Target} {class : Name} {row : Row} → Runs app lists has w site c f fs → ActAt app f.method f.pc (Call kind at args) → Calls_to app w.heap f kind at args t → t ≡ Library class → LooksUp app lists (node_of c f) kind at class row → has row
-  looked_up {c = c} {f = f} known act (by_name plain is_target) same found = cal app lists has closed laws (use_by_name {n = node_of c f} act (is_target ∙ same) found) (known.reached, tt)
-  looked_up {c = c} {f = f} known act (by_nothing virtual none is_target) same found = cal app lists has closed laws (use_by_name {n = node_of c f} act (is_target ∙ same) found) (known.reached, tt)
-  looked_up {c = c} {f = f} known act (by_class {x = x} {p = p} class virtual is_first there of_class is_target) same found = cal app lists has closed laws (use_by_class {n = node_of c f} act virtual is_first (known.world.heap.class p class of_class) (is_target ∙ same) found) ((known.registers x).pointed p there, tt)
+  pub looked_up : {w : World} {site : ℕ → Site} {c : Ctx} {f : Frame} {fs : List Frame} {kind : CallKind} {at : MethodRef} {args : List ℕ} {t : Target} {class : Name} {row : Row} →
+      Runs app lists has w site c f fs → ActAt app f.method f.pc (Call kind at args) → Calls_to app w.heap f kind at args t →
+      t ≡ Library class → LooksUp app lists (node_of c f) kind at class row → has row
+  looked_up {c = c} {f = f} known act (by_name plain is_target) same found =
+      cal app lists has closed laws (use_by_name {n = node_of c f} act (is_target ∙ same) found) (known.reached, tt)
+  looked_up {c = c} {f = f} known act (by_nothing virtual none is_target) same found =
+      cal app lists has closed laws (use_by_name {n = node_of c f} act (is_target ∙ same) found) (known.reached, tt)
+  looked_up {c = c} {f = f} known act (by_class {x = x} {p = p} class virtual is_first there of_class is_target) same found =
+      cal app lists has closed laws (use_by_class {n = node_of c f} act virtual is_first (known.world.heap.class p class of_class) (is_target ∙ same) found) ((known.registers x).pointed p there, tt)
 
   pub record LibraryKnown (new : World) (c : Ctx) (f : Frame) (fs : List Frame) (v : Value) : Type 0 where
     pub sites : ℕ → Site
     pub running : RunsPending app lists has new sites c f fs
     pub result : (pc : ℕ) → Goes app f.method f.pc pc → RegisterFits has (at_pc (node_of c f) pc) new.heap sites result_register v
 
-  known_row : {w new : World} {site : ℕ → Site} {c : Ctx} {f : Frame} {fs : List Frame} {v : Value} {u : SummaryId} → Runs app lists has w site c f fs → (r : RowAt app lists (node_of c f) u) → has (Uses (node_of c f) u) → Library_call app lists w f (places_of r) r.at.proto.ret r.row new v → LibraryKnown new c f fs v
+  known_row : {w new : World} {site : ℕ → Site} {c : Ctx} {f : Frame} {fs : List Frame} {v : Value} {u : SummaryId} →
+      Runs app lists has w site c f fs → (r : RowAt app lists (node_of c f) u) → has (Uses (node_of c f) u) →
+      Library_call app lists w f (places_of r) r.at.proto.ret r.row new v → LibraryKnown new c f fs v
   known_row {w} {new} {site} {c} {f} {fs} {v} {u} known r uses call = record {
     sites = last.later.sites;
     running = record {
@@ -297,7 +344,8 @@ module _ (app : App) (lists : Lists) (has : Row → Type 0) (closed : Closed app
         handed = rw call.heap after.world.handed;
       };
       registers = λ r. rw call.heap (after.registers r);
-      event = record { bottom = after.event.bottom; is_event = after.event.is_event; owns = owns_at has after.event.bottom new.components w.components call.components after.event.owns };
+      event =
+          record { bottom = after.event.bottom; is_event = after.event.is_event; owns = owns_at has after.event.bottom new.components w.components call.components after.event.owns };
       waits = waits_at call.heap after.waits;
     };
     result = λ pc next. rw call.heap (fits_after laws last.later.running.world.heap changed (take_in pc next) (last.result pc next));
@@ -323,7 +371,8 @@ module _ (app : App) (lists : Lists) (has : Row → Type 0) (closed : Closed app
       handing : Runs app lists has (record w { heap = call.with_result; statics = new.statics; handed = new.handed }) last.later.sites c f fs
       handing = let k = last.later.running in record {
         reached = k.reached;
-        world = record { heap = k.world.heap; statics = k.world.statics; arrivals = k.world.arrivals; live = k.world.live; absent = k.world.absent; components = k.world.components; handed = λ p h. handed_now p ((call.handed p).0 h) };
+        world =
+            record { heap = k.world.heap; statics = k.world.statics; arrivals = k.world.arrivals; live = k.world.live; absent = k.world.absent; components = k.world.components; handed = λ p h. handed_now p ((call.handed p).0 h) };
         registers = k.registers;
         event = k.event;
         waits = k.waits;
@@ -332,25 +381,31 @@ module _ (app : App) (lists : Lists) (has : Row → Type 0) (closed : Closed app
       after : RunsPending app lists has (record w { heap = add_all call.with_result call.added; statics = new.statics; handed = new.handed }) last.later.sites c f fs
       after = running_after app lists has closed laws handing changed
 
-      take_in : (pc : ℕ) → Goes app f.method f.pc pc → (q : Path) (l : ℕ) → has (Taint (at_pc (node_of c f) pc) result_register q l) ⊎ Touched (λ s. has (Points (at_pc (node_of c f) pc) result_register s)) (λ s q l. has (Effect (node_of c f) s q l)) q l → has (Taint (at_pc (node_of c f) pc) result_register q l)
+      take_in : (pc : ℕ) → Goes app f.method f.pc pc → (q : Path) (l : ℕ) →
+          has (Taint (at_pc (node_of c f) pc) result_register q l) ⊎ Touched (λ s. has (Points (at_pc (node_of c f) pc) result_register s)) (λ s q l. has (Effect (node_of c f) s q l)) q l →
+          has (Taint (at_pc (node_of c f) pc) result_register q l)
       take_in pc next q l (inl old) = old
       take_in pc next q l (inr (s, points, e)) = eff app lists has closed laws (effect_next {n = node_of c f} next) (e, (points, tt))
 
       at_sink : (a : Arrival) → AtSink w.heap f (places_of r) r.row a → has (Arrive a.label a.sink (node_of c f))
       at_sink a s = reached (slice_get (places_of r) s.at) refl s.walk
         where
-          reached : (o : Option ℕ) → slice_get (places_of r) s.at ≡ o → Reaches w.heap (elim o [ Some x ↦ f.registers x | None ↦ blank ]) s.keys a.label → has (Arrive a.label a.sink (node_of c f))
+          reached : (o : Option ℕ) → slice_get (places_of r) s.at ≡ o →
+              Reaches w.heap (elim o [ Some x ↦ f.registers x | None ↦ blank ]) s.keys a.label → has (Arrive a.label a.sink (node_of c f))
           reached None e walk = absurd {0} (no_walk s.keys walk)
             where
               no_walk : (ks : List KeyId) → Reaches w.heap blank ks a.label → ⊥
               no_walk [] h = h
               no_walk (k ∷ ks) h = absurd (none-some h.0 h.1)
-          reached (Some x) e walk = lib app lists has closed laws (sink_arrives {n = node_of c f} s.at a.sink r s.is_sink (record { there = e })) (uses, (((known.registers x).tainted s.keys a.label walk).row, tt))
+          reached (Some x) e walk =
+              lib app lists has closed laws (sink_arrives {n = node_of c f} s.at a.sink r s.is_sink (record { there = e })) (uses, (((known.registers x).tainted s.keys a.label walk).row, tt))
 
       arrived : (a : Arrival) → In a w.arrivals ⊎ AtSink w.heap f (places_of r) r.row a → ArrivalKnown has a
       arrived a (inl old) = known.world.arrivals a old
       arrived a (inr s) = record { node = node_of c f; same_method = sym s.method; same_pc = sym s.pc; holds = at_sink a s }
 
-  pub known_library : {w new : World} {site : ℕ → Site} {c : Ctx} {f : Frame} {fs : List Frame} {kind : CallKind} {at : MethodRef} {args : List ℕ} {row : Summary} {v : Value} → Runs app lists has w site c f fs → ActAt app f.method f.pc (Call kind at args) → Uses_row app lists w.heap f kind at args row → Library_call app lists w f (positions kind at args) at.proto.ret row new v → LibraryKnown new c f fs v
+  pub known_library : {w new : World} {site : ℕ → Site} {c : Ctx} {f : Frame} {fs : List Frame} {kind : CallKind} {at : MethodRef} {args : List ℕ} {row : Summary} {v : Value} →
+      Runs app lists has w site c f fs → ActAt app f.method f.pc (Call kind at args) → Uses_row app lists w.heap f kind at args row →
+      Library_call app lists w f (positions kind at args) at.proto.ret row new v → LibraryKnown new c f fs v
   known_library {kind = kind} {at = at} {args = args} {row = row} known act used call =
       known_row known (record { kind = kind; at = at; args = args; row = row; act = act; is_row = used.is_row }) (looked_up known act used.goes refl (finds_row used.is_key used.is_row used.plain)) call

@@ -33,17 +33,21 @@ pub sound_step : {app : App} (method pc : ℕ) {step : Step} → SoundApp app �
 unfolding step_at
 sound_step {app} method pc {step} sound e = of_method (slice_get app.methods method) refl e
   where
-    of_code : (m : Method) → slice_get app.methods method ≡ Some m → SoundMethod app m → (b : Bool) → m.is_native ≡ b → In step m.steps → OfMethod app method step
+    of_code : (m : Method) → slice_get app.methods method ≡ Some m → SoundMethod app m → (b : Bool) → m.is_native ≡ b → In step m.steps →
+        OfMethod app method step
     of_code m got sound_method true native h = absurd (subst (λ steps. In step steps) (sound_method.of_native native) h)
     of_code m got sound_method false code h = let sound_code = sound_method.of_code code in record { method = m; there = got; code = sound_code; sound = sound_code.steps step h }
 
-    of_method : (o : Option Method) → slice_get app.methods method ≡ o → (elim o [ None ↦ None | Some m ↦ find (λ (s : Step). s.pc == pc) m.steps ]) ≡ Some step → OfMethod app method step
+    of_method : (o : Option Method) → slice_get app.methods method ≡ o →
+        (elim o [ None ↦ None | Some m ↦ find (λ (s : Step). s.pc == pc) m.steps ]) ≡ Some step → OfMethod app method step
     of_method None got found = absurd (let none : ⊥ = cc in none)
-    of_method (Some m) got found = of_code m got (sound.bodies m (in_slice_get app.methods method m got)) m.is_native refl (in_found (λ (s : Step). s.pc == pc) m.steps step found)
+    of_method (Some m) got found =
+        of_code m got (sound.bodies m (in_slice_get app.methods method m got)) m.is_native refl (in_found (λ (s : Step). s.pc == pc) m.steps step found)
 
 -- the static of a PutStatic is one of the app's
 pub put_static_below : {app : App} {method pc g x : ℕ} → SoundApp app → ActAt app method pc (PutStatic g x) → g < length app.statics
-put_static_below {app} {method} {pc} sound act = (subst (λ a. AllBelow (length app.statics) (statics_of a)) act.same (sound_step method pc sound act.there).sound.statics).0
+put_static_below {app} {method} {pc} sound act =
+    (subst (λ a. AllBelow (length app.statics) (statics_of a)) act.same (sound_step method pc sound act.there).sound.statics).0
 
 protos_equal : (p q : Proto) → same_proto p q ≡ true → p ≡ q
 protos_equal p q e =
@@ -61,11 +65,13 @@ pub record HasProto (app : App) (body : ℕ) (proto : Proto) : Type 0 where
 pub method_proto : (app : App) (class name : Name) (proto : Proto) (body : ℕ) → method_of app class name proto ≡ Some body → HasProto app body proto
 unfolding method_of
 method_proto app class name proto body e =
-    let found = index_found (λ (m : Method). same_name m.at.class class && same_name m.at.name name && same_proto m.at.proto proto) app.methods body e in
+    let found =
+    index_found (λ (m : Method). same_name m.at.class class && same_name m.at.name name && same_proto m.at.proto proto) app.methods body e in
     record {
       method = found.0;
       there = found.1;
-      is_proto = protos_equal found.0.at.proto proto (and_parts (same_name found.0.at.class class && same_name found.0.at.name name) (same_proto found.0.at.proto proto) found.2).1;
+      is_proto =
+          protos_equal found.0.at.proto proto (and_parts (same_name found.0.at.class class && same_name found.0.at.name name) (same_proto found.0.at.proto proto) found.2).1;
     }
 
 pub body_proto : (app : App) (class name : Name) (proto : Proto) (body : ℕ) → find_body app class name proto ≡ Some body → HasProto app body proto
@@ -97,7 +103,9 @@ unfolding initialiser_proto
 no_widths p e = ap (λ (q : Proto). widths q.params) e
 
 -- A call that enters an initialiser which may run before it passes no argument.
-pub no_arguments : {app : App} {method pc : ℕ} {kind : CallKind} {at : MethodRef} {args : List ℕ} (class : Option Name) {body : ℕ} → SoundApp app → ActAt app method pc (Call kind at args) → target app kind method at class ≡ Body body → Initialises app method pc body → (i x : ℕ) → IsAt args i x → ⊥
+pub no_arguments : {app : App} {method pc : ℕ} {kind : CallKind} {at : MethodRef} {args : List ℕ} (class : Option Name) {body : ℕ} →
+    SoundApp app → ActAt app method pc (Call kind at args) → target app kind method at class ≡ Body body → Initialises app method pc body →
+    (i x : ℕ) → IsAt args i x → ⊥
 unfolding target initialisers class_initialised
 no_arguments {app} {method} {pc} {kind} {at} {args} class {body} sound act goes is_one i x is_at = by_kind kind refl
   where
@@ -124,10 +132,13 @@ neither true class body e = cc
 neither false class body e = cc
 
 -- a virtual or interface call whose receiver has no place comes to no body
-pub no_body : (app : App) (kind : CallKind) (method : ℕ) (at : MethodRef) (body : ℕ) → IsTrue (is_by_receiver kind) → target app kind method at None ≡ Body body → ⊥
+pub no_body : (app : App) (kind : CallKind) (method : ℕ) (at : MethodRef) (body : ℕ) → IsTrue (is_by_receiver kind) →
+    target app kind method at None ≡ Body body → ⊥
 unfolding target is_by_receiver
-no_body app Virtual method at body is e = neither (is_some (find_body app at.class at.name at.proto) || lists_bare app at.class at.name at.proto) at.class body e
-no_body app Interface method at body is e = neither (is_some (find_body app at.class at.name at.proto) || lists_bare app at.class at.name at.proto) at.class body e
+no_body app Virtual method at body is e =
+    neither (is_some (find_body app at.class at.name at.proto) || lists_bare app at.class at.name at.proto) at.class body e
+no_body app Interface method at body is e =
+    neither (is_some (find_body app at.class at.name at.proto) || lists_bare app at.class at.name at.proto) at.class body e
 no_body app Super method at body is e = absurd (let none : ⊥ = cc in none)
 no_body app Direct method at body is e = absurd (let none : ⊥ = cc in none)
 no_body app Static method at body is e = absurd (let none : ⊥ = cc in none)
