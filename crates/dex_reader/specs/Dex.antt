@@ -75,3 +75,6 @@ pub record ExactlyOne (bytes : List ℕ) : Type 0 where
   pub one_dex : (dex other : Dex) → IsDex bytes dex → IsDex bytes other → dex ≡ other
   pub one_fault : (fault other : Fault) → FirstDexFault bytes fault → FirstDexFault bytes other → fault ≡ other
   pub not_both : (dex : Dex) (fault : Fault) → IsDex bytes dex → FirstDexFault bytes fault → ⊥
+
+abbrev pub OneDexOrFault : Type 0
+OneDexOrFault = (bytes : List ℕ) → ExactlyOne bytes

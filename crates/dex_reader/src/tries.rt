@@ -33,9 +33,9 @@ pub struct TryItem {
 }
 
 #[tactic(auto, unfolding(crate::specs::Tries::try_row), using(vet_base::proofs::Scripts::run_bind))]
-fn try_item_of(file: &[u8], code: u32, _i: u32, place: Place) -> Result<(TryItem, Place), ReadError>
+fn try_item_of(file: &[u8], code: u32, place: Place) -> Result<(TryItem, Place), ReadError>
     requires { length file.now < 2 ^ 32 }
-    ensures { Gives (λ x. x) result (try_row file.now code _i place) }
+    ensures { Gives (λ x. x) result (try_row file.now code place) }
 {
     let (start, at) = u4_of(file, place.at, code)?;
     let (count, at) = u2_of(file, at, code)?;
@@ -52,7 +52,7 @@ fn try_item_of(file: &[u8], code: u32, _i: u32, place: Place) -> Result<(TryItem
     Ok((item, Place { at, total }))
 }
 
-#[tactic(auto, unfolding(crate::specs::Tries::try_rows_at), using(vet_base::proofs::Scripts::begins, vet_base::proofs::Scripts::goes_on, vet_base::proofs::Scripts::ends, vet_base::proofs::Scripts::is_done))]
+#[tactic(auto, unfolding(crate::specs::Tries::try_rows_at), using(vet_base::proofs::Repeats::repeat_begins, vet_base::proofs::Repeats::repeat_goes_on, vet_base::proofs::Repeats::repeat_fails, vet_base::proofs::Repeats::repeat_is_done))]
 fn try_items_of(
     alloc: Global,
     file: &[u8],
@@ -65,8 +65,8 @@ fn try_items_of(
 {
     let mut items = Vec::new(alloc);
     let mut place = begin;
-    for i in 0..count {
-        let (item, next) = try_item_of(file, code, i, place)?;
+    for _ in 0..count {
+        let (item, next) = try_item_of(file, code, place)?;
         items.push(item)?;
         place = next;
     }
@@ -86,7 +86,6 @@ fn handler_in(handlers: &[Handler], end: u32, at: u64) -> Option<&Handler>
 
 #[tactic(auto, unfolding(crate::specs::Tries::try_of), using(vet_base::proofs::Scripts::run_bind))]
 fn raw_try_of(
-    alloc: Global,
     handlers: &[Handler],
     end: u32,
     list: u32,
@@ -109,13 +108,13 @@ fn raw_try_of(
     let found = RawTry {
         start: item.start,
         count: item.count,
-        handlers: Seq::from_vec(pairs.to_vec(alloc)?),
+        handlers: handler.pairs.copy()?,
         catch_all: handler.catch_all,
     };
     Ok((found, total as u32))
 }
 
-#[tactic(auto, unfolding(crate::specs::Tries::joined_at), using(vet_base::proofs::Scripts::walk_begins, crate::proofs::WalkItems::item_goes_on, crate::proofs::WalkItems::item_fails, vet_base::proofs::Scripts::walk_is_done))]
+#[tactic(auto, unfolding(crate::specs::Tries::joined_at), using(vet_base::proofs::Scripts::walk_begins, vet_base::proofs::Scripts::walk_goes_on_at, vet_base::proofs::Scripts::walk_fails_at, vet_base::proofs::Scripts::walk_is_done))]
 fn joined_of(
     alloc: Global,
     handlers: &[Handler],
@@ -131,7 +130,7 @@ fn joined_of(
     let mut tries = Vec::with_capacity(alloc, items.len())?;
     let mut total = begin;
     for item in items {
-        let (found, sum) = raw_try_of(alloc, handlers, end, list, code, item, total)?;
+        let (found, sum) = raw_try_of(handlers, end, list, code, item, total)?;
         tries.push(found)?;
         total = sum;
     }
