@@ -15,8 +15,8 @@ use Rattle.dex_reader.specs.declared.place.Totals.{Totals}
 use Rattle.dex_reader.specs.ClassData.{walk_at, one_more, counted, sum_below, member_of, member_row, members_at, body_of, body_row, bodies_at, counts_at, class_data_of, some_class_data_at, class_data_at, class_def_of}
 use Rattle.dex_reader.specs.Code.{maybe_code_at}
 use Rattle.dex_reader.specs.Sequences.{IsLeb, Follow}
-use Rattle.dex_reader.specs.CodeStands.{no_totals}
-use Rattle.dex_reader.specs.ClassesStand.{plus, one_member, Spot, IsMember, IsBody, HasClassData, MaybeClassData}
+use Rattle.dex_reader.specs.ClassesStand.{one_member, Spot, IsMember, IsBody, HasClassData, MaybeClassData}
+use Rattle.dex_reader.specs.Totals.{no_totals, plus}
 use Rattle.dex_reader.proofs.Readings.{there_ok, repeat_read, repeat_again, OneRead, ManyRead}
 use Rattle.dex_reader.proofs.TableReadings.{suc_not_zero}
 use Rattle.dex_reader.proofs.CodeReadings.{WithinTotals, same_totals, totals_add, maybe_code_is, maybe_code_again}

@@ -20,8 +20,8 @@ use Rattle.dex_reader.specs.Handlers.{pair_row, pairs_at, pair_count, catches_al
 use Rattle.dex_reader.specs.Tries.{padding_of, tries_begin, try_row, try_rows_at, raw_try, try_of, joined_at, some_tries_at, tries_at}
 use Rattle.dex_reader.specs.Code.{code_head_at, units_from, units_at, raw_code, coded, code_at, maybe_code_at}
 use Rattle.dex_reader.specs.Sequences.{Is2, Is4, RowsStand, Follow}
-use Rattle.dex_reader.specs.CodeStands.{IsPair, IsCatchAll, IsHandler, IsTryItem, IsTry, AreTries, pairs_of, HasTries, MaybeTries, padded, IsCode, MaybeCode, no_totals}
-use Rattle.dex_reader.specs.ClassesStand.{plus}
+use Rattle.dex_reader.specs.CodeStands.{IsPair, IsCatchAll, IsHandler, IsTryItem, IsTry, AreTries, pairs_of, HasTries, MaybeTries, padded, IsCode, MaybeCode}
+use Rattle.dex_reader.specs.Totals.{no_totals, plus}
 use Rattle.dex_reader.proofs.Readings.{there_ok, repeat_read, repeat_again, OneRead, ManyRead, Adds}
 use Rattle.dex_reader.proofs.TableReadings.{u2_is, u4_is, u2_behind, u4_behind, u2_within, u4_within, number_adds, rows_from_follow, follow_from_rows, suc_not_zero}
 use Rattle.std.proofs.lemmas.Option.{same_Some}

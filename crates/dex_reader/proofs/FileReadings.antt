@@ -29,9 +29,9 @@ use Rattle.dex_reader.specs.ClassData.{class_def_of, class_data_at, class_of, cl
 use Rattle.dex_reader.specs.Whole.{FirstDexFault, sizes_of, ids_at, file_at, dex_at}
 use Rattle.dex_reader.specs.Sequences.{Is4, RowsStand, Follow}
 use Rattle.dex_reader.specs.TablesStand.{TableStands, MaybeTypeList, IsName, IsType, IsProto, IsField, IsMethod}
-use Rattle.dex_reader.specs.CodeStands.{no_totals}
-use Rattle.dex_reader.specs.ClassesStand.{plus, MaybeClassData, IsSuperclass, IsClass, IsClassRow}
+use Rattle.dex_reader.specs.ClassesStand.{MaybeClassData, IsSuperclass, IsClass, IsClassRow}
 use Rattle.dex_reader.specs.Dex.{IsSection, IsHeader, params_of, interfaces_of, HasTables, WithinLimits, IsDex, ExactlyOne}
+use Rattle.dex_reader.specs.Totals.{no_totals, plus}
 use Rattle.dex_reader.proofs.Readings.{there_ok, follow_read, OneRead}
 use Rattle.dex_reader.proofs.TableReadings.{u4_is, u4_behind, u4_within, number_adds, rows_from_follow, maybe_list_is, maybe_list_again, strings_are, strings_again, protos_are, protos_again, types_are, types_again, fields_are, fields_again, methods_are, methods_again}
 use Rattle.dex_reader.proofs.CodeReadings.{WithinTotals, same_totals, totals_add, four_there}

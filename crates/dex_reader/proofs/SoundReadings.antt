@@ -27,10 +27,11 @@ use Rattle.dex_reader.specs.Tries.{raw_try}
 use Rattle.dex_reader.specs.Whole.{sizes_of}
 use Rattle.dex_reader.specs.Sequences.{Is2, Is4, RowsStand, Follow, AtOffset}
 use Rattle.dex_reader.specs.TablesStand.{TableStands, IsName, IsType, IsTypeList, MaybeTypeList, IsProto, IsField, IsMethod}
-use Rattle.dex_reader.specs.CodeStands.{IsPair, IsHandler, IsTryItem, IsTry, AreTries, pairs_of, HasTries, MaybeTries, IsCode, IsSomeCode, MaybeCode, no_totals}
-use Rattle.dex_reader.specs.ClassesStand.{plus, one_member, Spot, IsMember, IsBody, HasClassData, HasNoMembers, MaybeClassData, IsSuperclass, IsClass, IsClassRow}
+use Rattle.dex_reader.specs.CodeStands.{IsPair, IsHandler, IsTryItem, IsTry, AreTries, pairs_of, HasTries, MaybeTries, IsCode, IsSomeCode, MaybeCode}
+use Rattle.dex_reader.specs.ClassesStand.{one_member, Spot, IsMember, IsBody, HasClassData, HasNoMembers, MaybeClassData, IsSuperclass, IsClass, IsClassRow}
 use Rattle.dex_reader.specs.Dex.{IsHeader, HasTables, WithinLimits, IsDex}
 use Rattle.dex_reader.specs.Sound.{rows_of, IsSoundProto, IsSoundField, IsSoundMethod, IsSoundTry, IsSoundCode, IsSoundMember, IfCode, IsSoundBody, IfSuperclass, IsSoundClass, code_units, tried, code_tries, body_units, body_tries, class_members, class_units, class_tries, SoundDex}
+use Rattle.dex_reader.specs.Totals.{no_totals, plus}
 use Rattle.dex_reader.proofs.TableReadings.{u4_within, u2_within}
 use Rattle.dex_reader.proofs.CodeReadings.{units_again, as_many}
 use Rattle.std.proofs.lemmas.Option.{same_Some}

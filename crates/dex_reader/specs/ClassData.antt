@@ -17,6 +17,7 @@ use Rattle.dex_reader.specs.declared.place.Sizes.{Sizes}
 use Rattle.dex_reader.specs.declared.place.Totals.{Totals}
 use Rattle.dex_reader.specs.Parts.{uleb_at, index_test}
 use Rattle.dex_reader.specs.Code.{maybe_code_at}
+use Rattle.dex_reader.specs.Totals.{no_totals}
 
 -- where the next member stands, the sum of the index differences before it, and the running totals
 abbrev pub walk_at : ℕ → ℕ → Totals → Walk
@@ -103,9 +104,6 @@ unfoldable pub class_of : List ℕ → Sizes → ClassRow → Totals → Script 
 class_of file sizes row totals = do
   lists ← class_data_at file sizes row.row row.class_data totals
   Value (class_def_of row lists.0, lists.1)
-
-abbrev pub no_totals : Totals
-no_totals = record { members = 0; units = 0; tries = 0 }
 
 unfoldable pub classes_at : List ℕ → Sizes → List ClassRow → Script Fault (List ClassDef × Totals)
 classes_at file sizes class_rows = walk (class_of file sizes) class_rows no_totals

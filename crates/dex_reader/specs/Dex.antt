@@ -13,8 +13,8 @@ use Rattle.dex_reader.specs.Headers.{magic}
 use Rattle.dex_reader.specs.Whole.{sizes_of, FirstDexFault}
 use Rattle.dex_reader.specs.Sequences.{Is4, Follow}
 use Rattle.dex_reader.specs.TablesStand.{TableStands, IsName, IsType, IsProto, IsField, IsMethod}
-use Rattle.dex_reader.specs.CodeStands.{no_totals}
-use Rattle.dex_reader.specs.ClassesStand.{plus, IsClassRow}
+use Rattle.dex_reader.specs.ClassesStand.{IsClassRow}
+use Rattle.dex_reader.specs.Totals.{no_totals, plus}
 
 -- the size and the offset of a table
 abbrev pub IsSection : List ℕ → ℕ → Section → Type 0
