@@ -1,5 +1,5 @@
 -- A file that is read is a DEX file in which that stands, and a DEX file is read.
-use Rattle.std.proofs.Common.{Result, Err, ◌≡◌, ◌⊎◌, inl, inr, ℕ, zero, suc, ◌+◌, ◌*◌, ◌<◌, ◌≤◌, Bool, true, false, List, [], ◌∷◌, ◌++◌, length, take, Option, Some, None, Ok, refl, sym, ap, subst, ◌∙◌, arith}
+use Rattle.std.proofs.Common.{Result, Err, ◌≡◌, ◌⊎◌, inl, inr, ℕ, zero, suc, ◌+◌, ◌*◌, ◌<◌, ◌≤◌, true, false, List, [], ◌∷◌, length, take, Option, Some, None, Ok, refl, sym, ap, subst, ◌∙◌, arith}
 use Rattle.std.proofs.lemmas.Bool.{ltb-true, lt-ltb, leb-true, le-leb, eq-eqb, eqb-true, and_parts}
 use Rattle.std.proofs.lemmas.Bool.Decides.{nat_tests, eqb_tells}
 use Rattle.std.proofs.lemmas.List.Sums.{sum_by-cons}
@@ -7,7 +7,7 @@ use Rattle.std.proofs.Math.Bool.{or-true}
 use Rattle.std.specs.Prelude.{nat_lt, nat_le, nat_eq, sum_by, ◌||◌, ◌&&◌}
 use Rattle.std.specs.List.{starts_with}
 use Rattle.vet_base.specs.Numbers.{u4}
-use Rattle.vet_base.specs.Script.{Script, Value, Test, ◌>>=◌, test, run, then_run, rows, walk, tests, AllHold, IsFirst}
+use Rattle.vet_base.specs.Script.{Script, Value, ◌>>=◌, run, rows, walk}
 use Rattle.vet_base.proofs.Scripts.{is_first}
 use Rattle.dex_reader.specs.declared.fault.Fault.{Fault}
 use Rattle.dex_reader.specs.declared.fault.Table.TheVariants as tables

@@ -1,6 +1,6 @@
 -- Parts of a reading that did not fail, and readings of rows one behind the other.
-use Rattle.std.proofs.Common.{◌≡◌, ℕ, zero, suc, ◌+◌, Bool, true, false, List, [], ◌∷◌, length, Option, Some, None, Result, Ok, Err, refl, sym, ap, subst, ◌∙◌}
-use Rattle.vet_base.specs.Script.{Script, Value, Test, ◌>>=◌, run, rows, repeat}
+use Rattle.std.proofs.Common.{◌≡◌, ℕ, zero, suc, ◌+◌, List, [], ◌∷◌, length, Option, Some, None, Ok, refl, sym, ap, subst, ◌∙◌}
+use Rattle.vet_base.specs.Script.{Script, Value, ◌>>=◌, run, rows, repeat}
 use Rattle.vet_base.proofs.Scripts.{run_bind}
 use Rattle.dex_reader.specs.declared.fault.Fault.{Fault}
 use Rattle.dex_reader.specs.Parts.{there}

@@ -1,5 +1,5 @@
 -- Handlers that begin one behind the other, and the search for one by halving.
-use Rattle.std.proofs.Common.{◌≡◌, ℕ, zero, suc, ◌+◌, ◌<◌, ◌≤◌, true, false, List, [], ◌∷◌, ◌⊎◌, inl, inr, ◌++◌, length, get_or, refl, subst, arith, Result, Ok, Err, below_more, length-append}
+use Rattle.std.proofs.Common.{◌≡◌, ℕ, zero, suc, ◌+◌, ◌<◌, ◌≤◌, true, false, List, [], ◌∷◌, inl, inr, ◌++◌, length, get_or, refl, subst, arith, Result, Ok, Err, below_more, length-append}
 use Rattle.std.specs.Prelude.{Some, None, AllPairs, MatchResult, nat_eq}
 use Rattle.std.specs.List.Sorted.{IsBinarySearchResult, IsNonDecreasingBy, IsSearchInRange}
 use Rattle.std.specs.Ordering.{nat_cmp, ordering_index}

@@ -1,35 +1,30 @@
 -- A DEX file is sound.
-use Rattle.std.proofs.Common.{◌≡◌, ◌⊎◌, inl, inr, ℕ, ℤ, zero, suc, ◌+◌, ◌*◌, ◌^◌, ◌<◌, ◌≤◌, Bool, true, false, List, [], ◌∷◌, length, take, get_or, Option, Some, None, refl, sym, ap, subst, ◌∙◌, arith}
-use Rattle.std.proofs.lemmas.Bool.Decides.{nat_tests, eqb_tells}
+use Rattle.std.proofs.Common.{◌≡◌, inl, inr, ℕ, zero, suc, ◌+◌, ◌*◌, ◌^◌, ◌<◌, ◌≤◌, true, List, [], ◌∷◌, length, take, get_or, Option, Some, None, refl, sym, ap, subst, ◌∙◌, arith}
+use Rattle.std.proofs.lemmas.Bool.Decides.{eqb_tells}
 use Rattle.std.proofs.lemmas.Bool.{le-leb}
 use Rattle.std.proofs.lemmas.List.{length-take}
 use Rattle.std.proofs.lemmas.List.Elements.{All-cons, All-nil}
 use Rattle.std.proofs.lemmas.List.Sums.{sum_by-cons}
-use Rattle.std.specs.Prelude.{All, sum_by, nat_eq, nat_le}
-use Rattle.vet_base.specs.Numbers.{u2, u4}
+use Rattle.std.specs.Prelude.{All, sum_by, nat_le}
 use Rattle.dex_reader.specs.declared.dex.Body.{Body}
 use Rattle.dex_reader.specs.declared.dex.ClassDef.{ClassDef}
 use Rattle.dex_reader.specs.declared.dex.Dex.{Dex}
-use Rattle.dex_reader.specs.declared.dex.FieldId.{FieldId}
 use Rattle.dex_reader.specs.declared.dex.Member.{Member}
-use Rattle.dex_reader.specs.declared.dex.MethodRow.{MethodRow}
-use Rattle.dex_reader.specs.declared.dex.ProtoId.{ProtoId}
 use Rattle.dex_reader.specs.declared.dex.RawCode.{RawCode}
 use Rattle.dex_reader.specs.declared.dex.RawTry.{RawTry}
 use Rattle.dex_reader.specs.declared.handlers.Handler.{Handler}
 use Rattle.dex_reader.specs.declared.header.Header.{Header}
-use Rattle.dex_reader.specs.declared.header.Section.{Section}
 use Rattle.dex_reader.specs.declared.place.Sizes.{Sizes}
 use Rattle.dex_reader.specs.declared.place.Totals.{Totals}
 use Rattle.dex_reader.specs.declared.tries.TryItem.{TryItem}
 use Rattle.dex_reader.specs.Handlers.{handler_at}
 use Rattle.dex_reader.specs.Tries.{raw_try}
 use Rattle.dex_reader.specs.Whole.{sizes_of}
-use Rattle.dex_reader.specs.Sequences.{Is2, Is4, RowsStand, Follow, AtOffset}
-use Rattle.dex_reader.specs.TablesStand.{TableStands, IsName, IsType, IsTypeList, MaybeTypeList, IsProto, IsField, IsMethod}
-use Rattle.dex_reader.specs.CodeStands.{IsPair, IsHandler, IsTryItem, IsTry, AreTries, pairs_of, HasTries, MaybeTries, IsCode, IsSomeCode, MaybeCode}
-use Rattle.dex_reader.specs.ClassesStand.{one_member, Spot, IsMember, IsBody, HasClassData, HasNoMembers, MaybeClassData, IsSuperclass, IsClass, IsClassRow}
-use Rattle.dex_reader.specs.Dex.{IsHeader, HasTables, WithinLimits, IsDex}
+use Rattle.dex_reader.specs.Sequences.{Is2, Is4, RowsStand, Follow}
+use Rattle.dex_reader.specs.TablesStand.{IsType, MaybeTypeList, IsProto, IsField, IsMethod}
+use Rattle.dex_reader.specs.CodeStands.{IsPair, IsHandler, IsTryItem, AreTries, pairs_of, MaybeTries, IsCode, MaybeCode}
+use Rattle.dex_reader.specs.ClassesStand.{one_member, Spot, IsMember, IsBody, MaybeClassData, IsSuperclass, IsClass, IsClassRow}
+use Rattle.dex_reader.specs.Dex.{IsDex}
 use Rattle.dex_reader.specs.Sound.{rows_of, IsSoundProto, IsSoundField, IsSoundMethod, IsSoundTry, IsSoundCode, IsSoundMember, IfCode, IsSoundBody, IfSuperclass, IsSoundClass, code_units, tried, code_tries, body_units, body_tries, class_members, class_units, class_tries, SoundDex}
 use Rattle.dex_reader.specs.Totals.{no_totals, plus}
 use Rattle.dex_reader.proofs.TableReadings.{u4_within, u2_within}

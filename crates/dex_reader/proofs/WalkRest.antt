@@ -1,9 +1,9 @@
 -- The laws of a loop that takes the items of a list out of it.
-use Rattle.std.proofs.Common.{◌≡◌, List, [], ◌∷◌, ◌++◌, length, arith, Result, Ok, Err, append_assoc, refl, sym, ap, ◌∙◌}
+use Rattle.std.proofs.Common.{◌≡◌, List, [], ◌∷◌, ◌++◌, length, arith, Result, Ok, Err, refl, sym, ap, ◌∙◌}
 use Rattle.std.proofs.lemmas.List.{append-nil}
 use Rattle.vet_base.specs.declared.stop.Stop.{Stop}
 use Rattle.vet_base.specs.declared.stop.Stop.TheVariants as stops
-use Rattle.vet_base.specs.Script.{Script, Value, run, then_run, walk, Fails}
+use Rattle.vet_base.specs.Script.{Script, run, walk, Fails}
 use Rattle.vet_base.proofs.Scripts.{run_bind, with_front, with_none, regroup}
 
 -- these were read, and with what is still read from the rest they make the whole

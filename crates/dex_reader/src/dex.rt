@@ -73,7 +73,7 @@ pub struct RawCode {
     pub ins: u16,
     pub outs: u16,
     pub units: Seq<u16>,
-    pub tries: Seq<RawTry>,
+    pub tries: Shared<RawTry>,
 }
 
 /// A try item with the handler that it names: `count` units from `start` on, pairs of type and address of a unit, and

@@ -11,7 +11,7 @@ use crate::handlers::{Handler, TRIES, handlers_of};
 use crate::parts::{u2_of, u4_of, uleb_of};
 use crate::place::Place;
 use std::alloc::Global;
-use vet_base::{Seq, Stop};
+use vet_base::{Shared, Stop};
 
 /// The numbers at the head of a code item, and where its units begin.
 #[derive(Clone, Copy)]
@@ -123,7 +123,7 @@ fn joined_of(
     code: u32,
     items: &[TryItem],
     begin: u32,
-) -> Result<(Seq<RawTry>, u32), ReadError>
+) -> Result<(Shared<RawTry>, u32), ReadError>
     requires { AreRising handlers.now end }
     ensures { Gives (λ x. x) result (joined_at handlers.now list code items.now begin) }
 {
@@ -134,7 +134,8 @@ fn joined_of(
         tries.push(found)?;
         total = sum;
     }
-    Ok((Seq::from_vec(tries), total))
+    let tries = Shared::from_vec(alloc, tries)?;
+    Ok((tries, total))
 }
 
 #[tactic(auto, unfolding(crate::specs::Tries::padding_of, crate::specs::Tries::tries_begin))]
@@ -153,7 +154,7 @@ fn some_tries_of(
     code: u32,
     head: CodeHead,
     total: u32,
-) -> Result<(Seq<RawTry>, u32), ReadError>
+) -> Result<(Shared<RawTry>, u32), ReadError>
     requires { length file.now < 2 ^ 32 }
     ensures { Gives (λ x. x) result (some_tries_at file.now types code head total) }
 {
@@ -184,12 +185,12 @@ pub fn tries_of(
     code: u32,
     head: CodeHead,
     total: u32,
-) -> Result<(Seq<RawTry>, u32), ReadError>
+) -> Result<(Shared<RawTry>, u32), ReadError>
     requires { length file.now < 2 ^ 32 }
     ensures { Gives (λ x. x) result (tries_at file.now types code head total) }
 {
     if head.tries == 0 {
-        return Ok((Seq::new(alloc), total));
+        return Ok((Shared::new(), total));
     }
     some_tries_of(alloc, file, types, code, head, total)
 }
