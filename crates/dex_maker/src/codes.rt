@@ -194,6 +194,6 @@ pub fn code_of(alloc: Global, tables: &Tables, code: &ListedCode) -> Result<RawC
         ins: code.ins,
         outs: outs_of(lines),
         units: Seq::from_vec(units),
-        tries: Seq::from_vec(tries),
+        tries: Shared::from_vec(alloc, tries)?,
     })
 }
