@@ -1,22 +1,19 @@
 -- One more member of a class.
-use Rattle.std.proofs.Common.{◌≡◌, ℕ, ◌+◌, ◌-◌, ◌<◌, ◌≤◌, List, ◌∷◌, ◌++◌, length, drop, get_or, refl, sym, ◌∙◌, append_assoc, add-one}
+use Rattle.std.proofs.Common.{◌≡◌, ℕ, ◌+◌, ◌-◌, ◌<◌, ◌≤◌, List, ◌++◌, length, drop, get_or, sym, ◌∙◌, append_assoc}
 use Rattle.std.proofs.lemmas.List.{append-nil, drop_all}
-use Rattle.std.proofs.Math.Seq.{drop-cons}
 use Rattle.dex_reader.specs.declared.dex.Member.{Member}
 use Rattle.dex_reader.specs.declared.dex.Body.{Body}
 use Rattle.dex_maker.specs.Bytes.{uleb_bytes}
 use Rattle.dex_maker.specs.Placed.{offset_of}
 use Rattle.dex_maker.specs.ClassData.{members_bytes, bodies_bytes, body_code}
-
-front : {A : Type 0} (xs : List A) (i : ℕ) (x : A) → i < length xs → x ≡ get_or xs i x → drop i xs ≡ x ∷ drop (i + 1) xs
-front xs i x lt item = rw (drop-cons xs i x, ← item, add-one) refl
+use Rattle.vet_base.proofs.Lists.{drop_read}
 
 pub member_step : (ms : List Member) (i before : ℕ) (m : Member) (now new whole : List ℕ)
     → i < length ms → m ≡ get_or ms i m → now ++ members_bytes before (drop i ms) ≡ whole
     → new ≡ now ++ uleb_bytes (m.index - before) ++ uleb_bytes m.flags → new ++ members_bytes m.index (drop (i + 1) ms) ≡ whole
 unfolding members_bytes
 member_step ms i before m now new whole lt item so_far one =
-    let so : now ++ (uleb_bytes (m.index - before) ++ uleb_bytes m.flags ++ members_bytes m.index (drop (i + 1) ms)) ≡ whole = rw (front ms i m lt item) at so_far in
+    let so : now ++ (uleb_bytes (m.index - before) ++ uleb_bytes m.flags ++ members_bytes m.index (drop (i + 1) ms)) ≡ whole = rw (drop_read ms i m lt item) at so_far in
     rw one (simp append_assoc (simp append_assoc at so))
 
 pub members_done : (ms : List Member) (i before : ℕ) (now whole : List ℕ) → length ms ≤ i → now ++ members_bytes before (drop i ms) ≡ whole → now ≡ whole
@@ -29,7 +26,7 @@ pub body_step : (bs : List Body) (i before at next place : ℕ) (b : Body) (now 
     → new ≡ now ++ uleb_bytes (b.index - before) ++ uleb_bytes b.flags ++ uleb_bytes place → new ++ bodies_bytes b.index next (drop (i + 1) bs) ≡ whole
 unfolding bodies_bytes
 body_step bs i before at next place b now new whole lt item place-is next-is so_far one =
-    let so : now ++ (uleb_bytes (b.index - before) ++ uleb_bytes b.flags ++ uleb_bytes (offset_of at (body_code b)) ++ bodies_bytes b.index (at + length (body_code b)) (drop (i + 1) bs)) ≡ whole = rw (front bs i b lt item) at so_far in
+    let so : now ++ (uleb_bytes (b.index - before) ++ uleb_bytes b.flags ++ uleb_bytes (offset_of at (body_code b)) ++ bodies_bytes b.index (at + length (body_code b)) (drop (i + 1) bs)) ≡ whole = rw (drop_read bs i b lt item) at so_far in
     rw (one, next-is, place-is) (simp append_assoc (simp append_assoc at so))
 
 pub bodies_done : (bs : List Body) (i before at : ℕ) (now whole : List ℕ) → length bs ≤ i → now ++ bodies_bytes before at (drop i bs) ≡ whole → now ≡ whole

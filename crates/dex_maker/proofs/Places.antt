@@ -1,14 +1,17 @@
 -- Where a row stands once another stands at the end.
 use Rattle.std.proofs.Common.{◌≡◌, ℕ, suc, ◌+◌, Bool, true, false, cond, List, [], ◌∷◌, ◌++◌, length, Option, Some, None, refl, sym, ap, ◌∙◌, arith, inl, inr}
-use Rattle.std.specs.Prelude.{is_some, ◌⊎◌}
+use Rattle.std.specs.Prelude.{is_some}
 use Rattle.std.specs.Option.{option_map}
 use Rattle.std.specs.declared.cmp.Ordering.{Ordering}
-use Rattle.std.specs.declared.cmp.Ordering.TheVariants.{Less, Equal, Greater}
+use Rattle.std.specs.declared.cmp.Ordering.TheVariants.{Equal}
 use Rattle.std.specs.Ordering.{is_eq}
 use Rattle.std.specs.Cmp.{IsTotalOrder}
 use Rattle.std.specs.BTreeMap.{BTreeMap, get, Updates}
 use Rattle.std.proofs.lemmas.Cmp.{eq_by_cmp_equiv}
 use Rattle.dex_maker.specs.Rows.{place, IsIndexOf}
+use Rattle.vet_base.proofs.Options.{none_of}
+use Rattle.std.proofs.lemmas.Bool.{cases_Bool}
+use Rattle.vet_base.proofs.Orders.{is_equal}
 
 -- where it stands among the first rows, else at the end if it is the last
 abbrev pub place_or_end : Option ℕ → Bool → ℕ → Option ℕ
@@ -34,23 +37,9 @@ pub place_alike : {K : Type 0} (cmp : K → K → Ordering) → IsTotalOrder cmp
 place_alike cmp total [] p q e = refl
 place_alike cmp total (x ∷ xs) p q e = rw (total.congr p q x e, place_alike cmp total xs p q e) refl
 
-none_of : {A : Type 0} (o : Option A) → is_some o ≡ false → o ≡ None
-none_of None e = refl
-none_of (Some x) e = absurd cc
-
 same_place : (o : Option ℕ) (end : ℕ) → place_or_end o false end ≡ o
 same_place None end = refl
 same_place (Some n) end = refl
-
--- a test that went one way or the other
-pub went : (b : Bool) → (b ≡ true) ⊎ (b ≡ false)
-went true = inl refl
-went false = inr refl
-
-equal_of : (o : Ordering) → is_eq o ≡ true → o ≡ Equal
-equal_of Equal e = refl
-equal_of Less e = absurd cc
-equal_of Greater e = absurd cc
 
 -- the index with the place of a row that was not there
 pub index_pushed : {K : Type 0} (cmp : K → K → Ordering) → IsTotalOrder cmp → (rows : List K) (m n : BTreeMap K ℕ) (row : K) (at : ℕ)
@@ -60,8 +49,8 @@ index_pushed cmp total rows m n row at at-is old absent updates = record {
       let alike : is_eq (cmp row q) ≡ is_eq (cmp q row) = (eq_by_cmp_equiv total).symm row q in
       let none : place cmp rows row ≡ None = sym (old.at row) ∙ none_of (get cmp m row) absent in
       rw (updates.0 q, old.at q, place_push cmp rows row q, ← alike, at-is)
-      (elim (went (is_eq (cmp row q))) [
-        | inl so ↦ rw (so, ← place_alike cmp total rows row q (equal_of (cmp row q) so), none) refl
+      (elim (cases_Bool (is_eq (cmp row q))) [
+        | inl so ↦ rw (so, ← place_alike cmp total rows row q (is_equal (cmp row q) so), none) refl
         | inr not ↦ rw not (sym (same_place (place cmp rows q) (length rows)))
       ]);
 }
@@ -70,7 +59,7 @@ found_before : {K : Type 0} (cmp : K → K → Ordering) → IsTotalOrder cmp �
 found_before cmp total rows row q (Some n) b o-is b-is present = refl
 found_before cmp total rows row q None false o-is b-is present = refl
 found_before cmp total rows row q None true o-is b-is present =
-    let e : place cmp rows q ≡ place cmp rows row = place_alike cmp total rows q row (equal_of (cmp q row) (sym b-is)) in
+    let e : place cmp rows q ≡ place cmp rows row = place_alike cmp total rows q row (is_equal (cmp q row) (sym b-is)) in
     absurd cc
 
 -- the index stays where a row was there

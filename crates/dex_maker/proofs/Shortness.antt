@@ -1,5 +1,5 @@
 -- Tables of which none is too long.
-use Rattle.std.proofs.Common.{◌≡◌, ℕ, suc, ◌+◌, ◌≤◌, Bool, true, false, cond, ltb, List, [], ◌∷◌, length, Option, Some, None, refl, ap}
+use Rattle.std.proofs.Common.{◌≡◌, ℕ, suc, ◌+◌, ◌≤◌, cond, ltb, List, [], ◌∷◌, length, Option, Some, None, refl, ap, arith}
 use Rattle.std.proofs.lemmas.Bool.{ltb-false}
 use Rattle.dex_reader.specs.declared.dex.ClassDef.{ClassDef}
 use Rattle.dex_maker.specs.declared.tables.Tables.{Tables}
@@ -8,11 +8,10 @@ use Rattle.dex_maker.specs.declared.fault.IdTable.TheVariants as ids
 use Rattle.dex_maker.specs.declared.listing.ListedClass.{ListedClass}
 use Rattle.dex_maker.specs.Classes.{class_defs_from}
 use Rattle.dex_maker.specs.File.{AreShort}
-use Rattle.dex_maker.specs.Made.{long_table}
-
-none_chosen : {A : Type 0} (b : Bool) (x : A) (o : Option A) → cond b (Some x) o ≡ None → (b ≡ false) × (o ≡ None)
-none_chosen true x o e = absurd cc
-none_chosen false x o e = (refl, e)
+use Rattle.dex_maker.specs.Fits.{first_misfit}
+use Rattle.dex_maker.specs.Naming.{tables_of}
+use Rattle.dex_maker.specs.Made.{long_table, no_file, fault_of, TablesAreShort}
+use Rattle.vet_base.proofs.Options.{cond_none}
 
 pub classes_length : (t : Tables) (field method : ℕ) (cs : List ListedClass) → length (class_defs_from t field method cs) ≡ length cs
 classes_length t field method [] = refl
@@ -25,11 +24,11 @@ tables_short t classes e few =
     let fields : Option IdTable = cond (ltb 65536 (length t.fields)) (Some ids.Fields) methods in
     let protos : Option IdTable = cond (ltb 65535 (length t.protos)) (Some ids.Protos) fields in
     let types : Option IdTable = cond (ltb 65535 (length t.types)) (Some ids.Types) protos in
-    let a = none_chosen (ltb 65536 (length t.strings)) ids.Strings types e in
-    let b = none_chosen (ltb 65535 (length t.types)) ids.Types protos a.1 in
-    let c = none_chosen (ltb 65535 (length t.protos)) ids.Protos fields b.1 in
-    let d = none_chosen (ltb 65536 (length t.fields)) ids.Fields methods c.1 in
-    let f = none_chosen (ltb 65536 (length t.methods)) ids.Methods None d.1 in
+    let a = cond_none (ltb 65536 (length t.strings)) ids.Strings types e in
+    let b = cond_none (ltb 65535 (length t.types)) ids.Types protos a.1 in
+    let c = cond_none (ltb 65535 (length t.protos)) ids.Protos fields b.1 in
+    let d = cond_none (ltb 65536 (length t.fields)) ids.Fields methods c.1 in
+    let f = cond_none (ltb 65536 (length t.methods)) ids.Methods None d.1 in
     record {
       strings = ltb-false _ _ a.0;
       types = ltb-false _ _ b.0;
@@ -38,3 +37,15 @@ tables_short t classes e few =
       methods = ltb-false _ _ f.0;
       class_defs = few;
     }
+
+not_long : (table : Option IdTable) (misfit : Option (ℕ × ℕ)) → no_file table misfit ≡ None → table ≡ None
+not_long None misfit e = refl
+not_long (Some table) misfit e = absurd cc
+
+pub listing_short : TablesAreShort
+unfolding fault_of
+listing_short listing makeable none =
+    let t = tables_of listing in
+    let few : length listing.classes ≤ 65536 = makeable.classes in
+    let classes : length (class_defs_from t 0 0 listing.classes) ≤ 65536 = omega (arith, classes_length t 0 0 listing.classes) in
+    tables_short t (class_defs_from t 0 0 listing.classes) (not_long (long_table t) (first_misfit 0 listing.classes) none) classes

@@ -1,12 +1,13 @@
 -- How a class is spelled ("Dalvik executable format": class_def_item, class_data_item).
 use Rattle.std.specs.Prelude.{ℕ, ◌+◌, ◌-◌, List, [], ◌∷◌, ◌++◌, length, Option, Some, None}
+use Rattle.std.specs.List.{flat_map}
 use Rattle.dex_reader.specs.declared.dex.Member.{Member}
 use Rattle.dex_reader.specs.declared.dex.Body.{Body}
 use Rattle.dex_reader.specs.declared.dex.RawCode.{RawCode}
 use Rattle.dex_reader.specs.declared.dex.ClassDef.{ClassDef}
 use Rattle.dex_maker.specs.Bytes.{u4_bytes, uleb_bytes, padding_of, type_list}
 use Rattle.dex_maker.specs.CodeItem.{code_bytes}
-use Rattle.dex_maker.specs.Placed.{pieces, offset_of}
+use Rattle.dex_maker.specs.Placed.{offset_of}
 
 -- each field by how much its row is above the one before it
 unfoldable pub members_bytes : ℕ → List Member → List ℕ
@@ -21,22 +22,18 @@ maybe_code (Some code) = code_bytes code
 abbrev pub body_code : Body → List ℕ
 body_code body = maybe_code body.code
 
--- wherever it stands
-abbrev pub code_piece : ℕ → Body → List ℕ
-code_piece at body = body_code body
-
 -- Each method by how much its row is above the one before it, with the offset of its code; the code items of the methods
 -- stand one behind the other from that offset on.
 unfoldable pub bodies_bytes : ℕ → ℕ → List Body → List ℕ
 bodies_bytes before at [] = []
 bodies_bytes before at (b ∷ bs) = uleb_bytes (b.index - before) ++ uleb_bytes b.flags ++ uleb_bytes (offset_of at (body_code b)) ++ bodies_bytes b.index (at + length (body_code b)) bs
 
--- the code of a class that stands at that offset: of its direct methods, and then of its virtual ones
+-- where the code of the virtual methods stands, which stands behind that of the direct ones, and the code of both
 unfoldable pub virtuals_at : ℕ → ClassDef → ℕ
-virtuals_at at class = at + length (pieces code_piece at class.directs)
+virtuals_at at class = at + length (flat_map body_code class.directs)
 
-unfoldable pub class_code : ℕ → ClassDef → List ℕ
-class_code at class = pieces code_piece at class.directs ++ pieces code_piece (virtuals_at at class) class.virtuals
+unfoldable pub class_code : ClassDef → List ℕ
+class_code class = flat_map body_code class.directs ++ flat_map body_code class.virtuals
 
 -- a class data item, with the rows of the direct and of the virtual methods
 unfoldable pub class_item : ClassDef → List ℕ → List ℕ → List ℕ
@@ -49,14 +46,14 @@ class_data at class = class_item class (bodies_bytes 0 at class.directs) (bodies
 
 -- the code and the class data from that offset on, up to a multiple of four bytes
 unfoldable pub code_and_data : ℕ → ClassDef → List ℕ
-code_and_data at class = class_code at class ++ class_data at class ++ padding_of (length (class_data at class))
+code_and_data at class = class_code class ++ class_data at class ++ padding_of (length (class_data at class))
 
 -- all that the row of a class points to, from an offset on: its interfaces, the code of its methods, and its class data
 unfoldable pub code_begin : ℕ → ClassDef → ℕ
 code_begin at class = at + length (type_list class.interfaces)
 
 unfoldable pub data_begin : ℕ → ClassDef → ℕ
-data_begin at class = code_begin at class + length (class_code (code_begin at class) class)
+data_begin at class = code_begin at class + length (class_code class)
 
 unfoldable pub class_bytes : ℕ → ClassDef → List ℕ
 class_bytes at class = type_list class.interfaces ++ code_and_data (code_begin at class) class

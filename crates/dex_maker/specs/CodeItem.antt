@@ -4,7 +4,7 @@ use Rattle.std.specs.List.{flat_map}
 use Rattle.dex_reader.specs.declared.dex.RawTry.{RawTry}
 use Rattle.dex_reader.specs.declared.dex.RawCode.{RawCode}
 use Rattle.dex_maker.specs.Bytes.{u2_bytes, u4_bytes, uleb_bytes, padding_of}
-use Rattle.dex_maker.specs.Placed.{pieces, rows_of}
+use Rattle.dex_maker.specs.Placed.{rows_of}
 
 -- a type and the address of its handler
 abbrev pub pair_bytes : ℕ × ℕ → List ℕ
@@ -23,20 +23,16 @@ catch_all_bytes (Some address) = uleb_bytes address
 unfoldable pub handler_bytes : RawTry → List ℕ
 handler_bytes item = handler_size (length item.handlers) item.catch_all ∷ flat_map pair_bytes item.handlers ++ catch_all_bytes item.catch_all
 
--- wherever it stands
-abbrev pub handler_piece : ℕ → RawTry → List ℕ
-handler_piece at item = handler_bytes item
-
 -- a try whose handler stands at that offset of the list of handlers
 unfoldable pub try_bytes : ℕ → RawTry → List ℕ
 try_bytes handler item = u4_bytes item.start ++ u2_bytes item.count ++ u2_bytes handler
 
 -- the list of handlers, one for each try, behind their number
 unfoldable pub handlers_bytes : List RawTry → List ℕ
-handlers_bytes tries = uleb_bytes (length tries) ++ pieces handler_piece (length (uleb_bytes (length tries))) tries
+handlers_bytes tries = uleb_bytes (length tries) ++ flat_map handler_bytes tries
 
 unfoldable pub try_items : List RawTry → List ℕ
-try_items tries = rows_of try_bytes handler_piece (length (uleb_bytes (length tries))) tries
+try_items tries = rows_of try_bytes handler_bytes (length (uleb_bytes (length tries))) tries
 
 -- behind an odd number of units two bytes bring the tries to a multiple of four
 abbrev pub before_tries : ℕ → List ℕ

@@ -5,21 +5,14 @@ use Rattle.dex_reader.specs.declared.dex.ClassDef.{ClassDef}
 use Rattle.dex_maker.specs.declared.tables.Tables.{Tables}
 use Rattle.dex_maker.specs.Bytes.{u2_bytes, u4_bytes, string_item, type_list}
 use Rattle.dex_maker.specs.ClassData.{class_bytes, placed_row}
-use Rattle.dex_maker.specs.Placed.{pieces, rows_of, offset_of}
+use Rattle.dex_maker.specs.Placed.{pieces, placed_rows, rows_of, offsets_of, offset_of}
 
--- a string, wherever it stands, and the row that says where
-abbrev pub string_piece : ℕ → List ℕ → List ℕ
-string_piece at name = string_item name
-
-abbrev pub string_row : ℕ → List ℕ → List ℕ
-string_row at name = u4_bytes at
-
--- the parameters of a proto, wherever they stand, and the row of the proto
-abbrev pub params_piece : ℕ → List ℕ → List ℕ
-params_piece at row = type_list (drop 2 row)
+-- the parameters of a proto, and the row of a proto whose parameters stand at an offset
+abbrev pub params_bytes : List ℕ → List ℕ
+params_bytes row = type_list (drop 2 row)
 
 unfoldable pub proto_row_bytes : ℕ → List ℕ → List ℕ
-proto_row_bytes at row = u4_bytes (slice_index row 0) ++ u4_bytes (slice_index row 1) ++ u4_bytes (offset_of at (type_list (drop 2 row)))
+proto_row_bytes at row = u4_bytes (slice_index row 0) ++ u4_bytes (slice_index row 1) ++ u4_bytes (offset_of at (params_bytes row))
 
 -- the row of a field: class, type, name; or of a method: class, proto, name
 unfoldable pub member_row_bytes : List ℕ → List ℕ
@@ -45,11 +38,11 @@ abbrev pub data_at : Tables → List ClassDef → ℕ
 data_at t classes = classes_at t + 32 * length classes
 
 -- The data from an offset on: the parameters of the protos, what the classes point to, and the strings.
-unfoldable pub params_data : ℕ → Tables → List ℕ
-params_data at t = pieces params_piece at t.protos
+unfoldable pub params_data : Tables → List ℕ
+params_data t = flat_map params_bytes t.protos
 
 unfoldable pub class_begin : ℕ → Tables → ℕ
-class_begin at t = at + length (params_data at t)
+class_begin at t = at + length (params_data t)
 
 unfoldable pub classes_data : ℕ → Tables → List ClassDef → List ℕ
 classes_data at t classes = pieces class_bytes (class_begin at t) classes
@@ -57,21 +50,21 @@ classes_data at t classes = pieces class_bytes (class_begin at t) classes
 unfoldable pub strings_begin : ℕ → Tables → List ClassDef → ℕ
 strings_begin at t classes = class_begin at t + length (classes_data at t classes)
 
-unfoldable pub strings_data : ℕ → Tables → List ClassDef → List ℕ
-strings_data at t classes = pieces string_piece (strings_begin at t classes) t.strings
+unfoldable pub strings_data : Tables → List ℕ
+strings_data t = flat_map string_item t.strings
 
 unfoldable pub data_bytes : ℕ → Tables → List ClassDef → List ℕ
-data_bytes at t classes = params_data at t ++ classes_data at t classes ++ strings_data at t classes
+data_bytes at t classes = params_data t ++ classes_data at t classes ++ strings_data t
 
 -- the tables, whose rows point into the data from that offset on
 unfoldable pub string_ids : ℕ → Tables → List ClassDef → List ℕ
-string_ids at t classes = rows_of string_row string_piece (strings_begin at t classes) t.strings
+string_ids at t classes = flat_map u4_bytes (offsets_of string_item (strings_begin at t classes) t.strings)
 
 unfoldable pub proto_ids : ℕ → Tables → List ℕ
-proto_ids at t = rows_of proto_row_bytes params_piece at t.protos
+proto_ids at t = rows_of proto_row_bytes params_bytes at t.protos
 
 unfoldable pub class_defs : ℕ → Tables → List ClassDef → List ℕ
-class_defs at t classes = rows_of placed_row class_bytes (class_begin at t) classes
+class_defs at t classes = placed_rows placed_row class_bytes (class_begin at t) classes
 
 -- all tables, given those that point into the data
 unfoldable pub tables_bytes : Tables → List ℕ → List ℕ → List ℕ → List ℕ

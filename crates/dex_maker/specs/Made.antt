@@ -1,5 +1,5 @@
 -- What is made of a listing, which listings have a file, and when there is none.
-use Rattle.std.specs.Prelude.{ℕ, ◌≤◌, codes, List, length, Option, Some, None, nat_lt, if◌then◌else◌}
+use Rattle.std.specs.Prelude.{ℕ, ◌≡◌, ◌≤◌, codes, List, length, Option, Some, None, nat_lt, if◌then◌else◌}
 use Rattle.dex_maker.specs.declared.tables.Tables.{Tables}
 use Rattle.dex_maker.specs.declared.fault.IdTable.{IdTable}
 use Rattle.dex_maker.specs.declared.fault.IdTable.TheVariants as ids
@@ -9,7 +9,7 @@ use Rattle.dex_maker.specs.declared.listing.Listing.{Listing}
 use Rattle.dex_maker.specs.Naming.{tables_of}
 use Rattle.dex_maker.specs.Classes.{class_defs_from, unit_count, member_total}
 use Rattle.dex_maker.specs.Fits.{first_misfit}
-use Rattle.dex_maker.specs.File.{file_bytes}
+use Rattle.dex_maker.specs.File.{file_bytes, AreShort}
 
 -- the file of a listing
 unfoldable pub dex_bytes : Listing → List ℕ
@@ -46,3 +46,7 @@ pub record Makeable (listing : Listing) : Type 0 where
   pub classes : length listing.classes ≤ 65536
   pub members : member_total listing.classes ≤ 400000
   pub units : unit_count listing.classes ≤ 8388608
+
+-- Where there is a file of a listing, none of its tables has more rows than two bytes can name.
+abbrev pub TablesAreShort : Type 0
+TablesAreShort = (listing : Listing) → Makeable listing → fault_of listing ≡ None → AreShort (tables_of listing) (class_defs_from (tables_of listing) 0 0 listing.classes)

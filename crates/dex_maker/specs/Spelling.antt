@@ -19,9 +19,19 @@ with_halves opcode a b = opcode + 256 * (a % 16) + 4096 * (b % 16)
 abbrev pub two_units : ℕ → List ℕ
 two_units number = unit_of number 1 ∷ unit_of number 65536 ∷ []
 
+-- four units, the low one first
+abbrev pub four_units : ℕ → List ℕ
+four_units number = unit_of number 1 ∷ unit_of number 65536 ∷ unit_of number 4294967296 ∷ unit_of number 281474976710656 ∷ []
+
 -- the four registers of format 35c that share a unit
 abbrev pub four_halves : ℕ → ℕ → ℕ → ℕ → ℕ
 four_halves a b c d = a % 16 + 16 * (b % 16) + 256 * (c % 16) + 4096 * (d % 16)
+
+-- an instruction of format 35c: its registers, up to five, and how many there are
+abbrev pub listed_units : ℕ → List ℕ → ℕ → List ℕ
+listed_units op r index =
+    with_halves op (slice_index r 4) (length r) ∷ unit_of index 1
+    ∷ four_halves (slice_index r 0) (slice_index r 1) (slice_index r 2) (slice_index r 3) ∷ []
 
 -- An instruction of a format: its opcode, registers, literal, index and distance. Literal and distance are in two's complement.
 unfoldable pub plain_units : Format → ℕ → List ℕ → ℕ → ℕ → ℕ → List ℕ
@@ -47,6 +57,6 @@ plain_units F30t op r literal index distance = op ∷ two_units distance
 plain_units F31t op r literal index distance = with_byte op (slice_index r 0) ∷ two_units distance
 plain_units F31i op r literal index distance = with_byte op (slice_index r 0) ∷ two_units literal
 plain_units F31c op r literal index distance = with_byte op (slice_index r 0) ∷ two_units index
-plain_units (F35c pool) op r literal index distance = with_halves op (slice_index r 4) (length r) ∷ unit_of index 1 ∷ four_halves (slice_index r 0) (slice_index r 1) (slice_index r 2) (slice_index r 3) ∷ []
+plain_units (F35c pool) op r literal index distance = listed_units op r index
 plain_units (F3rc pool) op r literal index distance = with_byte op (slice_index r 1) ∷ unit_of index 1 ∷ unit_of (slice_index r 0) 1 ∷ []
-plain_units F51l op r literal index distance = with_byte op (slice_index r 0) ∷ unit_of literal 1 ∷ unit_of literal 65536 ∷ unit_of literal 4294967296 ∷ unit_of literal 281474976710656 ∷ []
+plain_units F51l op r literal index distance = with_byte op (slice_index r 0) ∷ four_units literal

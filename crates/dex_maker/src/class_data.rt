@@ -1,7 +1,8 @@
 ghost use Rattle.std.specs.Prelude.{◌≡◌, ◌==◌, ◌++◌, ◌<◌, ◌^◌, ◌+◌, ◌-◌, length, OnOk, IfOk, if◌then◌else◌};
+ghost use Rattle.std.specs.List.{flat_map};
 ghost use Rattle.dex_maker.specs.Bytes.{uleb_bytes, type_list, padding_of};
-ghost use Rattle.dex_maker.specs.Placed.{pieces, rows_of, offset_of};
-ghost use Rattle.dex_maker.specs.ClassData.{members_bytes, maybe_code, body_code, code_piece, bodies_bytes, virtuals_at, class_code, class_item, class_data, code_begin, data_begin, class_bytes, code_and_data, index_or_none, class_head, class_row, placed_row};
+ghost use Rattle.dex_maker.specs.Placed.{offset_of};
+ghost use Rattle.dex_maker.specs.ClassData.{members_bytes, maybe_code, body_code, bodies_bytes, virtuals_at, class_code, class_item, class_data, code_begin, data_begin, class_bytes, code_and_data, index_or_none, class_head, class_row, placed_row};
 
 use crate::bytes::{put_padding, put_type_list, put_u4, put_uleb};
 use crate::code_item::put_code;
@@ -81,7 +82,7 @@ fn put_bodies(
     bodies: &[Body],
 ) -> Result<(), Memory>
     requires { base < 2 ^ 32 }
-    ensures data { OnOk result (data.new.items ≡ data.old.items ++ pieces code_piece (base + length data.old.items) bodies.now) }
+    ensures data { OnOk result (data.new.items ≡ data.old.items ++ flat_map body_code bodies.now) }
     ensures rows { OnOk result (rows.new.items ≡ rows.old.items ++ bodies_bytes 0 (base + length data.old.items) bodies.now) }
 {
     let mut before = 0;
@@ -119,7 +120,7 @@ fn put_class_code(
     class: &ClassDef,
 ) -> Result<MethodRows, Memory>
     requires { base < 2 ^ 32 }
-    ensures data { OnOk result (data.new.items ≡ data.old.items ++ class_code (base + length data.old.items) class.now) }
+    ensures data { OnOk result (data.new.items ≡ data.old.items ++ class_code class.now) }
     ensures directs { IfOk result (λ r. r.directs.items ≡ bodies_bytes 0 (base + length data.old.items) class.now.directs) }
     ensures virtuals { IfOk result (λ r. r.virtuals.items ≡ bodies_bytes 0 (virtuals_at (base + length data.old.items) class.now) class.now.virtuals) }
 {
@@ -175,7 +176,7 @@ fn put_class_data(
 ) -> Result<usize, Memory>
     requires { base < 2 ^ 32 }
     ensures data { OnOk result (data.new.items ≡ data.old.items ++ code_and_data (base + length data.old.items) class.now) }
-    ensures place { IfOk result (λ place. place ≡ base + length data.old.items + length (class_code (base + length data.old.items) class.now)) }
+    ensures place { IfOk result (λ place. place ≡ base + length data.old.items + length (class_code class.now)) }
 {
     let methods = put_class_code(alloc, data, base, class)?;
     let place = base + data.len();

@@ -1,8 +1,8 @@
 ghost use Rattle.std.specs.Prelude.{◌≡◌, ◌++◌, ◌<◌, ◌^◌, ◌+◌, length, OnOk, IfOk};
 ghost use Rattle.std.specs.List.{flat_map};
 ghost use Rattle.dex_maker.specs.Bytes.{uleb_bytes};
-ghost use Rattle.dex_maker.specs.Placed.{pieces, rows_of};
-ghost use Rattle.dex_maker.specs.CodeItem.{pair_bytes, handler_size, catch_all_bytes, handler_bytes, handler_piece, try_bytes, handlers_bytes, try_items, before_tries, tries_bytes, code_head, code_item, code_bytes};
+ghost use Rattle.dex_maker.specs.Placed.{rows_of};
+ghost use Rattle.dex_maker.specs.CodeItem.{pair_bytes, handler_size, catch_all_bytes, handler_bytes, try_bytes, handlers_bytes, try_items, before_tries, tries_bytes, code_head, code_item, code_bytes};
 
 use crate::bytes::{put_padding, put_u2, put_u4, put_uleb, put_units};
 use dex_reader::{RawCode, RawTry};
@@ -58,14 +58,13 @@ fn put_try(out: &mut Vec<u8>, item: &RawTry, handler: usize) -> Result<(), Memor
 }
 
 /// The tries, and their handlers behind `handlers`.
-#[tactic(auto, using(crate::proofs::PlacedLemmas::pieces_more, crate::proofs::PlacedLemmas::rows_more))]
 fn put_try_items(
     items: &mut Vec<u8>,
     handlers: &mut Vec<u8>,
     tries: &[RawTry],
 ) -> Result<(), Memory>
-    ensures handlers { OnOk result (handlers.new.items ≡ handlers.old.items ++ pieces handler_piece (length handlers.old.items) tries.now) }
-    ensures items { OnOk result (items.new.items ≡ items.old.items ++ rows_of try_bytes handler_piece (length handlers.old.items) tries.now) }
+    ensures handlers { OnOk result (handlers.new.items ≡ handlers.old.items ++ flat_map handler_bytes tries.now) }
+    ensures items { OnOk result (items.new.items ≡ items.old.items ++ rows_of try_bytes handler_bytes (length handlers.old.items) tries.now) }
 {
     for item in tries {
         put_try(items, item, handlers.len())?;

@@ -12,7 +12,7 @@ use crate::widths::{start_of, starts_of, width_of};
 use dalvik_formats::{Format, Pool, format_of};
 use dex_reader::{RawCode, RawTry};
 use std::alloc::Global;
-use vet_base::{Memory, Name, Seq};
+use vet_base::{Memory, Name, Seq, Shared};
 
 /// The row that an instruction's index names.
 fn index_for(alloc: Global, tables: &Tables, operand: &Operand) -> Result<u32, Memory>
@@ -155,10 +155,11 @@ fn try_of(
 {
     let start = start_of(starts, item.start);
     let len = start_of(starts, item.end).saturating_sub(start);
+    let pairs = pairs_of(alloc, tables, starts, item.handlers.as_slice())?;
     Ok(RawTry {
         start,
         count: unit_of(u64::from(len), 1),
-        handlers: Seq::from_vec(pairs_of(alloc, tables, starts, item.handlers.as_slice())?),
+        handlers: Shared::from_vec(alloc, pairs)?,
         catch_all: address_of(starts, item.catch_all),
     })
 }
@@ -193,6 +194,6 @@ pub fn code_of(alloc: Global, tables: &Tables, code: &ListedCode) -> Result<RawC
         ins: code.ins,
         outs: outs_of(lines),
         units: Seq::from_vec(units),
-        tries: Seq::from_vec(tries),
+        tries: Shared::from_vec(alloc, tries)?,
     })
 }

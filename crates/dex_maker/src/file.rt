@@ -1,9 +1,9 @@
 ghost use Rattle.std.specs.Prelude.{◌≡◌, ◌==◌, ◌++◌, ◌<◌, ◌≤◌, ◌^◌, ◌+◌, ◌*◌, length, drop, OnOk, IfOk, if◌then◌else◌, slice_index, replicate};
 ghost use Rattle.std.specs.List.{flat_map};
-ghost use Rattle.dex_maker.specs.Placed.{pieces, rows_of, offset_of};
-ghost use Rattle.dex_maker.specs.Bytes.{type_list, string_item};
+ghost use Rattle.dex_maker.specs.Placed.{pieces, placed_rows, rows_of, offsets_of, offset_of};
+ghost use Rattle.dex_maker.specs.Bytes.{u4_bytes, string_item};
 ghost use Rattle.dex_maker.specs.ClassData.{class_bytes, placed_row};
-ghost use Rattle.dex_maker.specs.File.{string_piece, string_row, params_piece, proto_row_bytes, member_row_bytes, types_at, protos_at, fields_at, methods_at, classes_at, data_at, params_data, class_begin, classes_data, strings_begin, strings_data, data_bytes, string_ids, proto_ids, class_defs, tables_bytes, section_bytes, header_begin, header_ids, header_bytes, file_bytes, AreShort};
+ghost use Rattle.dex_maker.specs.File.{params_bytes, proto_row_bytes, member_row_bytes, types_at, protos_at, fields_at, methods_at, classes_at, data_at, params_data, class_begin, classes_data, strings_begin, strings_data, data_bytes, string_ids, proto_ids, class_defs, tables_bytes, section_bytes, header_begin, header_ids, header_bytes, file_bytes, AreShort};
 
 use crate::bytes::{put_string, put_type_list, put_u2, put_u4, put_u4s};
 use crate::class_data::{place_of, put_class};
@@ -18,7 +18,6 @@ const HEADER: usize = 112;
 const MAGIC: [u8; 8] = [100, 101, 120, 10, 48, 51, 53, 0];
 
 /// The strings into the data, which begins at `base`, and the rows that say where.
-#[tactic(auto, using(crate::proofs::PlacedLemmas::pieces_more, crate::proofs::PlacedLemmas::rows_more))]
 fn put_strings(
     rows: &mut Vec<u8>,
     data: &mut Vec<u8>,
@@ -26,8 +25,8 @@ fn put_strings(
     strings: &[Name],
 ) -> Result<(), Memory>
     requires { base < 2 ^ 32 }
-    ensures data { OnOk result (data.new.items ≡ data.old.items ++ pieces string_piece (base + length data.old.items) strings.now) }
-    ensures rows { OnOk result (rows.new.items ≡ rows.old.items ++ rows_of string_row string_piece (base + length data.old.items) strings.now) }
+    ensures data { OnOk result (data.new.items ≡ data.old.items ++ flat_map string_item strings.now) }
+    ensures rows { OnOk result (rows.new.items ≡ rows.old.items ++ flat_map u4_bytes (offsets_of string_item (base + length data.old.items) strings.now)) }
 {
     for name in strings {
         put_u4(rows, base + data.len())?;
@@ -55,8 +54,8 @@ fn params_of(row: &IdRow) -> &[u32]
 /// The parameters of a proto into the data, which begins at `base`, and their offset.
 fn put_params(data: &mut Vec<u8>, base: usize, row: &IdRow) -> Result<usize, Memory>
     requires { base < 2 ^ 32 }
-    ensures data { OnOk result (data.new.items ≡ data.old.items ++ type_list (drop 2 row.now)) }
-    ensures place { IfOk result (λ place. place ≡ offset_of (base + length data.old.items) (type_list (drop 2 row.now))) }
+    ensures data { OnOk result (data.new.items ≡ data.old.items ++ params_bytes row.now) }
+    ensures place { IfOk result (λ place. place ≡ offset_of (base + length data.old.items) (params_bytes row.now)) }
 {
     let begin = data.len();
     put_type_list(data, params_of(row))?;
@@ -67,7 +66,7 @@ fn put_params(data: &mut Vec<u8>, base: usize, row: &IdRow) -> Result<usize, Mem
 #[tactic(auto, unfolding(crate::specs::File::proto_row_bytes))]
 fn put_proto(rows: &mut Vec<u8>, data: &mut Vec<u8>, base: usize, row: &IdRow) -> Result<(), Memory>
     requires { base < 2 ^ 32 }
-    ensures data { OnOk result (data.new.items ≡ data.old.items ++ type_list (drop 2 row.now)) }
+    ensures data { OnOk result (data.new.items ≡ data.old.items ++ params_bytes row.now) }
     ensures rows { OnOk result (rows.new.items ≡ rows.old.items ++ proto_row_bytes (base + length data.old.items) row.now) }
 {
     let place = put_params(data, base, row)?;
@@ -83,8 +82,8 @@ fn put_protos(
     protos: &[IdRow],
 ) -> Result<(), Memory>
     requires { base < 2 ^ 32 }
-    ensures data { OnOk result (data.new.items ≡ data.old.items ++ pieces params_piece (base + length data.old.items) protos.now) }
-    ensures rows { OnOk result (rows.new.items ≡ rows.old.items ++ rows_of proto_row_bytes params_piece (base + length data.old.items) protos.now) }
+    ensures data { OnOk result (data.new.items ≡ data.old.items ++ flat_map params_bytes protos.now) }
+    ensures rows { OnOk result (rows.new.items ≡ rows.old.items ++ rows_of proto_row_bytes params_bytes (base + length data.old.items) protos.now) }
 {
     for row in protos {
         put_proto(rows, data, base, row)?;
@@ -101,7 +100,7 @@ fn put_classes(
 ) -> Result<(), Memory>
     requires { base < 2 ^ 32 }
     ensures data { OnOk result (data.new.items ≡ data.old.items ++ pieces class_bytes (base + length data.old.items) classes.now) }
-    ensures rows { OnOk result (rows.new.items ≡ rows.old.items ++ rows_of placed_row class_bytes (base + length data.old.items) classes.now) }
+    ensures rows { OnOk result (rows.new.items ≡ rows.old.items ++ placed_rows placed_row class_bytes (base + length data.old.items) classes.now) }
 {
     for class in classes {
         put_class(alloc, rows, data, base, class)?;

@@ -9,12 +9,12 @@ use crate::interner::Row;
 use std::alloc::Global;
 use std::cmp::Ordering;
 use std::marker::Model;
-use vet_base::Memory;
+use vet_base::{Memory, Shared};
 
 /// A row of `proto_ids`, `field_ids` or `method_ids`, as the numbers of the rows that it names.
 #[derive(Debug, Drop)]
 pub struct IdRow {
-    numbers: Vec<u32>,
+    numbers: Shared<u32>,
 }
 
 impl Model for IdRow {
@@ -22,27 +22,30 @@ impl Model for IdRow {
 
     ghost Value = { List ℕ };
 
-    ghost view = { λ r. r.numbers.items };
+    ghost view = { λ r. r.numbers };
 }
 
 impl IdRow {
-    pub fn new(numbers: Vec<u32>) -> Self
-        ensures { result ≡ numbers.items }
+    /// The row with these numbers.
+    pub fn new(alloc: Global, numbers: Vec<u32>) -> Result<IdRow, Memory>
+        ensures { IfOk result (λ r. r ≡ numbers.items) }
     {
-        IdRow { numbers }
+        Ok(IdRow {
+            numbers: Shared::from_vec(alloc, numbers)?,
+        })
     }
 
     pub fn numbers(&self) -> &[u32]
         ensures { result.now ≡ self.now }
     {
-        &self.numbers
+        self.numbers.as_slice()
     }
 }
 
 impl Row for IdRow {
-    fn twin(&self, alloc: Global) -> Result<IdRow, Memory> {
+    fn twin(&self) -> Result<IdRow, Memory> {
         Ok(IdRow {
-            numbers: self.numbers.to_vec(alloc)?,
+            numbers: self.numbers.copy()?,
         })
     }
 }
@@ -53,7 +56,7 @@ impl PartialEq for IdRow {
     ghost laws = { Prim.search (comparing, rules) };
 
     fn eq(&self, other: &IdRow) -> bool {
-        self.numbers.as_slice() == other.numbers.as_slice()
+        self.numbers() == other.numbers()
     }
 }
 
@@ -71,7 +74,7 @@ impl Ord for IdRow {
     ghost matches_eq = { Prim.search (comparing, rules) };
 
     fn cmp(&self, other: &IdRow) -> Ordering {
-        self.numbers.as_slice().cmp(&other.numbers.as_slice())
+        self.numbers().cmp(&other.numbers())
     }
 }
 

@@ -8,18 +8,19 @@ use vet_base::{Memory, Name};
 
 /// What an id table has rows of.
 pub trait Row: Ord + Drop {
-    fn twin(&self, alloc: Global) -> Result<Self, Memory>
+    /// The same row over the same storage, so that it takes no memory.
+    fn twin(&self) -> Result<Self, Memory>
         ensures { IfOk result (λ x. x ≡ self.now) };
 }
 
 impl Row for Name {
-    fn twin(&self, alloc: Global) -> Result<Name, Memory> {
-        self.copy(alloc)
+    fn twin(&self) -> Result<Name, Memory> {
+        self.copy()
     }
 }
 
 impl Row for u32 {
-    fn twin(&self, _alloc: Global) -> Result<u32, Memory> {
+    fn twin(&self) -> Result<u32, Memory> {
         Ok(*self)
     }
 }
@@ -78,14 +79,14 @@ impl<K: Row> Interner<K> {
     }
 
     /// Puts a row at the end, also where the table has it already.
-    pub fn push(&mut self, alloc: Global, row: K) -> Result<(), Memory>
+    pub fn push(&mut self, row: K) -> Result<(), Memory>
         ensures ok { OnOk result (self.new ≡ self.old ++ row ∷ []) }
         ensures err { OnErr result (self.new ≡ self.old) }
     {
         self.rows.reserve(1)?;
         if !self.index.contains_key(&row) {
             let at = number_of(self.rows.len())?;
-            let twin = row.twin(alloc)?;
+            let twin = row.twin()?;
             self.index.insert(twin, at)?;
         }
         self.rows.push(row)?;
@@ -93,12 +94,12 @@ impl<K: Row> Interner<K> {
     }
 
     /// Puts a row at the end unless the table has it already.
-    pub fn add(&mut self, alloc: Global, row: K) -> Result<(), Memory>
+    pub fn add(&mut self, row: K) -> Result<(), Memory>
         ensures ok { OnOk result (self.new ≡ with_row K.cmp self.old row) }
         ensures err { OnErr result (self.new ≡ self.old) }
     {
         if self.place(&row).is_none() {
-            self.push(alloc, row)?;
+            self.push(row)?;
         }
         Ok(())
     }

@@ -11,6 +11,7 @@ mod file;
 mod fits;
 mod id_row;
 mod interner;
+mod law;
 mod limits;
 mod listing;
 mod make;
@@ -21,6 +22,7 @@ mod tables;
 mod widths;
 
 pub use fault::MakeFault;
+pub use law::tables_are_short;
 pub use limits::is_makeable;
 pub use listing::{
     ListedClass, ListedCode, ListedField, ListedLine, ListedMethod, ListedTry, Listing, Operand,

@@ -37,16 +37,12 @@ fn name_methods(
     Ok(())
 }
 
-fn name_superclass(
-    alloc: Global,
-    tables: &mut Tables,
-    superclass: &Option<Name>,
-) -> Result<(), Memory>
+fn name_superclass(tables: &mut Tables, superclass: &Option<Name>) -> Result<(), Memory>
     ensures { OnOk result (tables.new ≡ with_superclass tables.old superclass.now) }
 {
     match superclass {
         None => Ok(()),
-        Some(name) => tables.add_type(alloc, name),
+        Some(name) => tables.add_type(name),
     }
 }
 
@@ -54,9 +50,9 @@ fn name_superclass(
 fn name_class(alloc: Global, tables: &mut Tables, class: &ListedClass) -> Result<(), Memory>
     ensures { OnOk result (tables.new ≡ with_class tables.old class.now) }
 {
-    tables.add_type(alloc, &class.name)?;
-    name_superclass(alloc, tables, &class.superclass)?;
-    tables.add_types(alloc, class.interfaces.as_slice())?;
+    tables.add_type(&class.name)?;
+    name_superclass(tables, &class.superclass)?;
+    tables.add_types(class.interfaces.as_slice())?;
     name_fields(alloc, tables, &class.name, class.fields.as_slice())?;
     name_methods(alloc, tables, &class.name, class.methods.as_slice())
 }
@@ -75,8 +71,8 @@ fn name_operand(alloc: Global, tables: &mut Tables, operand: &Operand) -> Result
 {
     match operand {
         Operand::Nothing => Ok(()),
-        Operand::Text(text) => tables.add_string(alloc, text),
-        Operand::Class(class) => tables.add_type(alloc, class),
+        Operand::Text(text) => tables.add_string(text),
+        Operand::Class(class) => tables.add_type(class),
         Operand::Field(class, name, kind) => tables.add_field(alloc, class, name, kind),
         Operand::Method(class, name, params, ret) => {
             tables.add_method(alloc, class, name, params.as_slice(), ret)
@@ -102,20 +98,20 @@ fn name_lines(alloc: Global, tables: &mut Tables, lines: &[ListedLine]) -> Resul
     Ok(())
 }
 
-fn name_handlers(alloc: Global, tables: &mut Tables, handlers: &[(Name, u32)]) -> Result<(), Memory>
+fn name_handlers(tables: &mut Tables, handlers: &[(Name, u32)]) -> Result<(), Memory>
     ensures { OnOk result (tables.new ≡ with_handlers tables.old handlers.now) }
 {
     for handler in handlers {
-        tables.add_type(alloc, &handler.0)?;
+        tables.add_type(&handler.0)?;
     }
     Ok(())
 }
 
-fn name_tries(alloc: Global, tables: &mut Tables, tries: &[ListedTry]) -> Result<(), Memory>
+fn name_tries(tables: &mut Tables, tries: &[ListedTry]) -> Result<(), Memory>
     ensures { OnOk result (tables.new ≡ with_tries tables.old tries.now) }
 {
     for item in tries {
-        name_handlers(alloc, tables, item.handlers.as_slice())?;
+        name_handlers(tables, item.handlers.as_slice())?;
     }
     Ok(())
 }
@@ -125,7 +121,7 @@ fn name_code(alloc: Global, tables: &mut Tables, code: &Option<ListedCode>) -> R
 {
     let Some(code) = code else { return Ok(()) };
     name_lines(alloc, tables, code.lines.as_slice())?;
-    name_tries(alloc, tables, code.tries.as_slice())
+    name_tries(tables, code.tries.as_slice())
 }
 
 fn name_bodies(alloc: Global, tables: &mut Tables, methods: &[ListedMethod]) -> Result<(), Memory>

@@ -1,6 +1,6 @@
-ghost use Rattle.std.specs.Prelude.{◌≡◌, ◌++◌, ◌<◌, OnOk, slice_index};
+ghost use Rattle.std.specs.Prelude.{◌≡◌, ◌∷◌, ◌++◌, ◌<◌, OnOk, slice_index};
 ghost use Rattle.dalvik_formats.specs.Layouts.{layout_of};
-ghost use Rattle.dex_maker.specs.Spelling.{unit_of, with_byte, with_halves, four_halves, plain_units};
+ghost use Rattle.dex_maker.specs.Spelling.{unit_of, with_byte, with_halves, two_units, four_units, four_halves, listed_units, plain_units};
 
 use dalvik_formats::{Format, format_of};
 use vet_base::Memory;
@@ -48,6 +48,40 @@ fn put(units: &mut Vec<u16>, more: &[u16]) -> Result<(), Memory>
     Ok(())
 }
 
+/// Puts a unit, and then a number in two more, the low one first.
+fn put_double(units: &mut Vec<u16>, first: u16, number: u64) -> Result<(), Memory>
+    ensures { OnOk result (units.new.items ≡ units.old.items ++ first ∷ two_units number) }
+{
+    let low = unit_of(number, 1);
+    let high = unit_of(number, 65536);
+    put(units, &[first, low, high])
+}
+
+/// Puts a unit, and then a number in four more, the low one first.
+fn put_quadruple(units: &mut Vec<u16>, first: u16, number: u64) -> Result<(), Memory>
+    ensures { OnOk result (units.new.items ≡ units.old.items ++ first ∷ four_units number) }
+{
+    let a = unit_of(number, 1);
+    let b = unit_of(number, 65536);
+    let c = unit_of(number, 0x1_0000_0000);
+    let d = unit_of(number, 0x1_0000_0000_0000);
+    put(units, &[first, a, b, c, d])
+}
+
+/// Puts an instruction of format 35c, whose registers are up to five.
+fn put_listed(units: &mut Vec<u16>, op: u64, registers: &[u16], index: u64) -> Result<(), Memory>
+    requires { op < 256 }
+    ensures { OnOk result (units.new.items ≡ units.old.items ++ listed_units op registers.now index) }
+{
+    let count = registers.len() as u64;
+    let low = with_halves(op, register(registers, 4), count);
+    let a = register(registers, 0);
+    let b = register(registers, 1);
+    let c = register(registers, 2);
+    let d = register(registers, 3);
+    put(units, &[low, unit_of(index, 1), four_halves(a, b, c, d)])
+}
+
 /// Puts one instruction: of each part the low bits that its format has room for.
 #[tactic(auto, unfolding(crate::specs::Spelling::plain_units))]
 pub fn put_plain(
@@ -63,6 +97,7 @@ pub fn put_plain(
     let op = u64::from(opcode);
     let a = register(registers, 0);
     let b = register(registers, 1);
+    let c = register(registers, 2);
     match format_of(opcode) {
         Format::Unused | Format::F10x => put(units, &[u16::from(opcode)]),
         Format::F12x => put(units, &[with_halves(op, a, b)]),
@@ -74,61 +109,18 @@ pub fn put_plain(
         Format::F21t => put(units, &[with_byte(op, a), unit_of(distance, 1)]),
         Format::F21s | Format::F21h => put(units, &[with_byte(op, a), unit_of(literal, 1)]),
         Format::F21c(_) => put(units, &[with_byte(op, a), unit_of(index, 1)]),
-        Format::F23x => {
-            let c = register(registers, 2);
-            put(units, &[with_byte(op, a), with_byte(b % 256, c)])
-        }
+        Format::F23x => put(units, &[with_byte(op, a), with_byte(b % 256, c)]),
         Format::F22b => put(units, &[with_byte(op, a), with_byte(b % 256, literal)]),
         Format::F22t => put(units, &[with_halves(op, a, b), unit_of(distance, 1)]),
         Format::F22s => put(units, &[with_halves(op, a, b), unit_of(literal, 1)]),
         Format::F22c(_) => put(units, &[with_halves(op, a, b), unit_of(index, 1)]),
         Format::F32x => put(units, &[u16::from(opcode), unit_of(a, 1), unit_of(b, 1)]),
-        Format::F30t => put(
-            units,
-            &[
-                u16::from(opcode),
-                unit_of(distance, 1),
-                unit_of(distance, 65536),
-            ],
-        ),
-        Format::F31t => put(
-            units,
-            &[
-                with_byte(op, a),
-                unit_of(distance, 1),
-                unit_of(distance, 65536),
-            ],
-        ),
-        Format::F31i => put(
-            units,
-            &[
-                with_byte(op, a),
-                unit_of(literal, 1),
-                unit_of(literal, 65536),
-            ],
-        ),
-        Format::F31c => put(
-            units,
-            &[with_byte(op, a), unit_of(index, 1), unit_of(index, 65536)],
-        ),
-        Format::F35c(_) => put(
-            units,
-            &[
-                with_halves(op, register(registers, 4), registers.len() as u64),
-                unit_of(index, 1),
-                four_halves(a, b, register(registers, 2), register(registers, 3)),
-            ],
-        ),
+        Format::F30t => put_double(units, u16::from(opcode), distance),
+        Format::F31t => put_double(units, with_byte(op, a), distance),
+        Format::F31i => put_double(units, with_byte(op, a), literal),
+        Format::F31c => put_double(units, with_byte(op, a), index),
+        Format::F35c(_) => put_listed(units, op, registers, index),
         Format::F3rc(_) => put(units, &[with_byte(op, b), unit_of(index, 1), unit_of(a, 1)]),
-        Format::F51l => put(
-            units,
-            &[
-                with_byte(op, a),
-                unit_of(literal, 1),
-                unit_of(literal, 65536),
-                unit_of(literal, 0x1_0000_0000),
-                unit_of(literal, 0x1_0000_0000_0000),
-            ],
-        ),
+        Format::F51l => put_quadruple(units, with_byte(op, a), literal),
     }
 }

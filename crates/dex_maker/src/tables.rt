@@ -48,7 +48,7 @@ fn shorty_of(alloc: Global, params: &[Name], ret: &Name) -> Result<Name, Memory>
     let mut letters = Vec::new(alloc);
     put_letter(&mut letters, ret)?;
     put_letters(&mut letters, params)?;
-    Ok(Name::new(letters))
+    Name::new(alloc, letters)
 }
 
 impl Tables {
@@ -90,7 +90,7 @@ impl Tables {
         for kind in params {
             numbers.push(self.type_index(kind))?;
         }
-        Ok(IdRow::new(numbers))
+        IdRow::new(alloc, numbers)
     }
 
     #[tactic(auto, unfolding(crate::specs::Tables::proto_index))]
@@ -116,7 +116,7 @@ impl Tables {
             self.type_index(kind),
             self.string_index(name),
         ];
-        Ok(IdRow::new(numbers.to_vec(alloc)?))
+        IdRow::new(alloc, numbers.to_vec(alloc)?)
     }
 
     #[tactic(auto, unfolding(crate::specs::Tables::field_index))]
@@ -149,7 +149,7 @@ impl Tables {
             self.proto_index(alloc, params, ret)?,
             self.string_index(name),
         ];
-        Ok(IdRow::new(numbers.to_vec(alloc)?))
+        IdRow::new(alloc, numbers.to_vec(alloc)?)
     }
 
     #[tactic(auto, unfolding(crate::specs::Tables::method_index))]
@@ -168,26 +168,26 @@ impl Tables {
     }
 
     #[tactic(auto, unfolding(crate::specs::Tables::with_string))]
-    pub fn add_string(&mut self, alloc: Global, name: &Name) -> Result<(), Memory>
+    pub fn add_string(&mut self, name: &Name) -> Result<(), Memory>
         ensures { OnOk result (self.new ≡ with_string self.old name.now) }
     {
-        self.strings.add(alloc, name.copy(alloc)?)
+        self.strings.add(name.copy()?)
     }
 
     #[tactic(auto, unfolding(crate::specs::Tables::with_type))]
-    pub fn add_type(&mut self, alloc: Global, name: &Name) -> Result<(), Memory>
+    pub fn add_type(&mut self, name: &Name) -> Result<(), Memory>
         ensures { OnOk result (self.new ≡ with_type self.old name.now) }
     {
-        self.add_string(alloc, name)?;
+        self.add_string(name)?;
         let string = self.string_index(name);
-        self.types.add(alloc, string)
+        self.types.add(string)
     }
 
-    pub fn add_types(&mut self, alloc: Global, names: &[Name]) -> Result<(), Memory>
+    pub fn add_types(&mut self, names: &[Name]) -> Result<(), Memory>
         ensures { OnOk result (self.new ≡ with_types self.old names.now) }
     {
         for name in names {
-            self.add_type(alloc, name)?;
+            self.add_type(name)?;
         }
         Ok(())
     }
@@ -197,11 +197,11 @@ impl Tables {
         ensures { OnOk result (self.new ≡ with_proto self.old params.now ret.now) }
     {
         let shorty = shorty_of(alloc, params, ret)?;
-        self.add_string(alloc, &shorty)?;
-        self.add_type(alloc, ret)?;
-        self.add_types(alloc, params)?;
+        self.add_string(&shorty)?;
+        self.add_type(ret)?;
+        self.add_types(params)?;
         let row = self.proto_row(alloc, params, ret)?;
-        self.protos.add(alloc, row)
+        self.protos.add(row)
     }
 
     /// Names what a row of `field_ids` needs, and gives the row.
@@ -216,9 +216,9 @@ impl Tables {
         ensures table { OnOk result (self.new ≡ for_field self.old class.now name.now kind.now) }
         ensures row { IfOk result (λ r. r ≡ field_row self.new class.now name.now kind.now) }
     {
-        self.add_type(alloc, class)?;
-        self.add_type(alloc, kind)?;
-        self.add_string(alloc, name)?;
+        self.add_type(class)?;
+        self.add_type(kind)?;
+        self.add_string(name)?;
         self.field_row(alloc, class, name, kind)
     }
 
@@ -234,7 +234,7 @@ impl Tables {
         ensures { OnOk result (self.new ≡ with_field self.old class.now name.now kind.now) }
     {
         let row = self.add_for_field(alloc, class, name, kind)?;
-        self.fields.add(alloc, row)
+        self.fields.add(row)
     }
 
     /// A field of a class: it has a row of its own.
@@ -249,7 +249,7 @@ impl Tables {
         ensures { OnOk result (self.new ≡ and_field self.old class.now name.now kind.now) }
     {
         let row = self.add_for_field(alloc, class, name, kind)?;
-        self.fields.push(alloc, row)
+        self.fields.push(row)
     }
 
     /// Names what a row of `method_ids` needs, and gives the row.
@@ -265,9 +265,9 @@ impl Tables {
         ensures table { OnOk result (self.new ≡ for_method self.old class.now name.now params.now ret.now) }
         ensures row { IfOk result (λ r. r ≡ method_row self.new class.now name.now params.now ret.now) }
     {
-        self.add_type(alloc, class)?;
+        self.add_type(class)?;
         self.add_proto(alloc, params, ret)?;
-        self.add_string(alloc, name)?;
+        self.add_string(name)?;
         self.method_row(alloc, class, name, params, ret)
     }
 
@@ -284,7 +284,7 @@ impl Tables {
         ensures { OnOk result (self.new ≡ with_method self.old class.now name.now params.now ret.now) }
     {
         let row = self.add_for_method(alloc, class, name, params, ret)?;
-        self.methods.add(alloc, row)
+        self.methods.add(row)
     }
 
     /// A method of a class: it has a row of its own.
@@ -300,6 +300,6 @@ impl Tables {
         ensures { OnOk result (self.new ≡ and_method self.old class.now name.now params.now ret.now) }
     {
         let row = self.add_for_method(alloc, class, name, params, ret)?;
-        self.methods.push(alloc, row)
+        self.methods.push(row)
     }
 }

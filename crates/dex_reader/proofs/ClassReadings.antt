@@ -15,11 +15,12 @@ use Rattle.dex_reader.specs.declared.place.Totals.{Totals}
 use Rattle.dex_reader.specs.ClassData.{walk_at, one_more, counted, sum_below, member_of, member_row, members_at, body_of, body_row, bodies_at, counts_at, class_data_of, some_class_data_at, class_data_at, class_def_of}
 use Rattle.dex_reader.specs.Code.{maybe_code_at}
 use Rattle.dex_reader.specs.Sequences.{IsLeb, Follow}
-use Rattle.dex_reader.specs.CodeStands.{no_totals}
-use Rattle.dex_reader.specs.ClassesStand.{plus, one_member, Spot, IsMember, IsBody, HasClassData, MaybeClassData}
-use Rattle.dex_reader.proofs.Readings.{bind_ok, bind_runs, there_ok, test_ok, ok_is, follow_read, follow_again, OneRead, ManyRead}
+use Rattle.dex_reader.specs.ClassesStand.{one_member, Spot, IsMember, IsBody, HasClassData, MaybeClassData}
+use Rattle.dex_reader.specs.Totals.{no_totals, plus}
+use Rattle.dex_reader.proofs.Readings.{there_ok, repeat_read, repeat_again, OneRead, ManyRead}
 use Rattle.dex_reader.proofs.TableReadings.{suc_not_zero}
 use Rattle.dex_reader.proofs.CodeReadings.{WithinTotals, same_totals, totals_add, maybe_code_is, maybe_code_again}
+use Rattle.vet_base.proofs.Runs.{bind_ok, test_ok, bind_runs, value_is}
 
 spot : Spot → Totals → Walk
 spot q t = walk_at q.0 q.1 t
@@ -30,16 +31,16 @@ more_is t lt = (
   λ fit. record { members = omega arith; units = (let k : t.units ≤ 8388608 = fit.units in omega arith); tries = (let k : t.tries ≤ 1000000 = fit.tries in omega arith) },
 )
 
-member_is : (file : List ℕ) (fields class i : ℕ) (q : Spot) (t : Totals) (x : Member) (s : Walk) → WithinTotals t → run (member_row file fields class i (spot q t)) ≡ Ok (x, s)
+member_is : (file : List ℕ) (fields class : ℕ) (q : Spot) (t : Totals) (x : Member) (s : Walk) → WithinTotals t → run (member_row file fields class (spot q t)) ≡ Ok (x, s)
     → OneRead plus WithinTotals (IsMember file fields) spot q t x s
 unfolding member_row sum_below counted spot
-member_is file fields class i q t x s fit e =
+member_is file fields class q t x s fit e =
     let a = there_ok (uleb file q.0) _ _ _ _ e in
     let b = test_ok _ _ _ _ a.2 in
     let c = there_ok (uleb file a.0.1) _ _ _ _ b.1 in
     let d = test_ok _ _ _ _ c.2 in
     let more = more_is t (ltb-true _ _ d.0) in
-    subst (λ (p : Member × Walk). OneRead plus WithinTotals (IsMember file fields) (λ q t. walk_at q.0 q.1 t) q t p.0 p.1) (ok_is _ _ d.1)
+    subst (λ (p : Member × Walk). OneRead plus WithinTotals (IsMember file fields) (λ q t. walk_at q.0 q.1 t) q t p.0 p.1) (value_is _ _ d.1)
     (record {
       to = (c.0.1, q.1 + a.0.0);
       adds = one_member;
@@ -48,10 +49,10 @@ member_is file fields class i q t x s fit e =
       fits = more.1 fit;
     })
 
-member_again : (file : List ℕ) (fields class i : ℕ) (q : Spot) (t : Totals) (x : Member) (adds : Totals) (to : Spot) → IsMember file fields q x adds to → WithinTotals (plus t adds)
-    → run (member_row file fields class i (spot q t)) ≡ Ok (x, spot to (plus t adds))
+member_again : (file : List ℕ) (fields class : ℕ) (q : Spot) (t : Totals) (x : Member) (adds : Totals) (to : Spot) → IsMember file fields q x adds to → WithinTotals (plus t adds)
+    → run (member_row file fields class (spot q t)) ≡ Ok (x, spot to (plus t adds))
 unfolding member_row sum_below counted spot
-member_again file fields class i q t x adds to is fit =
+member_again file fields class q t x adds to is fit =
     let difference : uleb file q.0 ≡ Some (is.difference, is.mid) = is.difference_is in
     let flags : uleb file is.mid ≡ Some (x.flags, to.0) = is.flags_is in
     let one : adds ≡ one_member = is.one in
@@ -71,20 +72,20 @@ members_are : (file : List ℕ) (fields class n at : ℕ) (t : Totals) (xs : Lis
     → ManyRead no_totals plus WithinTotals (IsMember file fields) spot n (at, 0) t xs s
 unfolding members_at spot
 members_are file fields class n at t xs s fit e =
-    follow_read no_totals plus WithinTotals (IsMember file fields) (λ q t. walk_at q.0 q.1 t) (member_row file fields class) totals_add
-    (λ i q t x s. member_is file fields class i q t x s) n 0 (at, 0) t xs s fit e
+    repeat_read no_totals plus WithinTotals (IsMember file fields) (λ q t. walk_at q.0 q.1 t) (member_row file fields class) totals_add
+    (λ q t x s. member_is file fields class q t x s) n (at, 0) t xs s fit e
 
 members_again : (file : List ℕ) (fields class at : ℕ) (t : Totals) (xs : List Member) (adds : Totals) (to : Spot) → Follow no_totals plus (IsMember file fields) (at, 0) xs adds to → WithinTotals (plus t adds)
     → run (members_at file fields class (length xs) at t) ≡ Ok (xs, spot to (plus t adds))
 unfolding members_at spot
 members_again file fields class at t xs adds to follow fit =
-    follow_again no_totals plus WithinTotals (IsMember file fields) (λ q t. walk_at q.0 q.1 t) (member_row file fields class) totals_add
-    (λ i q t x adds to. member_again file fields class i q t x adds to) 0 (at, 0) t xs adds to follow fit
+    repeat_again no_totals plus WithinTotals (IsMember file fields) (λ q t. walk_at q.0 q.1 t) (member_row file fields class) totals_add
+    (λ q t x adds to. member_again file fields class q t x adds to) (at, 0) t xs adds to follow fit
 
-body_is : (file : List ℕ) (sizes : Sizes) (class i : ℕ) (q : Spot) (t : Totals) (x : Body) (s : Walk) → WithinTotals t → run (body_row file sizes class i (spot q t)) ≡ Ok (x, s)
+body_is : (file : List ℕ) (sizes : Sizes) (class : ℕ) (q : Spot) (t : Totals) (x : Body) (s : Walk) → WithinTotals t → run (body_row file sizes class (spot q t)) ≡ Ok (x, s)
     → OneRead plus WithinTotals (IsBody file sizes) spot q t x s
 unfolding body_row sum_below counted spot
-body_is file sizes class i q t x s fit e =
+body_is file sizes class q t x s fit e =
     let a = there_ok (uleb file q.0) _ _ _ _ e in
     let b = test_ok _ _ _ _ a.2 in
     let c = there_ok (uleb file a.0.1) _ _ _ _ b.1 in
@@ -95,7 +96,7 @@ body_is file sizes class i q t x s fit e =
     let code-read : run (maybe_code_at file sizes.types d.0.0 (plus t one_member)) ≡ Ok (g.0.0, g.0.1) = subst (λ (u : Totals). run (maybe_code_at file sizes.types d.0.0 u) ≡ Ok (g.0.0, g.0.1)) more.0 g.1 in
     let code = maybe_code_is file sizes.types d.0.0 (plus t one_member) g.0.0 g.0.1 (more.1 fit) code-read in
     let grouped : plus (plus t one_member) code.adds ≡ plus t (plus one_member code.adds) = totals_add.regroup t one_member code.adds in
-    subst (λ (p : Body × Walk). OneRead plus WithinTotals (IsBody file sizes) (λ q t. walk_at q.0 q.1 t) q t p.0 p.1) (ok_is _ _ g.2)
+    subst (λ (p : Body × Walk). OneRead plus WithinTotals (IsBody file sizes) (λ q t. walk_at q.0 q.1 t) q t p.0 p.1) (value_is _ _ g.2)
     (record {
       to = (d.0.1, q.1 + a.0.0);
       adds = plus one_member code.adds;
@@ -118,10 +119,10 @@ body_is file sizes class i q t x s fit e =
       fits = subst WithinTotals grouped code.fits;
     })
 
-body_again : (file : List ℕ) (sizes : Sizes) (class i : ℕ) (q : Spot) (t : Totals) (x : Body) (adds : Totals) (to : Spot) → IsBody file sizes q x adds to → WithinTotals (plus t adds)
-    → run (body_row file sizes class i (spot q t)) ≡ Ok (x, spot to (plus t adds))
+body_again : (file : List ℕ) (sizes : Sizes) (class : ℕ) (q : Spot) (t : Totals) (x : Body) (adds : Totals) (to : Spot) → IsBody file sizes q x adds to → WithinTotals (plus t adds)
+    → run (body_row file sizes class (spot q t)) ≡ Ok (x, spot to (plus t adds))
 unfolding body_row sum_below counted spot
-body_again file sizes class i q t x adds to is fit =
+body_again file sizes class q t x adds to is fit =
     let difference : uleb file q.0 ≡ Some (is.difference, is.mid) = is.difference_is in
     let flags : uleb file is.mid ≡ Some (x.flags, is.next) = is.flags_is in
     let offset : uleb file is.next ≡ Some (is.offset, to.0) = is.offset_is in
@@ -148,15 +149,15 @@ bodies_are : (file : List ℕ) (sizes : Sizes) (class n at : ℕ) (t : Totals) (
     → ManyRead no_totals plus WithinTotals (IsBody file sizes) spot n (at, 0) t xs s
 unfolding bodies_at spot
 bodies_are file sizes class n at t xs s fit e =
-    follow_read no_totals plus WithinTotals (IsBody file sizes) (λ q t. walk_at q.0 q.1 t) (body_row file sizes class) totals_add
-    (λ i q t x s. body_is file sizes class i q t x s) n 0 (at, 0) t xs s fit e
+    repeat_read no_totals plus WithinTotals (IsBody file sizes) (λ q t. walk_at q.0 q.1 t) (body_row file sizes class) totals_add
+    (λ q t x s. body_is file sizes class q t x s) n (at, 0) t xs s fit e
 
 bodies_again : (file : List ℕ) (sizes : Sizes) (class at : ℕ) (t : Totals) (xs : List Body) (adds : Totals) (to : Spot) → Follow no_totals plus (IsBody file sizes) (at, 0) xs adds to → WithinTotals (plus t adds)
     → run (bodies_at file sizes class (length xs) at t) ≡ Ok (xs, spot to (plus t adds))
 unfolding bodies_at spot
 bodies_again file sizes class at t xs adds to follow fit =
-    follow_again no_totals plus WithinTotals (IsBody file sizes) (λ q t. walk_at q.0 q.1 t) (body_row file sizes class) totals_add
-    (λ i q t x adds to. body_again file sizes class i q t x adds to) 0 (at, 0) t xs adds to follow fit
+    repeat_again no_totals plus WithinTotals (IsBody file sizes) (λ q t. walk_at q.0 q.1 t) (body_row file sizes class) totals_add
+    (λ q t x adds to. body_again file sizes class q t x adds to) (at, 0) t xs adds to follow fit
 
 -- the four counts
 record CountsRead (file : List ℕ) (at : ℕ) (n : Counts) : Type 0 where
@@ -175,7 +176,7 @@ counts_are file at n e =
     let b = there_ok (uleb file a.0.1) _ _ _ _ a.2 in
     let c = there_ok (uleb file b.0.1) _ _ _ _ b.2 in
     let d = there_ok (uleb file c.0.1) _ _ _ _ c.2 in
-    subst (λ (k : Counts). CountsRead file at k) (ok_is _ _ d.2) (record { one = a.0.1; two = b.0.1; three = c.0.1; statics = a.1; instances = b.1; directs = c.1; virtuals = d.1 })
+    subst (λ (k : Counts). CountsRead file at k) (value_is _ _ d.2) (record { one = a.0.1; two = b.0.1; three = c.0.1; statics = a.1; instances = b.1; directs = c.1; virtuals = d.1 })
 
 counts_again : (file : List ℕ) (at a b c d one two three four : ℕ) → IsLeb file at a one → IsLeb file one b two → IsLeb file two c three → IsLeb file three d four
     → run (counts_at file at) ≡ Ok (record { statics = a; instances = b; directs = c; virtuals = d; at = four })
@@ -219,7 +220,7 @@ class_data_is file sizes class at t row lists s fit e =
     let virtuals = bodies_are file sizes class n.0.virtuals directs.to.0 (plus (plus (plus t statics.adds) instances.adds) directs.adds) d.0.0 d.0.1 directs.fits d-at in
     let parts = four_parts t statics.adds instances.adds directs.adds virtuals.adds in
     let total : d.0.1.totals ≡ plus (plus (plus (plus t statics.adds) instances.adds) directs.adds) virtuals.adds = ap (λ (w : Walk). w.totals) virtuals.is in
-    subst (λ (p : ClassData × Totals). DataRead file sizes at t row p.0 p.1) (ok_is _ _ d.2)
+    subst (λ (p : ClassData × Totals). DataRead file sizes at t row p.0 p.1) (value_is _ _ d.2)
     (record {
       adds = plus (plus (plus statics.adds instances.adds) directs.adds) virtuals.adds;
       stands = record {
@@ -280,7 +281,7 @@ pub maybe_data_is : (file : List ℕ) (sizes : Sizes) (class at : ℕ) (t : Tota
 unfolding class_data_at
 maybe_data_is file sizes class zero t row lists s fit e =
     let none : t ≡ plus t no_totals = sym (totals_add.right_none t) in
-    subst (λ (p : ClassData × Totals). MaybeDataRead file sizes 0 t row p.0 p.1) (ok_is _ _ e)
+    subst (λ (p : ClassData × Totals). MaybeDataRead file sizes 0 t row p.0 p.1) (value_is _ _ e)
     (record { adds = no_totals; stands = record { statics = refl; instances = refl; directs = refl; virtuals = refl; none = refl }; is = none; fits = subst WithinTotals none fit })
 maybe_data_is file sizes class (suc at) t row lists s fit e =
     let read = class_data_is file sizes class (suc at) t row lists s fit (rw (suc_not_zero at) at e) in

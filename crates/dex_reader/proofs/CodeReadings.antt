@@ -20,27 +20,29 @@ use Rattle.dex_reader.specs.Handlers.{pair_row, pairs_at, pair_count, catches_al
 use Rattle.dex_reader.specs.Tries.{padding_of, tries_begin, try_row, try_rows_at, raw_try, try_of, joined_at, some_tries_at, tries_at}
 use Rattle.dex_reader.specs.Code.{code_head_at, units_from, units_at, raw_code, coded, code_at, maybe_code_at}
 use Rattle.dex_reader.specs.Sequences.{Is2, Is4, RowsStand, Follow}
-use Rattle.dex_reader.specs.CodeStands.{IsPair, IsCatchAll, IsHandler, IsTryItem, IsTry, AreTries, pairs_of, HasTries, MaybeTries, padded, IsCode, MaybeCode, no_totals}
-use Rattle.dex_reader.specs.ClassesStand.{plus}
-use Rattle.dex_reader.proofs.Readings.{bind_ok, bind_runs, there_ok, test_ok, ok_is, follow_read, follow_again, OneRead, ManyRead, Adds}
+use Rattle.dex_reader.specs.CodeStands.{IsPair, IsCatchAll, IsHandler, IsTryItem, IsTry, AreTries, pairs_of, HasTries, MaybeTries, padded, IsCode, MaybeCode}
+use Rattle.dex_reader.specs.Totals.{no_totals, plus}
+use Rattle.dex_reader.proofs.Readings.{there_ok, repeat_read, repeat_again, OneRead, ManyRead, Adds}
 use Rattle.dex_reader.proofs.TableReadings.{u2_is, u4_is, u2_behind, u4_behind, u2_within, u4_within, number_adds, rows_from_follow, follow_from_rows, suc_not_zero}
+use Rattle.std.proofs.lemmas.Option.{same_Some}
+use Rattle.vet_base.proofs.Runs.{bind_ok, test_ok, bind_runs, value_is}
 
-pub pair_is : (file : List ℕ) (types code i at t : ℕ) (x : ℕ × ℕ) (s : Place) → t ≤ 1000000 → run (pair_row file types code i (place at t)) ≡ Ok (x, s)
+pub pair_is : (file : List ℕ) (types code at t : ℕ) (x : ℕ × ℕ) (s : Place) → t ≤ 1000000 → run (pair_row file types code (place at t)) ≡ Ok (x, s)
     → OneRead (λ a b. a + b) (λ a. a ≤ 1000000) (IsPair file types) place at t x s
 unfolding pair_row
-pair_is file types code i at t x s fit e =
+pair_is file types code at t x s fit e =
     let a = there_ok (uleb file at) _ _ _ _ e in
     let b = test_ok _ _ _ _ a.2 in
     let c = there_ok (uleb file a.0.1) _ _ _ _ b.1 in
     let d = test_ok _ _ _ _ c.2 in
     let under : t < 1000000 = ltb-true _ _ d.0 in
-    subst (λ (p : (ℕ × ℕ) × Place). OneRead (λ a b. a + b) (λ a. a ≤ 1000000) (IsPair file types) place at t p.0 p.1) (ok_is _ _ d.1)
+    subst (λ (p : (ℕ × ℕ) × Place). OneRead (λ a b. a + b) (λ a. a ≤ 1000000) (IsPair file types) place at t p.0 p.1) (value_is _ _ d.1)
     (record { to = c.0.1; adds = 1; stands = record { mid = a.0.1; kind_is = a.1; kind_below = ltb-true _ _ b.0; address_is = c.1; one = refl }; is = refl; fits = omega arith })
 
-pub pair_again : (file : List ℕ) (types code i at t : ℕ) (x : ℕ × ℕ) (adds to : ℕ) → IsPair file types at x adds to → t + adds ≤ 1000000
-    → run (pair_row file types code i (place at t)) ≡ Ok (x, place to (t + adds))
+pub pair_again : (file : List ℕ) (types code at t : ℕ) (x : ℕ × ℕ) (adds to : ℕ) → IsPair file types at x adds to → t + adds ≤ 1000000
+    → run (pair_row file types code (place at t)) ≡ Ok (x, place to (t + adds))
 unfolding pair_row
-pair_again file types code i at t x adds to is fit =
+pair_again file types code at t x adds to is fit =
     let kind : uleb file at ≡ Some (x.0, is.mid) = is.kind_is in
     let address : uleb file is.mid ≡ Some (x.1, to) = is.address_is in
     let one : adds ≡ 1 = is.one in
@@ -51,20 +53,20 @@ pub pairs_are : (file : List ℕ) (types code n at t : ℕ) (xs : List (ℕ × �
     → ManyRead 0 (λ a b. a + b) (λ a. a ≤ 1000000) (IsPair file types) place n at t xs s
 unfolding pairs_at
 pairs_are file types code n at t xs s fit e =
-    follow_read 0 (λ a b. a + b) (λ a. a ≤ 1000000) (IsPair file types) place (pair_row file types code) (number_adds 1000000) (λ i q t x s. pair_is file types code i q t x s) n 0 at t xs s fit e
+    repeat_read 0 (λ a b. a + b) (λ a. a ≤ 1000000) (IsPair file types) place (pair_row file types code) (number_adds 1000000) (λ q t x s. pair_is file types code q t x s) n at t xs s fit e
 
 pub pairs_again : (file : List ℕ) (types code at t : ℕ) (xs : List (ℕ × ℕ)) (adds to : ℕ) → Follow 0 (λ a b. a + b) (IsPair file types) at xs adds to → t + adds ≤ 1000000
     → run (pairs_at file types code (length xs) (place at t)) ≡ Ok (xs, place to (t + adds))
 unfolding pairs_at
 pairs_again file types code at t xs adds to follow fit =
-    follow_again 0 (λ a b. a + b) (λ a. a ≤ 1000000) (IsPair file types) place (pair_row file types code) (number_adds 1000000) (λ i q t x adds to. pair_again file types code i q t x adds to) 0 at t xs adds to follow fit
+    repeat_again 0 (λ a b. a + b) (λ a. a ≤ 1000000) (IsPair file types) place (pair_row file types code) (number_adds 1000000) (λ q t x adds to. pair_again file types code q t x adds to) at t xs adds to follow fit
 
 catch_all_is : (file : List ℕ) (catches : Bool) (at : ℕ) (x : Option ℕ) (to : ℕ) → run (catch_all_at file catches at) ≡ Ok (x, to) → IsCatchAll catches file at x to
 unfolding catch_all_at
 catch_all_is file true at x to e =
     let a = there_ok (uleb file at) _ _ _ _ e in
-    subst (λ (p : Option ℕ × ℕ). IsCatchAll true file at p.0 p.1) (ok_is _ _ a.2) (a.0.0, refl, a.1)
-catch_all_is file false at x to e = subst (λ (p : Option ℕ × ℕ). IsCatchAll false file at p.0 p.1) (ok_is _ _ e) (refl, refl)
+    subst (λ (p : Option ℕ × ℕ). IsCatchAll true file at p.0 p.1) (value_is _ _ a.2) (a.0.0, refl, a.1)
+catch_all_is file false at x to e = subst (λ (p : Option ℕ × ℕ). IsCatchAll false file at p.0 p.1) (value_is _ _ e) (refl, refl)
 
 catch_all_again : (file : List ℕ) (catches : Bool) (at : ℕ) (x : Option ℕ) (to : ℕ) → IsCatchAll catches file at x to → run (catch_all_at file catches at) ≡ Ok (x, to)
 unfolding catch_all_at
@@ -81,12 +83,12 @@ size_is : (file : List ℕ) (at : ℕ) (x : HandlerSize) → run (handler_size_a
 unfolding handler_size_at
 size_is file at x e =
     let a = there_ok (sleb file at) _ _ _ _ e in
-    (a.0, a.1, sym (ok_is _ _ a.2))
+    (a.0, a.1, sym (value_is _ _ a.2))
 
-pub handler_is : (file : List ℕ) (types code i at t : ℕ) (x : Handler) (s : Place) → t ≤ 1000000 → run (handler_row file types code i (place at t)) ≡ Ok (x, s)
+pub handler_is : (file : List ℕ) (types code at t : ℕ) (x : Handler) (s : Place) → t ≤ 1000000 → run (handler_row file types code (place at t)) ≡ Ok (x, s)
     → OneRead (λ a b. a + b) (λ a. a ≤ 1000000) (IsHandler file types) place at t x s
 unfolding handler_row
-handler_is file types code i at t x s fit e =
+handler_is file types code at t x s fit e =
     let a = bind_ok (handler_size_at file at) _ _ e in
     let b = bind_ok (pairs_at file types code a.0.pairs (place a.0.at t)) _ _ a.2 in
     let c = bind_ok (catch_all_at file a.0.catches_all b.0.1.at) _ _ b.2 in
@@ -102,7 +104,7 @@ handler_is file types code i at t x s fit e =
     let all = catch_all_is file a.0.catches_all b.0.1.at c.0.0 c.0.1 c.1 in
     let all-at : IsCatchAll (catches_all size.0.0) file read.to c.0.0 c.0.1 = subst (λ (k : Bool). IsCatchAll k file read.to c.0.0 c.0.1) catches-is (subst (λ (o : ℕ). IsCatchAll a.0.catches_all file o c.0.0 c.0.1) end-is all) in
     let follow : Follow 0 (λ a b. a + b) (IsPair file types) size.0.1 b.0.0 read.adds read.to = subst (λ (o : ℕ). Follow 0 (λ a b. a + b) (IsPair file types) o b.0.0 read.adds read.to) at-is read.stand in
-    subst (λ (p : Handler × Place). OneRead (λ a b. a + b) (λ a. a ≤ 1000000) (IsHandler file types) place at t p.0 p.1) (ok_is _ _ d.1)
+    subst (λ (p : Handler × Place). OneRead (λ a b. a + b) (λ a. a ≤ 1000000) (IsHandler file types) place at t p.0 p.1) (value_is _ _ d.1)
     (record {
       to = c.0.1;
       adds = read.adds + 1;
@@ -111,10 +113,10 @@ handler_is file types code i at t x s fit e =
       fits = omega arith;
     })
 
-pub handler_again : (file : List ℕ) (types code i at t : ℕ) (x : Handler) (adds to : ℕ) → IsHandler file types at x adds to → t + adds ≤ 1000000
-    → run (handler_row file types code i (place at t)) ≡ Ok (x, place to (t + adds))
+pub handler_again : (file : List ℕ) (types code at t : ℕ) (x : Handler) (adds to : ℕ) → IsHandler file types at x adds to → t + adds ≤ 1000000
+    → run (handler_row file types code (place at t)) ≡ Ok (x, place to (t + adds))
 unfolding handler_row handler_size_at
-handler_again file types code i at t x adds to is fit =
+handler_again file types code at t x adds to is fit =
     let size : sleb file at ≡ Some (is.size, is.begin) = is.size_is in
     let more : adds ≡ is.paired + 1 = is.one_more in
     let pairs : run (pairs_at file types code (pair_count is.size) (place is.begin t)) ≡ Ok (x.pairs, place is.end (t + is.paired)) =
@@ -131,22 +133,22 @@ pub handlers_are : (file : List ℕ) (types code n at t : ℕ) (xs : List Handle
     → ManyRead 0 (λ a b. a + b) (λ a. a ≤ 1000000) (IsHandler file types) place n at t xs s
 unfolding handler_rows_at
 handlers_are file types code n at t xs s fit e =
-    follow_read 0 (λ a b. a + b) (λ a. a ≤ 1000000) (IsHandler file types) place (handler_row file types code) (number_adds 1000000) (λ i q t x s. handler_is file types code i q t x s) n 0 at t xs s fit e
+    repeat_read 0 (λ a b. a + b) (λ a. a ≤ 1000000) (IsHandler file types) place (handler_row file types code) (number_adds 1000000) (λ q t x s. handler_is file types code q t x s) n at t xs s fit e
 
 pub handlers_again : (file : List ℕ) (types code at t : ℕ) (xs : List Handler) (adds to : ℕ) → Follow 0 (λ a b. a + b) (IsHandler file types) at xs adds to → t + adds ≤ 1000000
     → run (handler_rows_at file types code (length xs) (place at t)) ≡ Ok (xs, place to (t + adds))
 unfolding handler_rows_at
 handlers_again file types code at t xs adds to follow fit =
-    follow_again 0 (λ a b. a + b) (λ a. a ≤ 1000000) (IsHandler file types) place (handler_row file types code) (number_adds 1000000) (λ i q t x adds to. handler_again file types code i q t x adds to) 0 at t xs adds to follow fit
+    repeat_again 0 (λ a b. a + b) (λ a. a ≤ 1000000) (IsHandler file types) place (handler_row file types code) (number_adds 1000000) (λ q t x adds to. handler_again file types code q t x adds to) at t xs adds to follow fit
 
 -- Try items, of eight bytes and one more each.
 one_of : TryItem → ℕ
 one_of item = 1
 
-try_item_is : (file : List ℕ) (code i at t : ℕ) (x : TryItem) (s : Place) → t ≤ 1000000 → run (try_row file code i (place at t)) ≡ Ok (x, s)
+try_item_is : (file : List ℕ) (code at t : ℕ) (x : TryItem) (s : Place) → t ≤ 1000000 → run (try_row file code (place at t)) ≡ Ok (x, s)
     → OneRead (λ a b. a + b) (λ a. a ≤ 1000000) (λ at item adds to. IsTryItem file at item × (adds ≡ one_of item) × (to ≡ at + 8)) place at t x s
 unfolding try_row one_of
-try_item_is file code i at t x s fit e =
+try_item_is file code at t x s fit e =
     let a = there_ok (u4 file at) _ _ _ _ e in
     let b = there_ok (u2 file a.0.1) _ _ _ _ a.2 in
     let c = there_ok (u2 file b.0.1) _ _ _ _ b.2 in
@@ -158,13 +160,13 @@ try_item_is file code i at t x s fit e =
     let next : c.0.1 ≡ at + 8 = omega arith in
     let under : t < 1000000 = ltb-true _ _ d.0 in
     let fits : t + 1 ≤ 1000000 = omega arith in
-    subst (λ (p : TryItem × Place). OneRead (λ a b. a + b) (λ a. a ≤ 1000000) (λ at item adds to. IsTryItem file at item × (adds ≡ 1) × (to ≡ at + 8)) place at t p.0 p.1) (ok_is _ _ d.1)
+    subst (λ (p : TryItem × Place). OneRead (λ a b. a + b) (λ a. a ≤ 1000000) (λ at item adds to. IsTryItem file at item × (adds ≡ 1) × (to ≡ at + 8)) place at t p.0 p.1) (value_is _ _ d.1)
     (record { to = c.0.1; adds = 1; stands = (record { start_is = start.0; count_is = count.0; handler_is = handler.0 }, refl, next); is = refl; fits = fits })
 
-try_item_again : (file : List ℕ) (code i at t : ℕ) (x : TryItem) (adds to : ℕ) → IsTryItem file at x × (adds ≡ one_of x) × (to ≡ at + 8) → t + adds ≤ 1000000
-    → run (try_row file code i (place at t)) ≡ Ok (x, place to (t + adds))
+try_item_again : (file : List ℕ) (code at t : ℕ) (x : TryItem) (adds to : ℕ) → IsTryItem file at x × (adds ≡ one_of x) × (to ≡ at + 8) → t + adds ≤ 1000000
+    → run (try_row file code (place at t)) ≡ Ok (x, place to (t + adds))
 unfolding try_row one_of
-try_item_again file code i at t x adds to is fit =
+try_item_again file code at t x adds to is fit =
     let start : u4 file at ≡ Some (x.start, at + 4) = is.0.start_is in
     let count : u2 file (at + 4) ≡ Some (x.count, at + 6) = is.0.count_is ∙ ap (λ (o : ℕ). Some (x.count, o)) (omega arith) in
     let handler : u2 file (at + 6) ≡ Some (x.handler, at + 8) = is.0.handler_is ∙ ap (λ (o : ℕ). Some (x.handler, o)) (omega arith) in
@@ -195,8 +197,8 @@ record ItemsRead (file : List ℕ) (n at t : ℕ) (xs : List TryItem) (s : Place
 items_are : (file : List ℕ) (code n at t : ℕ) (xs : List TryItem) (s : Place) → t ≤ 1000000 → run (try_rows_at file code n (place at t)) ≡ Ok (xs, s) → ItemsRead file n at t xs s
 unfolding try_rows_at
 items_are file code n at t xs s fit e =
-    let read = follow_read 0 (λ a b. a + b) (λ a. a ≤ 1000000) (λ at item adds to. IsTryItem file at item × (adds ≡ one_of item) × (to ≡ at + 8)) place (try_row file code) (number_adds 1000000)
-    (λ i q t x s. try_item_is file code i q t x s) n 0 at t xs s fit e in
+    let read = repeat_read 0 (λ a b. a + b) (λ a. a ≤ 1000000) (λ at item adds to. IsTryItem file at item × (adds ≡ one_of item) × (to ≡ at + 8)) place (try_row file code) (number_adds 1000000)
+    (λ q t x s. try_item_is file code q t x s) n at t xs s fit e in
     let rows = rows_from_follow (IsTryItem file) one_of 8 at xs read.adds read.to read.stand in
     let sum : read.adds ≡ length xs = rows.1 ∙ ones xs in
     let end : read.to ≡ at + 8 * length xs = items_end file at xs read.adds read.to read.stand in
@@ -209,8 +211,8 @@ items_again file code at t xs stand fit =
     let follow = follow_from_rows (IsTryItem file) one_of 8 at xs stand in
     let sum : sum_by one_of xs ≡ length xs = ones xs in
     let end : follow.0 ≡ at + 8 * length xs = items_end file at xs (sum_by one_of xs) follow.0 follow.1 in
-    let read = follow_again 0 (λ a b. a + b) (λ a. a ≤ 1000000) (λ at item adds to. IsTryItem file at item × (adds ≡ one_of item) × (to ≡ at + 8)) place (try_row file code) (number_adds 1000000)
-    (λ i q t x adds to. try_item_again file code i q t x adds to) 0 at t xs (sum_by one_of xs) follow.0 follow.1 (subst (λ (u : ℕ). t + u ≤ 1000000) (sym sum) fit) in
+    let read = repeat_again 0 (λ a b. a + b) (λ a. a ≤ 1000000) (λ at item adds to. IsTryItem file at item × (adds ≡ one_of item) × (to ≡ at + 8)) place (try_row file code) (number_adds 1000000)
+    (λ q t x adds to. try_item_again file code q t x adds to) at t xs (sum_by one_of xs) follow.0 follow.1 (subst (λ (u : ℕ). t + u ≤ 1000000) (sym sum) fit) in
     read ∙ ap (λ (o : ℕ). Ok (xs, place o (t + sum_by one_of xs))) end ∙ ap (λ (u : ℕ). Ok (xs, place (at + 8 * length xs) (t + u))) sum
 
 -- Each try with its handler.
@@ -225,7 +227,7 @@ unfolding try_of
 try_is handlers list code item t x u e =
     let a = there_ok (handler_at (list + item.handler) handlers) _ _ _ _ e in
     let b = test_ok (nat_le (t + length a.0.pairs) 1000000) _ _ _ a.2 in
-    subst (λ (p : RawTry × ℕ). IsTry handlers list item p.0 × (p.1 ≡ t + length p.0.handlers) × (p.1 ≤ 1000000)) (ok_is _ _ b.1)
+    subst (λ (p : RawTry × ℕ). IsTry handlers list item p.0 × (p.1 ≡ t + length p.0.handlers) × (p.1 ≤ 1000000)) (value_is _ _ b.1)
     (record { handler = a.0; begins = a.1; is = refl }, refl, leb-true _ _ b.0)
 
 try_again : (handlers : List Handler) (list code : ℕ) (item : TryItem) (t : ℕ) (x : RawTry) → IsTry handlers list item x → t + length x.handlers ≤ 1000000
@@ -240,7 +242,7 @@ try_again handlers list code item t x is fit =
 joined_are : (handlers : List Handler) (list code : ℕ) (items : List TryItem) (t : ℕ) (xs : List RawTry) (u : ℕ) → t ≤ 1000000 → run (walk (try_of handlers list code) items t) ≡ Ok (xs, u) → TriesRead handlers list t items xs u
 unfolding walk
 joined_are handlers list code [] t xs u fit e =
-    subst (λ (p : List RawTry × ℕ). TriesRead handlers list t [] p.0 p.1) (ok_is ([], t) (xs, u) e) (record { are = tt; is = omega arith; fits = fit })
+    subst (λ (p : List RawTry × ℕ). TriesRead handlers list t [] p.0 p.1) (value_is ([], t) (xs, u) e) (record { are = tt; is = omega arith; fits = fit })
 joined_are handlers list code (item ∷ items) t xs u fit e =
     let a = bind_ok (try_of handlers list code item t) _ _ e in
     let one = try_is handlers list code item t a.0.0 a.0.1 a.1 in
@@ -250,7 +252,7 @@ joined_are handlers list code (item ∷ items) t xs u fit e =
     let total : c.0.1 ≡ a.0.1 + sum_by pairs_of c.0.0 = rest.is in
     let cons : sum_by pairs_of (a.0.0 ∷ c.0.0) ≡ length a.0.0.handlers + sum_by pairs_of c.0.0 = sum_by-cons pairs_of a.0.0 c.0.0 in
     let sum : c.0.1 ≡ t + sum_by pairs_of (a.0.0 ∷ c.0.0) = omega arith in
-    subst (λ (p : List RawTry × ℕ). TriesRead handlers list t (item ∷ items) p.0 p.1) (ok_is _ _ c.2)
+    subst (λ (p : List RawTry × ℕ). TriesRead handlers list t (item ∷ items) p.0 p.1) (value_is _ _ c.2)
     (record { are = (one.0, rest.are); is = sum; fits = rest.fits })
 
 joined_again : (handlers : List Handler) (list code : ℕ) (items : List TryItem) (t : ℕ) (xs : List RawTry) → AreTries handlers list items xs → t + sum_by pairs_of xs ≤ 1000000
@@ -268,14 +270,11 @@ joined_again handlers list code (item ∷ items) t (x ∷ xs) are fit =
     (bind_runs (walk (try_of handlers list code) items (t + length x.handlers)) (xs, t + length x.handlers + sum_by pairs_of xs) _ _ rest
     (ap (λ (u : ℕ). Ok (x ∷ xs, u)) sum))
 
-pub some_is : {A : Type 0} (x y : A) → Some x ≡ Some y → x ≡ y
-some_is x y e = cc
-
 value_of_u2 : (file : List ℕ) (at x : ℕ) → Is2 file at x → at + 2 ≤ length file → slice_index file at + 256 * slice_index file (at + 1) ≡ x
 value_of_u2 file at x is le =
     let below : nat_le (at + 2) (length file) ≡ true = le-leb _ _ le in
     let same = (rw below at is) in
-    ap (λ (p : ℕ × ℕ). p.0) (some_is _ _ same)
+    ap (λ (p : ℕ × ℕ). p.0) (same_Some _ _ same)
 
 -- the units
 units_stand : (file : List ℕ) (at n : ℕ) → at + 2 * n ≤ length file → RowsStand (Is2 file) 2 at (units_from file at n) × (length (units_from file at n) ≡ n)
@@ -400,7 +399,7 @@ tries_are : (file : List ℕ) (types code : ℕ) (head : CodeHead) (t : ℕ) (xs
 unfolding tries_at
 tries_are file types code head t xs u fit e = elim (eqb_tells head.tries 0) [
   | inl none ↦ (let f : run {F = Fault} {A = List RawTry × ℕ} (Value ([], t)) ≡ Ok (xs, u) = (rw none.0 at e) in
-      subst (λ (p : List RawTry × ℕ). MaybeTried file types (tries_begin head) t p.0 head.tries p.1) (ok_is ([], t) (xs, u) f)
+      subst (λ (p : List RawTry × ℕ). MaybeTried file types (tries_begin head) t p.0 head.tries p.1) (value_is ([], t) (xs, u) f)
       (record { adds = 0; has = refl; count = sym none.1; is = omega arith; fits = fit }))
   | inr some ↦ (let f : run (some_tries_at file types code head t) ≡ Ok (xs, u) = (rw some.0 at e) in
       let tried = some_tries_are file types code head t xs u fit f in
@@ -445,7 +444,7 @@ head_is file at head e =
     let debug = u4_behind file (at + 8) d.0.1 f.0 f.1 (let k : d.0.1 ≡ at + 6 + 2 = tries.1 in omega arith) in
     let units = u4_behind file (at + 12) f.0.1 g.0 g.1 (let k : f.0.1 ≡ at + 8 + 4 = debug.1 in omega arith) in
     let end : g.0.1 ≡ at + 16 = (let k : g.0.1 ≡ at + 12 + 4 = units.1 in omega arith) in
-    subst (λ (h : CodeHead). HeadStands file at h) (ok_is _ _ g.2)
+    subst (λ (h : CodeHead). HeadStands file at h) (value_is _ _ g.2)
     (record { registers_is = registers.0; ins_is = ins.0; outs_is = outs.0; tries_is = tries.0; units_is = units.0; at_is = end })
 
 -- a number of four bytes is there where the file goes on
@@ -473,7 +472,7 @@ units_are file code head t xs e =
     let a = test_ok (nat_le (head.at + 2 * head.units) (length file)) _ _ _ e in
     let b = test_ok (nat_le (t + head.units) 8388608) _ _ _ a.1 in
     let stand = units_stand file head.at head.units (leb-true _ _ a.0) in
-    subst (λ (ys : List ℕ). RowsStand (Is2 file) 2 head.at ys × (length ys ≡ head.units) × (t + head.units ≤ 8388608)) (ok_is _ _ b.1) (stand.0, stand.1, leb-true _ _ b.0)
+    subst (λ (ys : List ℕ). RowsStand (Is2 file) 2 head.at ys × (length ys ≡ head.units) × (t + head.units ≤ 8388608)) (value_is _ _ b.1) (stand.0, stand.1, leb-true _ _ b.0)
 
 units_read : (file : List ℕ) (code : ℕ) (head : CodeHead) (t : ℕ) (xs : List ℕ) → RowsStand (Is2 file) 2 head.at xs → length xs ≡ head.units → head.at ≤ length file → t + head.units ≤ 8388608 → run (units_at file code head t) ≡ Ok xs
 unfolding units_at
@@ -539,7 +538,7 @@ code_is file types at t x s fit e =
       tries = has;
       adds_is = refl;
     } in
-    subst (λ (p : RawCode × Totals). CodeRead file types at t p.0 p.1) (ok_is _ _ c.2)
+    subst (λ (p : RawCode × Totals). CodeRead file types at t p.0 p.1) (value_is _ _ c.2)
     (record { adds = adds; stands = code-is; is = same_totals _ _ (omega arith) (omega arith) total; fits = record { members = omega arith; units = omega arith; tries = omega arith } })
 
 pub code_again : (file : List ℕ) (types at : ℕ) (t : Totals) (x : RawCode) (adds : Totals) → IsCode file types at x adds → WithinTotals (plus t adds) → run (code_at file types at t) ≡ Ok (x, plus t adds)
@@ -571,12 +570,12 @@ pub maybe_code_is : (file : List ℕ) (types at : ℕ) (t : Totals) (x : Option 
 unfolding maybe_code_at
 maybe_code_is file types zero t x s fit e =
     let none : t ≡ plus t no_totals = sym (totals_add.right_none t) in
-    subst (λ (p : Option RawCode × Totals). MaybeCodeRead file types 0 t p.0 p.1) (ok_is (None, t) (x, s) e)
+    subst (λ (p : Option RawCode × Totals). MaybeCodeRead file types 0 t p.0 p.1) (value_is (None, t) (x, s) e)
     (record { adds = no_totals; stands = (refl, refl); is = none; fits = subst WithinTotals none fit })
 maybe_code_is file types (suc at) t x s fit e =
     let a = bind_ok (code_at file types (suc at) t) _ _ (rw (suc_not_zero at) at e) in
     let read = code_is file types (suc at) t a.0.0 a.0.1 fit a.1 in
-    subst (λ (p : Option RawCode × Totals). MaybeCodeRead file types (suc at) t p.0 p.1) (ok_is _ _ a.2)
+    subst (λ (p : Option RawCode × Totals). MaybeCodeRead file types (suc at) t p.0 p.1) (value_is _ _ a.2)
     (record { adds = read.adds; stands = record { item = a.0.0; is = refl; stands = read.stands }; is = read.is; fits = read.fits })
 
 pub maybe_code_again : (file : List ℕ) (types at : ℕ) (t : Totals) (x : Option RawCode) (adds : Totals) → MaybeCode file types at x adds → WithinTotals (plus t adds) → run (maybe_code_at file types at t) ≡ Ok (x, plus t adds)

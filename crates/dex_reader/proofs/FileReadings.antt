@@ -1,13 +1,13 @@
 -- A file that is read is a DEX file in which that stands, and a DEX file is read.
-use Rattle.std.proofs.Common.{Result, Err, ◌≡◌, ◌⊎◌, inl, inr, ℕ, zero, suc, ◌+◌, ◌*◌, ◌<◌, ◌≤◌, Bool, true, false, List, [], ◌∷◌, ◌++◌, length, take, Option, Some, None, Ok, refl, sym, ap, subst, ◌∙◌, arith}
-use Rattle.std.proofs.lemmas.Bool.{ltb-true, lt-ltb, leb-true, le-leb, eq-eqb, eqb-true}
+use Rattle.std.proofs.Common.{Result, Err, ◌≡◌, ◌⊎◌, inl, inr, ℕ, zero, suc, ◌+◌, ◌*◌, ◌<◌, ◌≤◌, true, false, List, [], ◌∷◌, length, take, Option, Some, None, Ok, refl, sym, ap, subst, ◌∙◌, arith}
+use Rattle.std.proofs.lemmas.Bool.{ltb-true, lt-ltb, leb-true, le-leb, eq-eqb, eqb-true, and_parts}
 use Rattle.std.proofs.lemmas.Bool.Decides.{nat_tests, eqb_tells}
 use Rattle.std.proofs.lemmas.List.Sums.{sum_by-cons}
 use Rattle.std.proofs.Math.Bool.{or-true}
 use Rattle.std.specs.Prelude.{nat_lt, nat_le, nat_eq, sum_by, ◌||◌, ◌&&◌}
 use Rattle.std.specs.List.{starts_with}
 use Rattle.vet_base.specs.Numbers.{u4}
-use Rattle.vet_base.specs.Script.{Script, Value, Test, ◌>>=◌, test, run, then_run, rows, walk, tests, AllHold, IsFirst}
+use Rattle.vet_base.specs.Script.{Script, Value, ◌>>=◌, run, rows, walk}
 use Rattle.vet_base.proofs.Scripts.{is_first}
 use Rattle.dex_reader.specs.declared.fault.Fault.{Fault}
 use Rattle.dex_reader.specs.declared.fault.Table.TheVariants as tables
@@ -29,13 +29,15 @@ use Rattle.dex_reader.specs.ClassData.{class_def_of, class_data_at, class_of, cl
 use Rattle.dex_reader.specs.Whole.{FirstDexFault, sizes_of, ids_at, file_at, dex_at}
 use Rattle.dex_reader.specs.Sequences.{Is4, RowsStand, Follow}
 use Rattle.dex_reader.specs.TablesStand.{TableStands, MaybeTypeList, IsName, IsType, IsProto, IsField, IsMethod}
-use Rattle.dex_reader.specs.CodeStands.{no_totals}
-use Rattle.dex_reader.specs.ClassesStand.{plus, MaybeClassData, IsSuperclass, IsClass, IsClassRow}
+use Rattle.dex_reader.specs.ClassesStand.{MaybeClassData, IsSuperclass, IsClass, IsClassRow}
 use Rattle.dex_reader.specs.Dex.{IsSection, IsHeader, params_of, interfaces_of, HasTables, WithinLimits, IsDex, ExactlyOne}
-use Rattle.dex_reader.proofs.Readings.{bind_ok, bind_runs, there_ok, test_ok, ok_is, follow_read, OneRead}
+use Rattle.dex_reader.specs.Totals.{no_totals, plus}
+use Rattle.dex_reader.proofs.Readings.{there_ok, follow_read, OneRead}
 use Rattle.dex_reader.proofs.TableReadings.{u4_is, u4_behind, u4_within, number_adds, rows_from_follow, maybe_list_is, maybe_list_again, strings_are, strings_again, protos_are, protos_again, types_are, types_again, fields_are, fields_again, methods_are, methods_again}
 use Rattle.dex_reader.proofs.CodeReadings.{WithinTotals, same_totals, totals_add, four_there}
 use Rattle.dex_reader.proofs.ClassReadings.{lists_of, maybe_data_is, maybe_data_again}
+use Rattle.vet_base.proofs.Runs.{bind_ok, test_ok, bind_runs, value_is, fails_first, one_first}
+use Rattle.vet_base.proofs.Results.{one_ok, ok_or_err}
 
 -- the superclass of a row
 no_index : (index types : ℕ) → (index ≡ 4294967295 → ⊥) → (nat_eq index 4294967295 || nat_lt index types) ≡ true → index < types
@@ -51,7 +53,7 @@ superclass_is file types table row at x e =
     let a = there_ok (u4 file at) _ _ _ _ e in
     let b = test_ok (nat_eq a.0.0 4294967295 || nat_lt a.0.0 types) _ _ _ a.2 in
     let here = u4_is file at a.0 a.1 in
-    subst (λ (p : Option ℕ × ℕ). (index : ℕ) × Is4 file at index × IsSuperclass types index p.0 × (p.1 ≡ at + 4)) (ok_is _ _ b.1)
+    subst (λ (p : Option ℕ × ℕ). (index : ℕ) × Is4 file at index × IsSuperclass types index p.0 × (p.1 ≡ at + 4)) (value_is _ _ b.1)
     (elim (eqb_tells a.0.0 4294967295) [
       | inl none ↦ (a.0.0, here.0, (rw none.0 none.1), here.1)
       | inr some ↦ (a.0.0, here.0, (rw some.0 (refl, no_index a.0.0 types some.1 b.0, some.1)), here.1)
@@ -85,7 +87,7 @@ data_offset_is file table at x e =
     let within : at + 12 + 4 ≤ length file = u4_within file (at + 12) d.0.0 statics.0 in
     let last : d.0.1 ≡ at + 16 = omega arith in
     let inside : at + 16 ≤ length file = omega arith in
-    subst (λ (p : ℕ × ℕ). Is4 file (at + 8) p.0 × (p.1 ≡ at + 16) × (at + 16 ≤ length file)) (ok_is _ _ d.2) (class_data.0, last, inside)
+    subst (λ (p : ℕ × ℕ). Is4 file (at + 8) p.0 × (p.1 ≡ at + 16) × (at + 16 ≤ length file)) (value_is _ _ d.2) (class_data.0, last, inside)
 
 data_offset_again : (file : List ℕ) (table at x : ℕ) → Is4 file (at + 8) x → at + 16 ≤ length file → run (data_offset_at file table at) ≡ Ok (x, at + 16)
 unfolding data_offset_at
@@ -142,7 +144,7 @@ head_is file types table i at t x s fit e =
     let within : at + 32 ≤ length file = (let o : f.0.1 + 16 ≤ length file = offset.2 in let p : at + 16 + 16 ≤ length file = subst (λ (u : ℕ). u + 16 ≤ length file) list-end o in omega (arith, p)) in
     let total : g.0.1 ≡ t + length g.0.0 = interfaces.1 in
     let fits : t + length g.0.0 ≤ 4000000 = (let o : g.0.1 ≤ 4000000 = interfaces.2 in omega arith) in (
-      subst (λ (p : ClassRow × Place). OneRead (λ a b. a + b) (λ a. a ≤ 4000000) (λ at row adds to. IsHead file types at row × (adds ≡ length row.interfaces) × (to ≡ at + 32)) place at t p.0 p.1) (ok_is _ _ k.2)
+      subst (λ (p : ClassRow × Place). OneRead (λ a b. a + b) (λ a. a ≤ 4000000) (λ at row adds to. IsHead file types at row × (adds ≡ length row.interfaces) × (to ≡ at + 32)) place at t p.0 p.1) (value_is _ _ k.2)
           (record {
             to = k.0.1;
             adds = length g.0.0;
@@ -224,7 +226,7 @@ unfolding class_of lists_of
 class_is file sizes row t x s fit e =
     let a = bind_ok (class_data_at file sizes row.row row.class_data t) _ _ e in
     let read = maybe_data_is file sizes row.row row.class_data t row a.0.0 a.0.1 fit a.1 in
-    subst (λ (p : ClassDef × Totals). ClassRead file sizes t row p.0 p.1) (ok_is _ _ a.2)
+    subst (λ (p : ClassDef × Totals). ClassRead file sizes t row p.0 p.1) (value_is _ _ a.2)
     (record { adds = read.adds; same = refl; stands = read.stands; is = read.is; fits = read.fits })
 
 class_again : (file : List ℕ) (sizes : Sizes) (row : ClassRow) (t : Totals) (x : ClassDef) (adds : Totals) → x ≡ class_def_of row (lists_of x) → MaybeClassData file sizes row.class_data x adds → WithinTotals (plus t adds)
@@ -238,7 +240,7 @@ classes_are : (file : List ℕ) (sizes : Sizes) (rs : List ClassRow) (t : Totals
 unfolding walk
 classes_are file sizes [] t xs s fit e =
     let none : t ≡ plus t no_totals = sym (totals_add.right_none t) in
-    subst (λ (p : List ClassDef × Totals). ClassesRead file sizes t [] p.0 p.1) (ok_is ([], t) (xs, s) e) (record { adds = no_totals; paired = refl; is = none; fits = subst WithinTotals none fit })
+    subst (λ (p : List ClassDef × Totals). ClassesRead file sizes t [] p.0 p.1) (value_is ([], t) (xs, s) e) (record { adds = no_totals; paired = refl; is = none; fits = subst WithinTotals none fit })
 classes_are file sizes (r ∷ rs) t xs s fit e =
     let a = bind_ok (class_of file sizes r t) _ _ e in
     let one = class_is file sizes r t a.0.0 a.0.1 fit a.1 in
@@ -246,7 +248,7 @@ classes_are file sizes (r ∷ rs) t xs s fit e =
     let after : run (walk (class_of file sizes) rs (plus t one.adds)) ≡ Ok (c.0.0, c.0.1) = subst (λ (u : Totals). run (walk (class_of file sizes) rs u) ≡ Ok (c.0.0, c.0.1)) one.is c.1 in
     let rest = classes_are file sizes rs (plus t one.adds) c.0.0 c.0.1 one.fits after in
     let grouped = totals_add.regroup t one.adds rest.adds in
-    subst (λ (p : List ClassDef × Totals). ClassesRead file sizes t (r ∷ rs) p.0 p.1) (ok_is _ _ c.2)
+    subst (λ (p : List ClassDef × Totals). ClassesRead file sizes t (r ∷ rs) p.0 p.1) (value_is _ _ c.2)
     (record { adds = plus one.adds rest.adds; paired = (one.adds, rest.adds, one.same, one.stands, rest.paired, refl); is = rest.is ∙ grouped; fits = subst WithinTotals grouped rest.fits })
 
 classes_again : (file : List ℕ) (sizes : Sizes) (rs : List ClassRow) (t : Totals) (xs : List ClassDef) (adds : Totals) → Paired file sizes rs xs adds → WithinTotals (plus t adds)
@@ -433,7 +435,7 @@ ids_are file header sizes ids e =
     let protos = protos_are file sizes header.protos g.0.0 g.0.1 g.1 in
     let fields = fields_are file sizes header.fields k.0.0 k.0.1 k.1 in
     let methods = methods_are file sizes header.methods m.0.0 m.0.1 m.1 in
-    subst (λ (x : Ids). IdsRead file header sizes x) (ok_is _ _ m.2)
+    subst (λ (x : Ids). IdsRead file header sizes x) (value_is _ _ m.2)
     (record {
       strings = record { count = strings.count; within = table_is file header.strings.size header.strings.at 4 a.0 a.1; stand = strings.stand };
       types = record { count = types.0; within = table_is file header.types.size header.types.at 4 c.0 c.1; stand = types.1 };
@@ -495,7 +497,7 @@ file_is file header sizes dex e =
     let lists : a.0.listed + sum_by in_row c.0.0 ≤ 4000000 = heads.limit in
     let count : length d.0.0 ≡ header.classes.size = sym joined.count ∙ heads.count in
     let many : header.classes.size ≤ 65536 = heads.rows_limit in
-    subst (λ (x : Dex). FileRead file header sizes x) (ok_is _ _ d.2)
+    subst (λ (x : Dex). FileRead file header sizes x) (value_is _ _ d.2)
     (record {
       totals = classes.adds;
       tables = record {
@@ -537,7 +539,7 @@ section_is bytes at x e =
     let b = there_ok (u4 bytes a.0.1) _ _ _ _ a.2 in
     let size = u4_is bytes at a.0 a.1 in
     let offset = u4_behind bytes (at + 4) a.0.1 b.0 b.1 size.1 in
-    subst (λ (t : Section). IsSection bytes at t) (ok_is _ _ b.2) (size.0, offset.0)
+    subst (λ (t : Section). IsSection bytes at t) (value_is _ _ b.2) (size.0, offset.0)
 
 section_again : (bytes : List ℕ) (at : ℕ) (x : Section) → IsSection bytes at x → run (section_at bytes at) ≡ Ok x
 unfolding section_at
@@ -545,10 +547,6 @@ section_again bytes at x is =
     let size : u4 bytes at ≡ Some (x.size, at + 4) = is.0 in
     let offset : u4 bytes (at + 4) ≡ Some (x.at, at + 4 + 4) = is.1 in
     rw (size, offset) refl
-
-both : (a b : Bool) → (a && b) ≡ true → (a ≡ true) × (b ≡ true)
-both true b e = (refl, e)
-both false b e = absurd cc
 
 record SizeRead (bytes : List ℕ) (size : ℕ) : Type 0 where
   magic_is : starts_with nat_eq bytes magic ≡ true
@@ -572,8 +570,8 @@ file_size_is bytes x e =
     let size = u4_is bytes 32 c.0 c.1 in
     let header_size = u4_is bytes 36 f.0 f.1 in
     let tag = u4_is bytes 40 h.0 h.1 in
-    let range = both (nat_le 112 c.0.0) (nat_le c.0.0 (length bytes)) d.0 in
-    subst (λ (n : ℕ). SizeRead bytes n) (ok_is _ _ k.1)
+    let range = and_parts (nat_le 112 c.0.0) (nat_le c.0.0 (length bytes)) d.0 in
+    subst (λ (n : ℕ). SizeRead bytes n) (value_is _ _ k.1)
     (record {
       magic_is = a.0;
       whole = leb-true _ _ range.0;
@@ -606,7 +604,7 @@ header_is bytes x e =
     let g = bind_ok (section_at bytes 88) _ _ f.2 in
     let h = bind_ok (section_at bytes 96) _ _ g.2 in
     let size = file_size_is bytes a.0 a.1 in
-    subst (λ (y : Header). IsHeader bytes y) (ok_is _ _ h.2)
+    subst (λ (y : Header). IsHeader bytes y) (value_is _ _ h.2)
     (record {
       magic_is = size.magic_is;
       whole = size.whole;
@@ -647,51 +645,14 @@ unfolding dex_at
 dex_again bytes dex is =
     bind_runs (header_at bytes) _ _ _ (header_again bytes is.header is.header_is) (file_again (take is.header.file_size bytes) is.header (sizes_of is.header) dex is.totals is.tables is.limits)
 
--- the first fault is what running gives
-first_run : (s : Script Fault Dex) (before after : List (Bool × Fault)) (f : Fault) → tests s ≡ before ++ (false, f) ∷ after → AllHold before → run s ≡ Err f
-first_run (Value x) [] after f e hold = absurd cc
-first_run (Value x) (b ∷ before) after f e hold = absurd cc
-first_run (Test true fault rest) [] after f e hold =
-    let same : (true, fault) ≡ (false, f) = cc in
-    let never : true ≡ false = ap (λ (x : Bool × Fault). x.0) same in
-    absurd cc
-first_run (Test false fault rest) [] after f e hold =
-    let same : (false, fault) ≡ (false, f) = cc in
-    let is : fault ≡ f = ap (λ (x : Bool × Fault). x.1) same in
-    ap (λ (x : Fault). Err x) is
-first_run (Test true fault rest) (b ∷ before) after f e hold = first_run rest before after f (cc) hold.1
-first_run (Test false fault rest) (b ∷ before) after f e hold =
-    let same : (false, fault) ≡ b = cc in
-    let never : false ≡ b.0 = ap (λ (x : Bool × Fault). x.0) same in
-    let holds : b.0 ≡ true = hold.0 in
-    absurd cc
-
-fault_runs : (bytes : List ℕ) (f : Fault) → FirstDexFault bytes f → run (dex_at bytes) ≡ Err f
-fault_runs bytes f first = first_run (dex_at bytes) first.before first.after f first.stands first.hold
-
 some_answer : (bytes : List ℕ) (r : Result Dex Fault) → run (dex_at bytes) ≡ r → ((dex : Dex) × IsDex bytes dex) ⊎ ((fault : Fault) × FirstDexFault bytes fault)
 some_answer bytes (Ok dex) e = inl (dex, dex_is bytes dex e)
 some_answer bytes (Err f) e = inr (f, is_first (dex_at bytes) f e)
 
-abbrev ok_of : Dex → Result Dex Fault
-ok_of d = Ok d
-
-abbrev err_of : Fault → Result Dex Fault
-err_of f = Err f
-
-never_both : (r : Result Dex Fault) (d : Dex) (f : Fault) → r ≡ Ok d → r ≡ Err f → ⊥
-never_both r d f a b = let same : ok_of d ≡ err_of f = sym a ∙ b in absurd cc
-
-result_is : (r : Result Dex Fault) (d e : Dex) → r ≡ Ok d → r ≡ Ok e → d ≡ e
-result_is r d e a b = let same : ok_of d ≡ ok_of e = sym a ∙ b in cc
-
-fault_is : (r : Result Dex Fault) (f g : Fault) → r ≡ Err f → r ≡ Err g → f ≡ g
-fault_is r f g a b = let same : err_of f ≡ err_of g = sym a ∙ b in cc
-
 pub exactly_one : (bytes : List ℕ) → ExactlyOne bytes
 exactly_one bytes = record {
   either = some_answer bytes (run (dex_at bytes)) refl;
-  one_dex = λ d e a b. result_is (run (dex_at bytes)) d e (dex_again bytes d a) (dex_again bytes e b);
-  one_fault = λ f g a b. fault_is (run (dex_at bytes)) f g (fault_runs bytes f a) (fault_runs bytes g b);
-  not_both = λ d f a b. never_both (run (dex_at bytes)) d f (dex_again bytes d a) (fault_runs bytes f b);
+  one_dex = λ d e a b. one_ok (run (dex_at bytes)) d e (dex_again bytes d a) (dex_again bytes e b);
+  one_fault = λ f g a b. one_first (dex_at bytes) f g a b;
+  not_both = λ d f a b. ok_or_err (run (dex_at bytes)) d f (dex_again bytes d a) (fails_first (dex_at bytes) f b);
 }

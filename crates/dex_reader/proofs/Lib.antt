@@ -1,7 +1,6 @@
 pub mod Leb
 pub mod RisingHandlers
 pub mod Units
-pub mod WalkItems
 pub mod WalkRest
 pub mod Readings
 pub mod TableReadings

@@ -1,36 +1,16 @@
 -- Parts of a reading that did not fail, and readings of rows one behind the other.
-use Rattle.std.proofs.Common.{◌≡◌, ℕ, zero, suc, ◌+◌, Bool, true, false, List, [], ◌∷◌, length, Option, Some, None, Result, Ok, Err, refl, sym, ap, subst, ◌∙◌}
-use Rattle.vet_base.specs.Script.{Script, Value, Test, ◌>>=◌, run, then_run, rows}
+use Rattle.std.proofs.Common.{◌≡◌, ℕ, zero, suc, ◌+◌, List, [], ◌∷◌, length, Option, Some, None, Ok, refl, sym, ap, subst, ◌∙◌}
+use Rattle.vet_base.specs.Script.{Script, Value, ◌>>=◌, run, rows, repeat}
 use Rattle.vet_base.proofs.Scripts.{run_bind}
 use Rattle.dex_reader.specs.declared.fault.Fault.{Fault}
 use Rattle.dex_reader.specs.Parts.{there}
 use Rattle.dex_reader.specs.Sequences.{RowsStand, Follow}
-
--- the parts of a run that did not fail
-then_ok : {F A B : Type 0} (r : Result A F) (f : A → Script F B) (y : B) → then_run r f ≡ Ok y → (x : A) × (r ≡ Ok x) × (run (f x) ≡ Ok y)
-then_ok (Ok x) f y e = (x, refl, e)
-then_ok (Err e) f y h = absurd cc
-
-pub bind_ok : {F A B : Type 0} (m : Script F A) (f : A → Script F B) (y : B) → run (m >>= f) ≡ Ok y → (x : A) × (run m ≡ Ok x) × (run (f x) ≡ Ok y)
-bind_ok m f y e = then_ok (run m) f y (sym (run_bind m f) ∙ e)
+use Rattle.vet_base.proofs.Runs.{bind_ok, value_is}
+use Rattle.vet_base.proofs.Repeats.{rows_is_repeat}
 
 pub there_ok : {A B : Type 0} (o : Option A) (d : A) (fault : Fault) (f : A → Script Fault B) (y : B) → run (there o d fault >>= f) ≡ Ok y → (x : A) × (o ≡ Some x) × (run (f x) ≡ Ok y)
 there_ok (Some x) d fault f y e = (x, refl, e)
 there_ok None d fault f y e = absurd cc
-
-pub test_ok : {F B : Type 0} (b : Bool) (fault : F) (rest : Script F B) (y : B) → run (Test b fault rest) ≡ Ok y → (b ≡ true) × (run rest ≡ Ok y)
-test_ok true fault rest y e = (refl, e)
-test_ok false fault rest y e = absurd cc
-
--- a run of the first part that did not fail, and of what comes behind it
-pub bind_runs : {F A B : Type 0} (m : Script F A) (x : A) (f : A → Script F B) (r : Result B F) → run m ≡ Ok x → run (f x) ≡ r → run (m >>= f) ≡ r
-bind_runs m x f r first then = rw (run_bind m f, first) then
-
-abbrev ok : {F A : Type 0} → A → Result A F
-ok x = Ok x
-
-pub ok_is : {F A : Type 0} (x y : A) → ok {F = F} x ≡ ok y → x ≡ y
-ok_is x y e = cc
 
 -- Rows of one width that are read one behind the other.
 pub rows_stand : {F X : Type 0} (IsAt : ℕ → X → Type 0) (width : ℕ) (row : ℕ → ℕ → Script F (X × ℕ))
@@ -38,13 +18,13 @@ pub rows_stand : {F X : Type 0} (IsAt : ℕ → X → Type 0) (width : ℕ) (row
     → (n i at : ℕ) (xs : List X) (end : ℕ) → run (rows n i row at) ≡ Ok (xs, end) → (length xs ≡ n) × RowsStand IsAt width at xs
 unfolding rows
 rows_stand {X = X} IsAt width row one zero i at xs end e =
-    subst (λ (ys : List X). (length ys ≡ 0) × RowsStand IsAt width at ys) (ap (λ (p : List X × ℕ). p.0) (ok_is ([], at) (xs, end) e)) (refl, tt)
+    subst (λ (ys : List X). (length ys ≡ 0) × RowsStand IsAt width at ys) (ap (λ (p : List X × ℕ). p.0) (value_is ([], at) (xs, end) e)) (refl, tt)
 rows_stand {X = X} IsAt width row one (suc n) i at xs end e =
     let a = bind_ok (row i at) (λ first. rows n (i + 1) row first.1 >>= λ others. Value (first.0 ∷ others.0, others.1)) (xs, end) e in
     let b = bind_ok (rows n (i + 1) row a.0.1) (λ others. Value (a.0.0 ∷ others.0, others.1)) (xs, end) a.2 in
     let here = one i at a.0.0 a.0.1 a.1 in
     let rest = rows_stand IsAt width row one n (i + 1) a.0.1 b.0.0 b.0.1 b.1 in
-    let xs-is : a.0.0 ∷ b.0.0 ≡ xs = ap (λ (p : List X × ℕ). p.0) (ok_is (a.0.0 ∷ b.0.0, b.0.1) (xs, end) b.2) in
+    let xs-is : a.0.0 ∷ b.0.0 ≡ xs = ap (λ (p : List X × ℕ). p.0) (value_is (a.0.0 ∷ b.0.0, b.0.1) (xs, end) b.2) in
     subst (λ (ys : List X). (length ys ≡ suc n) × RowsStand IsAt width at ys) xs-is (ap (λ (k : ℕ). suc k) rest.0, (here.0, subst (λ (o : ℕ). RowsStand IsAt width o b.0.0) here.1 rest.1))
 
 pub rows_again : {F X : Type 0} (IsAt : ℕ → X → Type 0) (width : ℕ) (row : ℕ → ℕ → Script F (X × ℕ))
@@ -84,7 +64,7 @@ pub follow_read : {F Q X T S : Type 0} (none : T) (plus : T → T → T) (Fits :
     → (n i : ℕ) (q : Q) (t : T) (xs : List X) (s : S) → Fits t → run (rows n i row (state q t)) ≡ Ok (xs, s) → ManyRead none plus Fits IsAt state n q t xs s
 unfolding rows
 follow_read {X = X} {S = S} none plus Fits IsAt state row laws one zero i q t xs s fit e =
-    let same : ([], state q t) ≡ (xs, s) = ok_is ([], state q t) (xs, s) e in
+    let same : ([], state q t) ≡ (xs, s) = value_is ([], state q t) (xs, s) e in
     let none-is : [] ≡ xs = ap (λ (p : List X × S). p.0) same in
     let s-is : state q t ≡ s = ap (λ (p : List X × S). p.1) same in
     subst (λ (ys : List X). ManyRead none plus Fits IsAt state 0 q t ys s) none-is
@@ -95,7 +75,7 @@ follow_read {X = X} {S = S} none plus Fits IsAt state row laws one (suc n) i q t
     let here = one i q t a.0.0 a.0.1 fit a.1 in
     let after : run (rows n (i + 1) row (state here.to (plus t here.adds))) ≡ Ok b.0 = subst (λ (u : S). run (rows n (i + 1) row u) ≡ Ok b.0) here.is b.1 in
     let rest = follow_read none plus Fits IsAt state row laws one n (i + 1) here.to (plus t here.adds) b.0.0 b.0.1 here.fits after in
-    let same : (a.0.0 ∷ b.0.0, b.0.1) ≡ (xs, s) = ok_is (a.0.0 ∷ b.0.0, b.0.1) (xs, s) b.2 in
+    let same : (a.0.0 ∷ b.0.0, b.0.1) ≡ (xs, s) = value_is (a.0.0 ∷ b.0.0, b.0.1) (xs, s) b.2 in
     let xs-is : a.0.0 ∷ b.0.0 ≡ xs = ap (λ (p : List X × S). p.0) same in
     let s-is : b.0.1 ≡ s = ap (λ (p : List X × S). p.1) same in
     let grouped = laws.regroup t here.adds rest.adds in
@@ -123,3 +103,18 @@ follow_again {X = X} {S = S} none plus Fits IsAt state row laws one i q t (x ∷
     let here = one i q t x stand.1 stand.0 stand.3 (laws.smaller (plus t stand.1) stand.2 all) in
     let rest = follow_again none plus Fits IsAt state row laws one (i + 1) stand.0 (plus t stand.1) xs stand.2 to stand.4 all in
     rw (run_bind, here, run_bind, rest) (ap (λ u. Ok (x ∷ xs, state to u)) grouped)
+
+-- The same of rows that do not ask for their numbers.
+pub repeat_read : {F Q X T S : Type 0} (none : T) (plus : T → T → T) (Fits : T → Type 0) (IsAt : Q → X → T → Q → Type 0) (state : Q → T → S) (row : S → Script F (X × S))
+    → Adds none plus Fits
+    → ((q : Q) (t : T) (x : X) (s : S) → Fits t → run (row (state q t)) ≡ Ok (x, s) → OneRead plus Fits IsAt state q t x s)
+    → (n : ℕ) (q : Q) (t : T) (xs : List X) (s : S) → Fits t → run (repeat n row (state q t)) ≡ Ok (xs, s) → ManyRead none plus Fits IsAt state n q t xs s
+repeat_read none plus Fits IsAt state row laws one n q t xs s fit e =
+    follow_read none plus Fits IsAt state (λ _. row) laws (λ _. one) n 0 q t xs s fit (ap run (rows_is_repeat row n 0 (state q t)) ∙ e)
+
+pub repeat_again : {F Q X T S : Type 0} (none : T) (plus : T → T → T) (Fits : T → Type 0) (IsAt : Q → X → T → Q → Type 0) (state : Q → T → S) (row : S → Script F (X × S))
+    → Adds none plus Fits
+    → ((q : Q) (t : T) (x : X) (adds : T) (to : Q) → IsAt q x adds to → Fits (plus t adds) → run (row (state q t)) ≡ Ok (x, state to (plus t adds)))
+    → (q : Q) (t : T) (xs : List X) (adds : T) (to : Q) → Follow none plus IsAt q xs adds to → Fits (plus t adds) → run (repeat (length xs) row (state q t)) ≡ Ok (xs, state to (plus t adds))
+repeat_again none plus Fits IsAt state row laws one q t xs adds to stand fit =
+    ap run (sym (rows_is_repeat row (length xs) 0 (state q t))) ∙ follow_again none plus Fits IsAt state (λ _. row) laws (λ _. one) 0 q t xs adds to stand fit

@@ -1,5 +1,5 @@
 -- Handlers that begin one behind the other, and the search for one by halving.
-use Rattle.std.proofs.Common.{◌≡◌, ℕ, zero, suc, ◌+◌, ◌<◌, ◌≤◌, true, false, List, [], ◌∷◌, ◌⊎◌, inl, inr, ◌++◌, length, get_or, refl, subst, arith, Result, Ok, Err, below_more, length-append}
+use Rattle.std.proofs.Common.{◌≡◌, ℕ, zero, suc, ◌+◌, ◌<◌, ◌≤◌, true, false, List, [], ◌∷◌, inl, inr, ◌++◌, length, get_or, refl, subst, arith, Result, Ok, Err, below_more, length-append}
 use Rattle.std.specs.Prelude.{Some, None, AllPairs, MatchResult, nat_eq}
 use Rattle.std.specs.List.Sorted.{IsBinarySearchResult, IsNonDecreasingBy, IsSearchInRange}
 use Rattle.std.specs.Ordering.{nat_cmp, ordering_index}
@@ -11,6 +11,7 @@ use Rattle.std.proofs.lemmas.Bool.Decides.{nat_tests}
 use Rattle.dex_reader.specs.declared.handlers.Handler.{Handler}
 use Rattle.dex_reader.specs.Handlers.{handler_at}
 use Rattle.dex_reader.specs.Rising.{AreRising}
+use Rattle.std.proofs.lemmas.Bool.{cases_lt}
 
 pub none_rise : (end : ℕ) → AreRising [] end
 none_rise end = record { pairs = λ i j d lt below. absurd (omega arith); below = λ k d lt. absurd (omega arith) }
@@ -56,12 +57,6 @@ none_at (h ∷ hs) at none =
     let t : nat_eq h.at at ≡ false = grind (arith, nat_tests) in
     rw t (none_at hs at (λ k d lt. none (suc k) d (omega arith)))
 
--- below an index or not
-nat_below : (k i : ℕ) → (k < i) ⊎ (i ≤ k)
-nat_below k zero = inr (omega arith)
-nat_below zero (suc i) = inl (omega arith)
-nat_below (suc k) (suc i) = elim (nat_below k i) [ inl h ↦ inl (omega (arith, h)) | inr h ↦ inr (omega (arith, h)) ]
-
 answers_rise : (hs : List Handler) (end at : ℕ) → AreRising hs end → IsNonDecreasingBy (λ (h : Handler). ordering_index (nat_cmp h.at at)) hs
 answers_rise hs end at are i j d le lt =
     let not_before : (get_or hs i d).at ≤ (get_or hs j d).at = elim (eq-or-lt_of_le {n = i} {m = j} le) [
@@ -76,7 +71,7 @@ pub searched : (hs : List Handler) (end at : ℕ) (r : Result ℕ ℕ) → AreRi
 searched hs end at (Ok i) are range is = λ d. found_at hs i at d range are.pairs (equal_is _ _ (is d))
 searched hs end at (Err i) are range is =
     let split = is (answers_rise hs end at are) in
-    none_at hs at (λ k d lt same. elim (nat_below k i) [
+    none_at hs at (λ k d lt same. elim (cases_lt k i) [
       | inl under ↦ less_is_not (get_or hs k d).at at (split.0 k d (omega arith) under) same
       | inr over ↦ greater_is_not (get_or hs k d).at at (split.1 k d over lt) same
     ])

@@ -1,55 +1,49 @@
 -- A DEX file is sound.
-use Rattle.std.proofs.Common.{◌≡◌, ◌⊎◌, inl, inr, ℕ, ℤ, zero, suc, ◌+◌, ◌*◌, ◌^◌, ◌<◌, ◌≤◌, Bool, true, false, List, [], ◌∷◌, length, take, get_or, Option, Some, None, refl, sym, ap, subst, ◌∙◌, arith}
-use Rattle.std.proofs.lemmas.Bool.Decides.{nat_tests, eqb_tells}
+use Rattle.std.proofs.Common.{◌≡◌, inl, inr, ℕ, zero, suc, ◌+◌, ◌*◌, ◌^◌, ◌<◌, ◌≤◌, true, List, [], ◌∷◌, length, take, get_or, Option, Some, None, refl, sym, ap, subst, ◌∙◌, arith}
+use Rattle.std.proofs.lemmas.Bool.Decides.{eqb_tells}
 use Rattle.std.proofs.lemmas.Bool.{le-leb}
 use Rattle.std.proofs.lemmas.List.{length-take}
-use Rattle.std.proofs.lemmas.List.Elements.{All-cons}
+use Rattle.std.proofs.lemmas.List.Elements.{All-cons, All-nil}
 use Rattle.std.proofs.lemmas.List.Sums.{sum_by-cons}
-use Rattle.std.specs.Prelude.{All, sum_by, nat_eq, nat_le}
-use Rattle.vet_base.specs.Numbers.{u2, u4}
+use Rattle.std.specs.Prelude.{All, sum_by, nat_le}
 use Rattle.dex_reader.specs.declared.dex.Body.{Body}
 use Rattle.dex_reader.specs.declared.dex.ClassDef.{ClassDef}
 use Rattle.dex_reader.specs.declared.dex.Dex.{Dex}
-use Rattle.dex_reader.specs.declared.dex.FieldId.{FieldId}
 use Rattle.dex_reader.specs.declared.dex.Member.{Member}
-use Rattle.dex_reader.specs.declared.dex.MethodRow.{MethodRow}
-use Rattle.dex_reader.specs.declared.dex.ProtoId.{ProtoId}
 use Rattle.dex_reader.specs.declared.dex.RawCode.{RawCode}
 use Rattle.dex_reader.specs.declared.dex.RawTry.{RawTry}
 use Rattle.dex_reader.specs.declared.handlers.Handler.{Handler}
 use Rattle.dex_reader.specs.declared.header.Header.{Header}
-use Rattle.dex_reader.specs.declared.header.Section.{Section}
 use Rattle.dex_reader.specs.declared.place.Sizes.{Sizes}
 use Rattle.dex_reader.specs.declared.place.Totals.{Totals}
 use Rattle.dex_reader.specs.declared.tries.TryItem.{TryItem}
 use Rattle.dex_reader.specs.Handlers.{handler_at}
 use Rattle.dex_reader.specs.Tries.{raw_try}
 use Rattle.dex_reader.specs.Whole.{sizes_of}
-use Rattle.dex_reader.specs.Sequences.{Is2, Is4, RowsStand, Follow, AtOffset}
-use Rattle.dex_reader.specs.TablesStand.{TableStands, IsName, IsType, IsTypeList, MaybeTypeList, IsProto, IsField, IsMethod}
-use Rattle.dex_reader.specs.CodeStands.{IsPair, IsHandler, IsTryItem, IsTry, AreTries, pairs_of, HasTries, MaybeTries, IsCode, IsSomeCode, MaybeCode, no_totals}
-use Rattle.dex_reader.specs.ClassesStand.{plus, one_member, Spot, IsMember, IsBody, HasClassData, HasNoMembers, MaybeClassData, IsSuperclass, IsClass, IsClassRow}
-use Rattle.dex_reader.specs.Dex.{IsHeader, HasTables, WithinLimits, IsDex}
+use Rattle.dex_reader.specs.Sequences.{Is2, Is4, RowsStand, Follow}
+use Rattle.dex_reader.specs.TablesStand.{IsType, MaybeTypeList, IsProto, IsField, IsMethod}
+use Rattle.dex_reader.specs.CodeStands.{IsPair, IsHandler, IsTryItem, AreTries, pairs_of, MaybeTries, IsCode, MaybeCode}
+use Rattle.dex_reader.specs.ClassesStand.{one_member, Spot, IsMember, IsBody, MaybeClassData, IsSuperclass, IsClass, IsClassRow}
+use Rattle.dex_reader.specs.Dex.{IsDex}
 use Rattle.dex_reader.specs.Sound.{rows_of, IsSoundProto, IsSoundField, IsSoundMethod, IsSoundTry, IsSoundCode, IsSoundMember, IfCode, IsSoundBody, IfSuperclass, IsSoundClass, code_units, tried, code_tries, body_units, body_tries, class_members, class_units, class_tries, SoundDex}
+use Rattle.dex_reader.specs.Totals.{no_totals, plus}
 use Rattle.dex_reader.proofs.TableReadings.{u4_within, u2_within}
-use Rattle.dex_reader.proofs.CodeReadings.{units_again, as_many, some_is}
-
-none_of : {X : Type 0} (P : X → Type 0) → All P []
-none_of P k d lt = absurd (omega arith)
+use Rattle.dex_reader.proofs.CodeReadings.{units_again, as_many}
+use Rattle.std.proofs.lemmas.Option.{same_Some}
 
 -- what holds of each row that stands
 rows_all : {X : Type 0} (IsAt : ℕ → X → Type 0) (P : X → Type 0) (width : ℕ) → ((at : ℕ) (x : X) → IsAt at x → P x) → (at : ℕ) (xs : List X) → RowsStand IsAt width at xs → All P xs
-rows_all IsAt P width one at [] stand = none_of P
+rows_all IsAt P width one at [] stand = All-nil P
 rows_all IsAt P width one at (x ∷ xs) stand = All-cons P x xs (one at x stand.0) (rows_all IsAt P width one (at + width) xs stand.1)
 
 -- what holds of each item that follows
 follow_all : {Q X T : Type 0} (none : T) (plus : T → T → T) (IsAt : Q → X → T → Q → Type 0) (P : X → Type 0) → ((q : Q) (x : X) (t : T) (to : Q) → IsAt q x t to → P x)
     → (q : Q) (xs : List X) (t : T) (to : Q) → Follow none plus IsAt q xs t to → All P xs
-follow_all none plus IsAt P one q [] t to follow = none_of P
+follow_all none plus IsAt P one q [] t to follow = All-nil P
 follow_all none plus IsAt P one q (x ∷ xs) t to follow = All-cons P x xs (one q x follow.1 follow.0 follow.3) (follow_all none plus IsAt P one follow.0 xs follow.2 to follow.4)
 
 list_sound : (file : List ℕ) (types list : ℕ) (xs : List ℕ) → MaybeTypeList file types list xs → All (λ kind. kind < types) xs
-list_sound file types zero xs is = subst (λ (ys : List ℕ). All (λ kind. kind < types) ys) (sym is) (none_of (λ kind. kind < types))
+list_sound file types zero xs is = subst (λ (ys : List ℕ). All (λ kind. kind < types) ys) (sym is) (All-nil (λ kind. kind < types))
 list_sound file types (suc list) xs is = rows_all (λ at kind. Is2 file at kind × (kind < types)) (λ kind. kind < types) 2 (λ at x both. both.1) (suc list + 4) xs is.stand
 
 -- the handler of a try is one of the list
@@ -65,7 +59,7 @@ handler_sound file types from (x ∷ hs) adds to at h follow e = elim (eqb_tells
 ]
 
 tries_sound : (file : List ℕ) (types from : ℕ) (hs : List Handler) (adds to list : ℕ) (items : List TryItem) (xs : List RawTry) → Follow 0 (λ a b. a + b) (IsHandler file types) from hs adds to → AreTries hs list items xs → All (IsSoundTry types) xs
-tries_sound file types from hs adds to list [] [] follow are = none_of (IsSoundTry types)
+tries_sound file types from hs adds to list [] [] follow are = All-nil (IsSoundTry types)
 tries_sound file types from hs adds to list [] (x ∷ xs) follow are = absurd are
 tries_sound file types from hs adds to list (item ∷ items) [] follow are = absurd are
 tries_sound file types from hs adds to list (item ∷ items) (x ∷ xs) follow are =
@@ -85,7 +79,7 @@ tries_sum hs list (item ∷ items) (x ∷ xs) are =
     omega arith
 
 maybe_tries_sound : (file : List ℕ) (types begin : ℕ) (xs : List RawTry) (adds : ℕ) → MaybeTries file types begin xs adds → All (IsSoundTry types) xs × (sum_by tried xs ≤ adds)
-maybe_tries_sound file types begin [] adds has = (none_of (IsSoundTry types), omega arith)
+maybe_tries_sound file types begin [] adds has = (All-nil (IsSoundTry types), omega arith)
 maybe_tries_sound file types begin (x ∷ xs) adds has =
     let sum : sum_by tried (x ∷ xs) ≡ length has.items + sum_by pairs_of (x ∷ xs) = tries_sum has.handlers (begin + 8 * length has.items) has.items (x ∷ xs) has.are in
     let all : adds ≡ length has.items + has.handled + sum_by pairs_of (x ∷ xs) = has.sum in
@@ -97,7 +91,7 @@ u4_small bytes at x small is =
     let within : at + 4 ≤ length bytes = u4_within bytes at x is in
     let below : nat_le (at + 4) (length bytes) ≡ true = le-leb _ _ within in
     let same = (rw below at is) in
-    let value : get_or bytes at 0 + 256 * get_or bytes (at + 1) 0 + 65536 * get_or bytes (at + 2) 0 + 16777216 * get_or bytes (at + 3) 0 ≡ x = ap (λ (p : ℕ × ℕ). p.0) (some_is _ _ same) in
+    let value : get_or bytes at 0 + 256 * get_or bytes (at + 1) 0 + 65536 * get_or bytes (at + 2) 0 + 16777216 * get_or bytes (at + 3) 0 ≡ x = ap (λ (p : ℕ × ℕ). p.0) (same_Some _ _ same) in
     let a = small at in
     let b = small (at + 1) in
     let c = small (at + 2) in
@@ -240,10 +234,10 @@ record DataSound (sizes : Sizes) (c : ClassDef) : Type 0 where
 
 data_sound : (file : List ℕ) (sizes : Sizes) (at : ℕ) (c : ClassDef) (adds : Totals) → length file < 2 ^ 32 → MaybeClassData file sizes at c adds → DataSound sizes c
 data_sound file sizes zero c adds small has = record {
-  statics = subst (λ (ys : List Member). All (IsSoundMember sizes.fields) ys) (sym has.statics) (none_of (IsSoundMember sizes.fields));
-  instances = subst (λ (ys : List Member). All (IsSoundMember sizes.fields) ys) (sym has.instances) (none_of (IsSoundMember sizes.fields));
-  directs = subst (λ (ys : List Body). All (IsSoundBody sizes) ys) (sym has.directs) (none_of (IsSoundBody sizes));
-  virtuals = subst (λ (ys : List Body). All (IsSoundBody sizes) ys) (sym has.virtuals) (none_of (IsSoundBody sizes));
+  statics = subst (λ (ys : List Member). All (IsSoundMember sizes.fields) ys) (sym has.statics) (All-nil (IsSoundMember sizes.fields));
+  instances = subst (λ (ys : List Member). All (IsSoundMember sizes.fields) ys) (sym has.instances) (All-nil (IsSoundMember sizes.fields));
+  directs = subst (λ (ys : List Body). All (IsSoundBody sizes) ys) (sym has.directs) (All-nil (IsSoundBody sizes));
+  virtuals = subst (λ (ys : List Body). All (IsSoundBody sizes) ys) (sym has.virtuals) (All-nil (IsSoundBody sizes));
 }
 data_sound file sizes (suc at) c adds small has = record {
   statics = follow_all no_totals plus (IsMember file sizes.fields) (IsSoundMember sizes.fields) (λ q x t to is. is.index_below) (has.counts.3, 0) c.statics has.parts.0 has.statics_to has.statics;

@@ -1,6 +1,6 @@
 -- The rows of the id tables that are read stand in their tables, and rows that stand there are read.
 use Rattle.std.proofs.Common.{◌≡◌, ◌≢◌, ℕ, zero, suc, ◌+◌, ◌*◌, ◌<◌, ◌≤◌, true, false, List, [], ◌∷◌, ◌++◌, length, drop, take, get_or, Some, Ok, refl, sym, ap, subst, ◌∙◌, arith, length-append}
-use Rattle.std.proofs.lemmas.Bool.{ltb-true, lt-ltb, leb-true, le-leb, eqb-true}
+use Rattle.std.proofs.lemmas.Bool.{ltb-true, lt-ltb, leb-true, le-leb, eqb-true, ne_eqb}
 use Rattle.std.proofs.lemmas.Bool.Decides.{nat_tests}
 use Rattle.std.proofs.lemmas.List.{length-take, get_or_append_left, get_or_at, get_or-take, get_or_default}
 use Rattle.std.proofs.Math.Seq.{take-append_seam}
@@ -9,7 +9,7 @@ use Rattle.std.proofs.lemmas.List.Sums.{position_or_len_is, sum_by-cons}
 use Rattle.std.specs.Prelude.{nat_lt, nat_le, nat_eq, sum_by, position, ◌==◌, All}
 use Rattle.std.specs.List.{position_or_len}
 use Rattle.vet_base.specs.Numbers.{u2, u4, uleb}
-use Rattle.vet_base.specs.Script.{run, rows}
+use Rattle.vet_base.specs.Script.{run, rows, repeat}
 use Rattle.dex_reader.specs.declared.fault.Table.{Table}
 use Rattle.dex_reader.specs.declared.fault.Table.TheVariants as tables
 use Rattle.dex_reader.specs.declared.dex.ProtoId.{ProtoId}
@@ -23,7 +23,8 @@ use Rattle.dex_reader.specs.TypeLists.{place, entry_row, entries_at, listed_at, 
 use Rattle.dex_reader.specs.Tables.{string_row, strings_at, type_row, types_at, proto_row, protos_at, field_row, fields_at, method_row, methods_at}
 use Rattle.dex_reader.specs.Sequences.{Is2, Is4, RowsStand, Follow}
 use Rattle.dex_reader.specs.TablesStand.{IsText, IsName, IsType, IsTypeList, MaybeTypeList, IsProto, IsField, IsMethod}
-use Rattle.dex_reader.proofs.Readings.{bind_ok, bind_runs, there_ok, test_ok, ok_is, rows_stand, rows_again, follow_read, follow_again, OneRead, Adds}
+use Rattle.dex_reader.proofs.Readings.{there_ok, rows_stand, rows_again, follow_read, follow_again, repeat_read, repeat_again, OneRead, Adds}
+use Rattle.vet_base.proofs.Runs.{bind_ok, test_ok, bind_runs, value_is}
 
 -- a number that is there ends where its bytes do
 pub u4_is : (file : List ℕ) (at : ℕ) (x : ℕ × ℕ) → u4 file at ≡ Some x → Is4 file at x.0 × (x.1 ≡ at + 4)
@@ -52,16 +53,13 @@ type_row_is file sizes table i at x next e =
     let a = there_ok (u4 file at) _ _ _ _ e in
     let b = test_ok _ _ _ _ a.2 in
     let here = u4_is file at a.0 a.1 in
-    subst (λ (p : ℕ × ℕ). IsType file sizes at p.0 × (p.1 ≡ at + 4)) (ok_is _ _ b.1) ((here.0, ltb-true _ _ b.0), here.1)
+    subst (λ (p : ℕ × ℕ). IsType file sizes at p.0 × (p.1 ≡ at + 4)) (value_is _ _ b.1) ((here.0, ltb-true _ _ b.0), here.1)
 
 type_row_again : (file : List ℕ) (sizes : Sizes) (table i at x : ℕ) → IsType file sizes at x → run (type_row file sizes table i at) ≡ Ok (x, at + 4)
 unfolding type_row
 type_row_again file sizes table i at x is =
     let u : u4 file at ≡ Some (x, at + 4) = is.0 in
     rw (u, lt-ltb x sizes.strings is.1) refl
-
-not_eq : (a : ℕ) → (a ≡ 0 → ⊥) → nat_eq a 0 ≡ false
-not_eq a other = grind (arith, nat_tests)
 
 split_at : (bytes : List ℕ) (n : ℕ) → n < length bytes → get_or bytes n 0 ≡ 0 → bytes ≡ take n bytes ++ 0 ∷ drop (suc n) bytes
 split_at [] n lt e = absurd (omega arith)
@@ -82,7 +80,7 @@ position_at text behind whole =
     let len : length (text ++ 0 ∷ behind) ≡ length text + suc (length behind) = length-append text (0 ∷ behind) in
     let at : position_or_len (λ b. b == 0) (text ++ 0 ∷ behind) ≡ length text = position_or_len_is (λ (b : ℕ). b == 0) (text ++ 0 ∷ behind) (length text) 0 (omega arith)
     (λ k under. let here : get_or (text ++ 0 ∷ behind) k 0 ≡ get_or text k 0 = get_or_append_left text (0 ∷ behind) 0 k under in
-    let other : get_or text k 0 ≡ 0 → ⊥ = whole k 0 under in rw here (not_eq (get_or text k 0) other))
+    let other : get_or text k 0 ≡ 0 → ⊥ = whole k 0 under in rw here (ne_eqb (get_or text k 0) 0 other))
     (λ lt. rw (get_or_at text 0 behind 0 (length text) refl) refl) in
     let below : nat_lt (length text) (length (text ++ 0 ∷ behind)) ≡ true = lt-ltb _ _ (omega arith) in
     rw (at, below) refl
@@ -93,7 +91,7 @@ unfolding text_at
 text_is file at text e =
     let a = there_ok (position (λ b. b == 0) (drop at file)) _ _ _ _ e in
     let found = position-Some (λ b. b == 0) (drop at file) a.0 0 a.1 in
-    subst (λ (name : List ℕ). IsText file at name) (ok_is _ _ a.2)
+    subst (λ (name : List ℕ). IsText file at name) (value_is _ _ a.2)
     (record { behind = drop (suc a.0) (drop at file); bytes = split_at (drop at file) a.0 found.0 (eqb-true _ _ found.1); whole = not_zero (drop at file) a.0 found.0 found.2 })
 
 text_again : (file : List ℕ) (at : ℕ) (text : List ℕ) → IsText file at text → run (text_at file at) ≡ Ok text
@@ -106,16 +104,16 @@ text_again file at text is =
 Named : List ℕ → ℕ → List ℕ → ℕ → ℕ → Type 0
 Named file at name adds to = IsName file at name × (adds ≡ length name) × (to ≡ at + 4)
 
-string_row_is : (file : List ℕ) (table i : ℕ) (at t : ℕ) (x : List ℕ) (s : Place) → t ≤ 33554432 → run (string_row file table i (place at t)) ≡ Ok (x, s)
+string_row_is : (file : List ℕ) (table at t : ℕ) (x : List ℕ) (s : Place) → t ≤ 33554432 → run (string_row file table (place at t)) ≡ Ok (x, s)
     → OneRead (λ a b. a + b) (λ a. a ≤ 33554432) (Named file) place at t x s
 unfolding string_row Named
-string_row_is file table i at t x s fit e =
+string_row_is file table at t x s fit e =
     let a = there_ok (u4 file at) _ _ _ _ e in
     let b = there_ok (uleb file a.0.0) _ _ _ _ a.2 in
     let c = bind_ok (text_at file b.0.1) _ _ b.2 in
     let d = test_ok _ _ _ _ c.2 in
     let here = u4_is file at a.0 a.1 in
-    subst (λ (p : List ℕ × Place). OneRead (λ a b. a + b) (λ a. a ≤ 33554432) (Named file) place at t p.0 p.1) (ok_is _ _ d.1)
+    subst (λ (p : List ℕ × Place). OneRead (λ a b. a + b) (λ a. a ≤ 33554432) (Named file) place at t p.0 p.1) (value_is _ _ d.1)
     (record {
       to = a.0.1;
       adds = length c.0;
@@ -124,9 +122,9 @@ string_row_is file table i at t x s fit e =
       fits = leb-true _ _ d.0;
     })
 
-string_row_again : (file : List ℕ) (table i : ℕ) (at t : ℕ) (x : List ℕ) (adds to : ℕ) → Named file at x adds to → t + adds ≤ 33554432 → run (string_row file table i (place at t)) ≡ Ok (x, place to (t + adds))
+string_row_again : (file : List ℕ) (table at t : ℕ) (x : List ℕ) (adds to : ℕ) → Named file at x adds to → t + adds ≤ 33554432 → run (string_row file table (place at t)) ≡ Ok (x, place to (t + adds))
 unfolding string_row Named
-string_row_again file table i at t x adds to is fit =
+string_row_again file table at t x adds to is fit =
     let id : u4 file at ≡ Some (is.0.offset, at + 4) = is.0.id in
     let len : uleb file is.0.offset ≡ Some (is.0.units, is.0.begin) = is.0.length_of in
     let same : adds ≡ length x = is.1 in
@@ -138,22 +136,22 @@ string_row_again file table i at t x adds to is fit =
 Listed : List ℕ → ℕ → ℕ → ℕ → ℕ → ℕ → Type 0
 Listed file types at kind adds to = (Is2 file at kind × (kind < types)) × (adds ≡ 1) × (to ≡ at + 2)
 
-entry_is : (file : List ℕ) (types : ℕ) (table : Table) (row list i at t x : ℕ) (s : Place) → t ≤ 4000000 → run (entry_row file types table row list i (place at t)) ≡ Ok (x, s)
+entry_is : (file : List ℕ) (types : ℕ) (table : Table) (row list at t x : ℕ) (s : Place) → t ≤ 4000000 → run (entry_row file types table row list (place at t)) ≡ Ok (x, s)
     → OneRead (λ a b. a + b) (λ a. a ≤ 4000000) (Listed file types) place at t x s
 unfolding entry_row Listed
-entry_is file types table row list i at t x s fit e =
+entry_is file types table row list at t x s fit e =
     let a = there_ok (u2 file at) _ _ _ _ e in
     let b = test_ok _ _ _ _ a.2 in
     let c = test_ok _ _ _ _ b.1 in
     let here = u2_is file at a.0 a.1 in
     let under : t < 4000000 = ltb-true _ _ c.0 in
-    subst (λ (p : ℕ × Place). OneRead (λ a b. a + b) (λ a. a ≤ 4000000) (Listed file types) place at t p.0 p.1) (ok_is _ _ c.1)
+    subst (λ (p : ℕ × Place). OneRead (λ a b. a + b) (λ a. a ≤ 4000000) (Listed file types) place at t p.0 p.1) (value_is _ _ c.1)
     (record { to = a.0.1; adds = 1; stands = ((here.0, ltb-true _ _ b.0), refl, here.1); is = refl; fits = omega arith })
 
-entry_again : (file : List ℕ) (types : ℕ) (table : Table) (row list i at t x adds to : ℕ) → Listed file types at x adds to → t + adds ≤ 4000000
-    → run (entry_row file types table row list i (place at t)) ≡ Ok (x, place to (t + adds))
+entry_again : (file : List ℕ) (types : ℕ) (table : Table) (row list at t x adds to : ℕ) → Listed file types at x adds to → t + adds ≤ 4000000
+    → run (entry_row file types table row list (place at t)) ≡ Ok (x, place to (t + adds))
 unfolding entry_row Listed
-entry_again file types table row list i at t x adds to is fit =
+entry_again file types table row list at t x adds to is fit =
     let u : u2 file at ≡ Some (x, at + 2) = is.0.0 in
     let one : adds ≡ 1 = is.1 in
     let end : to ≡ at + 2 = is.2 in
@@ -196,8 +194,8 @@ list_is file types table row list t xs u fit e =
     let b = test_ok (nat_le (a.0.1 + 2 * a.0.0) (length file)) _ _ _ a.2 in
     let c = bind_ok (entries_at file types table row list a.0.0 (place a.0.1 t)) _ _ b.1 in
     let here = u4_is file list a.0 a.1 in
-    let read = follow_read 0 (λ a b. a + b) (λ a. a ≤ 4000000) (Listed file types) place (entry_row file types table row list) (number_adds 4000000)
-    (λ i q t x s. entry_is file types table row list i q t x s) a.0.0 0 a.0.1 t c.0.0 c.0.1 fit c.1 in
+    let read = repeat_read 0 (λ a b. a + b) (λ a. a ≤ 4000000) (Listed file types) place (entry_row file types table row list) (number_adds 4000000)
+    (λ q t x s. entry_is file types table row list q t x s) a.0.0 a.0.1 t c.0.0 c.0.1 fit c.1 in
     let rows = rows_from_follow (λ at kind. Is2 file at kind × (kind < types)) (λ _. 1) 2 a.0.1 c.0.0 read.adds read.to read.stand in
     let next : a.0.1 ≡ list + 4 = here.1 in
     let ones : sum_by (λ _. 1) c.0.0 ≡ length c.0.0 = sum_of_ones c.0.0 in
@@ -206,7 +204,7 @@ list_is file types table row list t xs u fit e =
     let size : Is4 file list a.0.0 = here.0 in
     let total : c.0.1.total ≡ t + read.adds = ap (λ (p : Place). p.total) read.is in
     let fits : t + read.adds ≤ 4000000 = read.fits in
-    subst (λ (p : List ℕ × ℕ). IsTypeList file types list p.0 × (p.1 ≡ t + length p.0) × (p.1 ≤ 4000000)) (ok_is _ _ c.2)
+    subst (λ (p : List ℕ × ℕ). IsTypeList file types list p.0 × (p.1 ≡ t + length p.0) × (p.1 ≤ 4000000)) (value_is _ _ c.2)
     (record { size = subst (λ (n : ℕ). Is4 file list n) (sym count) size; stand = subst (λ (o : ℕ). RowsStand (λ at kind. Is2 file at kind × (kind < types)) 2 o c.0.0) next rows.0 }, (total ∙ ap (λ (n : ℕ). t + n) (adds ∙ ones)), omega arith)
 
 rows_within : (file : List ℕ) (types at : ℕ) (xs : List ℕ) → at ≤ length file → RowsStand (λ at kind. Is2 file at kind × (kind < types)) 2 at xs → at + 2 * length xs ≤ length file
@@ -224,8 +222,8 @@ list_again file types table row list t xs is fit =
     let within : list + 4 + 2 * length xs ≤ length file = rows_within file types (list + 4) xs (u4_within file list (length xs) size) is.stand in
     let follow = follow_from_rows (λ at kind. Is2 file at kind × (kind < types)) (λ _. 1) 2 (list + 4) xs is.stand in
     let ones : sum_by (λ _. 1) xs ≡ length xs = sum_of_ones xs in
-    let read = follow_again 0 (λ a b. a + b) (λ a. a ≤ 4000000) (Listed file types) place (entry_row file types table row list) (number_adds 4000000)
-    (λ i q t x adds to. entry_again file types table row list i q t x adds to) 0 (list + 4) t xs (sum_by (λ _. 1) xs) follow.0 follow.1 (rw ones fit) in
+    let read = repeat_again 0 (λ a b. a + b) (λ a. a ≤ 4000000) (Listed file types) place (entry_row file types table row list) (number_adds 4000000)
+    (λ q t x adds to. entry_again file types table row list q t x adds to) (list + 4) t xs (sum_by (λ _. 1) xs) follow.0 follow.1 (rw ones fit) in
     rw (size, le-leb (list + 4 + 2 * length xs) (length file) within)
     (bind_runs (entries_at file types table row list (length xs) (place (list + 4) t)) (xs, place follow.0 (t + sum_by (λ _. 1) xs)) _ _ read (rw ones refl))
 
@@ -237,7 +235,7 @@ pub maybe_list_is : (file : List ℕ) (types : ℕ) (table : Table) (row list t 
     → MaybeTypeList file types list xs × (u ≡ t + length xs) × (u ≤ 4000000)
 unfolding type_list_at
 maybe_list_is file types table row zero t xs u fit e =
-    subst (λ (p : List ℕ × ℕ). MaybeTypeList file types 0 p.0 × (p.1 ≡ t + length p.0) × (p.1 ≤ 4000000)) (ok_is ([], t) (xs, u) e) (refl, omega arith, fit)
+    subst (λ (p : List ℕ × ℕ). MaybeTypeList file types 0 p.0 × (p.1 ≡ t + length p.0) × (p.1 ≤ 4000000)) (value_is ([], t) (xs, u) e) (refl, omega arith, fit)
 maybe_list_is file types table row (suc list) t xs u fit e = list_is file types table row (suc list) t xs u fit (rw (suc_not_zero list) at e)
 
 pub maybe_list_again : (file : List ℕ) (types : ℕ) (table : Table) (row list t : ℕ) (xs : List ℕ) → MaybeTypeList file types list xs → t + length xs ≤ 4000000
@@ -269,7 +267,7 @@ proto_row_is file sizes table i at t x s fit e =
     let params = maybe_list_is file sizes.types tables.ProtoIds i f.0.0 t g.0.0 g.0.1 fit g.1 in
     let total : g.0.1 ≡ t + length g.0.0 = params.1 in
     let fits : g.0.1 ≤ 4000000 = params.2 in
-    subst (λ (p : ProtoId × Place). OneRead (λ a b. a + b) (λ a. a ≤ 4000000) (Prototyped file sizes) place at t p.0 p.1) (ok_is _ _ g.2)
+    subst (λ (p : ProtoId × Place). OneRead (λ a b. a + b) (λ a. a ≤ 4000000) (Prototyped file sizes) place at t p.0 p.1) (value_is _ _ g.2)
     (record {
       to = f.0.1;
       adds = length g.0.0;
@@ -304,7 +302,7 @@ field_row_is file sizes table i at x next e =
     let kind = u2_behind file (at + 2) a.0.1 c.0 c.1 class.1 in
     let name = u4_behind file (at + 4) c.0.1 f.0 f.1 (let k : c.0.1 ≡ at + 2 + 2 = kind.1 in omega arith) in
     let end : f.0.1 ≡ at + 4 + 4 = name.1 in
-    subst (λ (p : FieldId × ℕ). IsField file sizes at p.0 × (p.1 ≡ at + 8)) (ok_is _ _ g.1)
+    subst (λ (p : FieldId × ℕ). IsField file sizes at p.0 × (p.1 ≡ at + 8)) (value_is _ _ g.1)
     (record { class_is = class.0; class_below = ltb-true _ _ b.0; kind_is = kind.0; kind_below = ltb-true _ _ d.0; name_is = name.0; name_below = ltb-true _ _ g.0 }, omega arith)
 
 field_row_again : (file : List ℕ) (sizes : Sizes) (table i at : ℕ) (x : FieldId) → IsField file sizes at x → run (field_row file sizes table i at) ≡ Ok (x, at + 8)
@@ -328,7 +326,7 @@ method_row_is file sizes table i at x next e =
     let proto = u2_behind file (at + 2) a.0.1 c.0 c.1 class.1 in
     let name = u4_behind file (at + 4) c.0.1 f.0 f.1 (let k : c.0.1 ≡ at + 2 + 2 = proto.1 in omega arith) in
     let end : f.0.1 ≡ at + 4 + 4 = name.1 in
-    subst (λ (p : MethodRow × ℕ). IsMethod file sizes at p.0 × (p.1 ≡ at + 8)) (ok_is _ _ g.1)
+    subst (λ (p : MethodRow × ℕ). IsMethod file sizes at p.0 × (p.1 ≡ at + 8)) (value_is _ _ g.1)
     (record { class_is = class.0; class_below = ltb-true _ _ b.0; proto_is = proto.0; proto_below = ltb-true _ _ d.0; name_is = name.0; name_below = ltb-true _ _ g.0 }, omega arith)
 
 method_row_again : (file : List ℕ) (sizes : Sizes) (table i at : ℕ) (x : MethodRow) → IsMethod file sizes at x → run (method_row file sizes table i at) ≡ Ok (x, at + 8)
@@ -348,8 +346,8 @@ pub record StringsRead (file : List ℕ) (table : Section) (xs : List (List ℕ)
 pub strings_are : (file : List ℕ) (table : Section) (xs : List (List ℕ)) (s : Place) → run (strings_at file table) ≡ Ok (xs, s) → StringsRead file table xs
 unfolding strings_at Named
 strings_are file table xs s e =
-    let read = follow_read 0 (λ a b. a + b) (λ a. a ≤ 33554432) (λ at name adds to. IsName file at name × (adds ≡ length name) × (to ≡ at + 4)) place (string_row file table.at) (number_adds 33554432)
-    (λ i q t x s. string_row_is file table.at i q t x s) table.size 0 table.at 0 xs s (omega arith) e in
+    let read = repeat_read 0 (λ a b. a + b) (λ a. a ≤ 33554432) (λ at name adds to. IsName file at name × (adds ≡ length name) × (to ≡ at + 4)) place (string_row file table.at) (number_adds 33554432)
+    (λ q t x s. string_row_is file table.at q t x s) table.size table.at 0 xs s (omega arith) e in
     let rows = rows_from_follow (IsName file) (λ (n : List ℕ). length n) 4 table.at xs read.adds read.to read.stand in
     let fits : 0 + read.adds ≤ 33554432 = read.fits in
     let adds : read.adds ≡ sum_by length xs = rows.1 in
@@ -361,9 +359,9 @@ strings_again file table xs is =
     let follow = follow_from_rows (IsName file) (λ (n : List ℕ). length n) 4 table.at xs is.stand in
     let limit : sum_by length xs ≤ 33554432 = is.limit in
     let fits : 0 + sum_by length xs ≤ 33554432 = omega arith in
-    let read = follow_again 0 (λ a b. a + b) (λ a. a ≤ 33554432) (λ at name adds to. IsName file at name × (adds ≡ length name) × (to ≡ at + 4)) place (string_row file table.at) (number_adds 33554432)
-    (λ i q t x adds to. string_row_again file table.at i q t x adds to) 0 table.at 0 xs (sum_by length xs) follow.0 follow.1 fits in
-    (place follow.0 (0 + sum_by length xs), subst (λ (n : ℕ). run (rows n 0 (string_row file table.at) (place table.at 0)) ≡ Ok (xs, place follow.0 (0 + sum_by length xs))) is.count read)
+    let read = repeat_again 0 (λ a b. a + b) (λ a. a ≤ 33554432) (λ at name adds to. IsName file at name × (adds ≡ length name) × (to ≡ at + 4)) place (string_row file table.at) (number_adds 33554432)
+    (λ q t x adds to. string_row_again file table.at q t x adds to) table.at 0 xs (sum_by length xs) follow.0 follow.1 fits in
+    (place follow.0 (0 + sum_by length xs), subst (λ (n : ℕ). run (repeat n (string_row file table.at) (place table.at 0)) ≡ Ok (xs, place follow.0 (0 + sum_by length xs))) is.count read)
 
 pub record ProtosRead (file : List ℕ) (sizes : Sizes) (table : Section) (xs : List ProtoId) (u : ℕ) : Type 0 where
   pub count : length xs ≡ table.size

@@ -1,22 +1,14 @@
 -- The laws of a loop that takes the items of a list out of it.
-use Rattle.std.proofs.Common.{◌≡◌, List, [], ◌∷◌, ◌++◌, length, arith, Result, Ok, Err, append_assoc, refl, sym, ap, ◌∙◌}
+use Rattle.std.proofs.Common.{◌≡◌, List, [], ◌∷◌, ◌++◌, length, arith, Result, Ok, Err, refl, sym, ap, ◌∙◌}
 use Rattle.std.proofs.lemmas.List.{append-nil}
 use Rattle.vet_base.specs.declared.stop.Stop.{Stop}
 use Rattle.vet_base.specs.declared.stop.Stop.TheVariants as stops
-use Rattle.vet_base.specs.Script.{Script, Value, run, then_run, walk, Fails}
-use Rattle.vet_base.proofs.Scripts.{run_bind, with_front}
+use Rattle.vet_base.specs.Script.{Script, run, walk, Fails}
+use Rattle.vet_base.proofs.Scripts.{run_bind, with_front, with_none, regroup}
 
 -- these were read, and with what is still read from the rest they make the whole
 pub record WalksRest {F S X Y : Type 0} (rest : List X) (row : X → S → Script F (Y × S)) (front : List Y) (s : S) (whole : Result (List Y × S) F) : Type 0 where
   pub is : with_front front (run (walk row rest s)) ≡ whole
-
-with_none : {F S Y : Type 0} (r : Result (List Y × S) F) → with_front [] r ≡ r
-with_none (Ok r) = refl
-with_none (Err e) = refl
-
-regroup : {F S Y : Type 0} (front : List Y) (y : Y) (r : Result (List Y × S) F) → with_front front (then_run r (λ others. Value (y ∷ others.0, others.1))) ≡ with_front (front ++ y ∷ []) r
-regroup front y (Ok r) = ap (λ (ys : List _). Ok (ys, r.1)) (simp append_assoc)
-regroup front y (Err e) = refl
 
 pub rest_begins : {F S X Y : Type 0} (items : List X) (row : X → S → Script F (Y × S)) (s : S) → WalksRest items row [] s (run (walk row items s))
 rest_begins items row s = record { is = with_none (run (walk row items s)) }

@@ -1,6 +1,6 @@
 -- Class data (Android documentation, "Dalvik executable format", class_data_item, encoded_field and encoded_method).
 use Rattle.std.specs.Prelude.{ℕ, ◌+◌, ◌==◌, List, [], Option, nat_lt, if◌then◌else◌}
-use Rattle.vet_base.specs.Script.{Script, Value, ◌>>=◌, test, rows, walk}
+use Rattle.vet_base.specs.Script.{Script, Value, ◌>>=◌, test, repeat, walk}
 use Rattle.dex_reader.specs.declared.fault.Fault.{Fault}
 use Rattle.dex_reader.specs.declared.fault.Fault.TheVariants.{TooMany}
 use Rattle.dex_reader.specs.declared.fault.Limit.TheVariants as limits
@@ -17,6 +17,7 @@ use Rattle.dex_reader.specs.declared.place.Sizes.{Sizes}
 use Rattle.dex_reader.specs.declared.place.Totals.{Totals}
 use Rattle.dex_reader.specs.Parts.{uleb_at, index_test}
 use Rattle.dex_reader.specs.Code.{maybe_code_at}
+use Rattle.dex_reader.specs.Totals.{no_totals}
 
 -- where the next member stands, the sum of the index differences before it, and the running totals
 abbrev pub walk_at : ℕ → ℕ → Totals → Walk
@@ -41,8 +42,8 @@ abbrev pub member_of : ℕ → ℕ → Member
 member_of index flags = record { index = index; flags = flags }
 
 -- a field of the class in this row of class_defs: the difference of its index to the one before, and its flags
-unfoldable pub member_row : List ℕ → ℕ → ℕ → ℕ → Walk → Script Fault (Member × Walk)
-member_row file fields class i s = do
+unfoldable pub member_row : List ℕ → ℕ → ℕ → Walk → Script Fault (Member × Walk)
+member_row file fields class s = do
   difference ← uleb_at file s.at
   index ← sum_below s.index difference.0 fields class
   flags ← uleb_at file difference.1
@@ -51,14 +52,14 @@ member_row file fields class i s = do
 
 -- one list of fields: its differences begin at 0
 unfoldable pub members_at : List ℕ → ℕ → ℕ → ℕ → ℕ → Totals → Script Fault (List Member × Walk)
-members_at file fields class count at totals = rows count 0 (member_row file fields class) (walk_at at 0 totals)
+members_at file fields class count at totals = repeat count (member_row file fields class) (walk_at at 0 totals)
 
 abbrev pub body_of : ℕ → ℕ → Option RawCode → Body
 body_of index flags code = record { index = index; flags = flags; code = code }
 
 -- a method: the difference of its index, its flags, and the offset of its code item
-unfoldable pub body_row : List ℕ → Sizes → ℕ → ℕ → Walk → Script Fault (Body × Walk)
-body_row file sizes class i s = do
+unfoldable pub body_row : List ℕ → Sizes → ℕ → Walk → Script Fault (Body × Walk)
+body_row file sizes class s = do
   difference ← uleb_at file s.at
   index ← sum_below s.index difference.0 sizes.methods class
   flags ← uleb_at file difference.1
@@ -68,7 +69,7 @@ body_row file sizes class i s = do
   Value (body_of index flags.0 code.0, walk_at offset.1 index code.1)
 
 unfoldable pub bodies_at : List ℕ → Sizes → ℕ → ℕ → ℕ → Totals → Script Fault (List Body × Walk)
-bodies_at file sizes class count at totals = rows count 0 (body_row file sizes class) (walk_at at 0 totals)
+bodies_at file sizes class count at totals = repeat count (body_row file sizes class) (walk_at at 0 totals)
 
 -- the lengths of the four lists, and where the first list begins
 unfoldable pub counts_at : List ℕ → ℕ → Script Fault Counts
@@ -103,9 +104,6 @@ unfoldable pub class_of : List ℕ → Sizes → ClassRow → Totals → Script 
 class_of file sizes row totals = do
   lists ← class_data_at file sizes row.row row.class_data totals
   Value (class_def_of row lists.0, lists.1)
-
-abbrev pub no_totals : Totals
-no_totals = record { members = 0; units = 0; tries = 0 }
 
 unfoldable pub classes_at : List ℕ → Sizes → List ClassRow → Script Fault (List ClassDef × Totals)
 classes_at file sizes class_rows = walk (class_of file sizes) class_rows no_totals

@@ -8,10 +8,8 @@ use Rattle.dex_reader.specs.declared.place.Sizes.{Sizes}
 use Rattle.dex_reader.specs.declared.place.Totals.{Totals}
 use Rattle.dex_reader.specs.Sequences.{Is4, IsLeb, Follow, AtOffset}
 use Rattle.dex_reader.specs.TablesStand.{MaybeTypeList}
-use Rattle.dex_reader.specs.CodeStands.{MaybeCode, no_totals}
-
-abbrev pub plus : Totals → Totals → Totals
-plus a b = record { members = a.members + b.members; units = a.units + b.units; tries = a.tries + b.tries }
+use Rattle.dex_reader.specs.CodeStands.{MaybeCode}
+use Rattle.dex_reader.specs.Totals.{no_totals, plus}
 
 abbrev pub one_member : Totals
 one_member = record { members = 1; units = 0; tries = 0 }

@@ -10,6 +10,7 @@ use Rattle.dex_reader.specs.declared.place.Totals.{Totals}
 use Rattle.dex_reader.specs.Sequences.{Is2, Is4, IsLeb, RowsStand, Follow, AtOffset}
 use Rattle.dex_reader.specs.Handlers.{pair_count, catches_all, handler_at}
 use Rattle.dex_reader.specs.Tries.{raw_try}
+use Rattle.dex_reader.specs.Totals.{no_totals}
 
 -- a type and an address, which add one to the total
 pub record IsPair (file : List ℕ) (types from : ℕ) (pair : ℕ × ℕ) (adds to : ℕ) : Type 0 where
@@ -92,9 +93,6 @@ pub record IsCode (file : List ℕ) (types at : ℕ) (code : RawCode) (adds : To
   pub units : RowsStand (Is2 file) 2 (at + 16) code.units
   pub tries : MaybeTries file types (padded (at + 16) (length code.units)) code.tries tried
   pub adds_is : adds ≡ record { members = 0; units = length code.units; tries = tried }
-
-abbrev pub no_totals : Totals
-no_totals = record { members = 0; units = 0; tries = 0 }
 
 pub record IsSomeCode (file : List ℕ) (types at : ℕ) (code : Option RawCode) (adds : Totals) : Type 0 where
   pub item : RawCode

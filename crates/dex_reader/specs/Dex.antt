@@ -13,8 +13,8 @@ use Rattle.dex_reader.specs.Headers.{magic}
 use Rattle.dex_reader.specs.Whole.{sizes_of, FirstDexFault}
 use Rattle.dex_reader.specs.Sequences.{Is4, Follow}
 use Rattle.dex_reader.specs.TablesStand.{TableStands, IsName, IsType, IsProto, IsField, IsMethod}
-use Rattle.dex_reader.specs.CodeStands.{no_totals}
-use Rattle.dex_reader.specs.ClassesStand.{plus, IsClassRow}
+use Rattle.dex_reader.specs.ClassesStand.{IsClassRow}
+use Rattle.dex_reader.specs.Totals.{no_totals, plus}
 
 -- the size and the offset of a table
 abbrev pub IsSection : List ℕ → ℕ → Section → Type 0
@@ -75,3 +75,6 @@ pub record ExactlyOne (bytes : List ℕ) : Type 0 where
   pub one_dex : (dex other : Dex) → IsDex bytes dex → IsDex bytes other → dex ≡ other
   pub one_fault : (fault other : Fault) → FirstDexFault bytes fault → FirstDexFault bytes other → fault ≡ other
   pub not_both : (dex : Dex) (fault : Fault) → IsDex bytes dex → FirstDexFault bytes fault → ⊥
+
+abbrev pub OneDexOrFault : Type 0
+OneDexOrFault = (bytes : List ℕ) → ExactlyOne bytes

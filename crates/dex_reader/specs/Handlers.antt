@@ -1,7 +1,7 @@
 -- The handlers of a code item (Android documentation, "Dalvik executable format", encoded_catch_handler_list,
 -- encoded_catch_handler and encoded_type_addr_pair).
 use Rattle.std.specs.Prelude.{ℕ, ℤ, pos, negsuc, suc, ◌+◌, ◌==◌, List, [], ◌∷◌, Option, Some, None, nat_lt, Bool, true, if◌then◌else◌}
-use Rattle.vet_base.specs.Script.{Script, Value, ◌>>=◌, test, rows}
+use Rattle.vet_base.specs.Script.{Script, Value, ◌>>=◌, test, repeat}
 use Rattle.dex_reader.specs.declared.fault.Fault.{Fault}
 use Rattle.dex_reader.specs.declared.fault.Fault.TheVariants.{TooMany}
 use Rattle.dex_reader.specs.declared.fault.Limit.TheVariants as limits
@@ -13,8 +13,8 @@ use Rattle.dex_reader.specs.Parts.{uleb_at, sleb_at, index_test}
 use Rattle.dex_reader.specs.TypeLists.{place}
 
 -- a type and the address of the unit to which it is handed
-unfoldable pub pair_row : List ℕ → ℕ → ℕ → ℕ → Place → Script Fault ((ℕ × ℕ) × Place)
-pair_row file types code i s = do
+unfoldable pub pair_row : List ℕ → ℕ → ℕ → Place → Script Fault ((ℕ × ℕ) × Place)
+pair_row file types code s = do
   kind ← uleb_at file s.at
   _ ← index_test kind.0 types tables.Handlers code
   address ← uleb_at file kind.1
@@ -22,7 +22,7 @@ pair_row file types code i s = do
   Value ((kind.0, address.0), place address.1 (s.total + 1))
 
 unfoldable pub pairs_at : List ℕ → ℕ → ℕ → ℕ → Place → Script Fault (List (ℕ × ℕ) × Place)
-pairs_at file types code count s = rows count 0 (pair_row file types code) s
+pairs_at file types code count s = repeat count (pair_row file types code) s
 
 -- how many pairs a handler has, and whether an address for all other types stands behind them
 unfoldable pub pair_count : ℤ → ℕ
@@ -49,8 +49,8 @@ catch_all_at file catches at = if catches then (do
 abbrev pub handler_of : ℕ → List (ℕ × ℕ) → Option ℕ → Handler
 handler_of at pairs catch_all = record { at = at; pairs = pairs; catch_all = catch_all }
 
-unfoldable pub handler_row : List ℕ → ℕ → ℕ → ℕ → Place → Script Fault (Handler × Place)
-handler_row file types code i s = do
+unfoldable pub handler_row : List ℕ → ℕ → ℕ → Place → Script Fault (Handler × Place)
+handler_row file types code s = do
   size ← handler_size_at file s.at
   pairs ← pairs_at file types code size.pairs (place size.at s.total)
   catch_all ← catch_all_at file size.catches_all pairs.1.at
@@ -58,7 +58,7 @@ handler_row file types code i s = do
   Value (handler_of s.at pairs.0 catch_all.0, place catch_all.1 (pairs.1.total + 1))
 
 unfoldable pub handler_rows_at : List ℕ → ℕ → ℕ → ℕ → Place → Script Fault (List Handler × Place)
-handler_rows_at file types code count s = rows count 0 (handler_row file types code) s
+handler_rows_at file types code count s = repeat count (handler_row file types code) s
 
 -- the handler that begins at this offset
 unfoldable pub handler_at : ℕ → List Handler → Option Handler

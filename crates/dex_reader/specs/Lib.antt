@@ -13,6 +13,7 @@ pub mod Sound
 pub mod Tables
 pub mod TablesStand
 pub mod Told
+pub mod Totals
 pub mod Tries
 pub mod TypeLists
 pub mod Whole

@@ -1,7 +1,7 @@
 -- The id tables and their rows (Android documentation, "Dalvik executable format", string_id_item, string_data_item,
 -- type_id_item, proto_id_item, field_id_item and method_id_item).
 use Rattle.std.specs.Prelude.{ℕ, ◌+◌, List, length, nat_le}
-use Rattle.vet_base.specs.Script.{Script, Value, ◌>>=◌, test, rows}
+use Rattle.vet_base.specs.Script.{Script, Value, ◌>>=◌, test, rows, repeat}
 use Rattle.dex_reader.specs.declared.fault.Fault.{Fault}
 use Rattle.dex_reader.specs.declared.fault.Fault.TheVariants.{TooMany}
 use Rattle.dex_reader.specs.declared.fault.Limit.TheVariants.{Names}
@@ -16,8 +16,8 @@ use Rattle.dex_reader.specs.Parts.{u2_at, u4_at, uleb_at, text_at, index_test}
 use Rattle.dex_reader.specs.TypeLists.{place, type_list_at}
 
 -- A string id: the offset of a length, which is not looked at, of bytes and of a 0.
-unfoldable pub string_row : List ℕ → ℕ → ℕ → Place → Script Fault (List ℕ × Place)
-string_row file table row s = do
+unfoldable pub string_row : List ℕ → ℕ → Place → Script Fault (List ℕ × Place)
+string_row file table s = do
   offset ← u4_at file s.at table
   length_of ← uleb_at file offset.0
   name ← text_at file length_of.1
@@ -25,7 +25,7 @@ string_row file table row s = do
   Value (name, place offset.1 (s.total + length name))
 
 unfoldable pub strings_at : List ℕ → Section → Script Fault (List (List ℕ) × Place)
-strings_at file table = rows table.size 0 (string_row file table.at) (place table.at 0)
+strings_at file table = repeat table.size (string_row file table.at) (place table.at 0)
 
 -- A type id: the index of a string.
 unfoldable pub type_row : List ℕ → Sizes → ℕ → ℕ → ℕ → Script Fault (ℕ × ℕ)

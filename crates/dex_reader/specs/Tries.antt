@@ -1,6 +1,6 @@
 -- The try items of a code item (Android documentation, "Dalvik executable format", code_item and try_item).
 use Rattle.std.specs.Prelude.{ℕ, ◌+◌, ◌*◌, ◌%◌, ◌==◌, List, [], length, None, nat_lt, nat_le, if◌then◌else◌}
-use Rattle.vet_base.specs.Script.{Script, Value, ◌>>=◌, test, rows, walk}
+use Rattle.vet_base.specs.Script.{Script, Value, ◌>>=◌, test, repeat, walk}
 use Rattle.dex_reader.specs.declared.fault.Fault.{Fault}
 use Rattle.dex_reader.specs.declared.fault.Fault.TheVariants.{Outside, Index, TooMany}
 use Rattle.dex_reader.specs.declared.fault.Limit.TheVariants as limits
@@ -22,8 +22,8 @@ unfoldable pub tries_begin : CodeHead → ℕ
 tries_begin head = head.at + 2 * head.units + padding_of head
 
 -- A try item: its first unit, how many units, and where its handler begins, from the list's begin on.
-unfoldable pub try_row : List ℕ → ℕ → ℕ → Place → Script Fault (TryItem × Place)
-try_row file code i s = do
+unfoldable pub try_row : List ℕ → ℕ → Place → Script Fault (TryItem × Place)
+try_row file code s = do
   start ← u4_at file s.at code
   count ← u2_at file start.1 code
   handler ← u2_at file count.1 code
@@ -31,7 +31,7 @@ try_row file code i s = do
   Value (record { start = start.0; count = count.0; handler = handler.0 }, place handler.1 (s.total + 1))
 
 unfoldable pub try_rows_at : List ℕ → ℕ → ℕ → Place → Script Fault (List TryItem × Place)
-try_rows_at file code count s = rows count 0 (try_row file code) s
+try_rows_at file code count s = repeat count (try_row file code) s
 
 abbrev pub raw_try : TryItem → Handler → RawTry
 raw_try item handler = record { start = item.start; count = item.count; handlers = handler.pairs; catch_all = handler.catch_all }

@@ -66,15 +66,9 @@ fn one_more_of(totals: Totals) -> Result<Totals, ReadError>
 }
 
 #[tactic(auto, unfolding(crate::specs::ClassData::member_row), using(vet_base::proofs::Scripts::run_bind))]
-fn member_of(
-    file: &[u8],
-    fields: u32,
-    class: u32,
-    _i: u32,
-    walk: Walk,
-) -> Result<(Member, Walk), ReadError>
+fn member_of(file: &[u8], fields: u32, class: u32, walk: Walk) -> Result<(Member, Walk), ReadError>
     requires { length file.now < 2 ^ 32 }
-    ensures { Gives (λ x. x) result (member_row file.now fields class _i walk) }
+    ensures { Gives (λ x. x) result (member_row file.now fields class walk) }
 {
     let (difference, at) = uleb_of(file, walk.at)?;
     let index = index_of(walk.index, difference, fields, class)?;
@@ -83,7 +77,7 @@ fn member_of(
     Ok((Member { index, flags }, Walk { at, index, totals }))
 }
 
-#[tactic(auto, unfolding(crate::specs::ClassData::members_at), using(vet_base::proofs::Scripts::begins, vet_base::proofs::Scripts::goes_on, vet_base::proofs::Scripts::ends, vet_base::proofs::Scripts::is_done))]
+#[tactic(auto, unfolding(crate::specs::ClassData::members_at), using(vet_base::proofs::Repeats::repeat_begins, vet_base::proofs::Repeats::repeat_goes_on, vet_base::proofs::Repeats::repeat_fails, vet_base::proofs::Repeats::repeat_is_done))]
 fn members_of(
     alloc: Global,
     file: &[u8],
@@ -102,8 +96,8 @@ fn members_of(
         index: 0,
         totals,
     };
-    for i in 0..count {
-        let (member, next) = member_of(file, fields, class, i, walk)?;
+    for _ in 0..count {
+        let (member, next) = member_of(file, fields, class, walk)?;
         members.push(member)?;
         walk = next;
     }
@@ -116,11 +110,10 @@ fn body_of(
     file: &[u8],
     sizes: Sizes,
     class: u32,
-    _i: u32,
     walk: Walk,
 ) -> Result<(Body, Walk), ReadError>
     requires { length file.now < 2 ^ 32 }
-    ensures { Gives (λ x. x) result (body_row file.now sizes class _i walk) }
+    ensures { Gives (λ x. x) result (body_row file.now sizes class walk) }
 {
     let (difference, at) = uleb_of(file, walk.at)?;
     let index = index_of(walk.index, difference, sizes.methods, class)?;
@@ -131,7 +124,7 @@ fn body_of(
     Ok((Body { index, flags, code }, Walk { at, index, totals }))
 }
 
-#[tactic(auto, unfolding(crate::specs::ClassData::bodies_at), using(vet_base::proofs::Scripts::begins, vet_base::proofs::Scripts::goes_on, vet_base::proofs::Scripts::ends, vet_base::proofs::Scripts::is_done))]
+#[tactic(auto, unfolding(crate::specs::ClassData::bodies_at), using(vet_base::proofs::Repeats::repeat_begins, vet_base::proofs::Repeats::repeat_goes_on, vet_base::proofs::Repeats::repeat_fails, vet_base::proofs::Repeats::repeat_is_done))]
 fn bodies_of(
     alloc: Global,
     file: &[u8],
@@ -150,8 +143,8 @@ fn bodies_of(
         index: 0,
         totals,
     };
-    for i in 0..count {
-        let (body, next) = body_of(alloc, file, sizes, class, i, walk)?;
+    for _ in 0..count {
+        let (body, next) = body_of(alloc, file, sizes, class, walk)?;
         bodies.push(body)?;
         walk = next;
     }

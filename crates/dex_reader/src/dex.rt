@@ -1,4 +1,4 @@
-use vet_base::{Name, Seq};
+use vet_base::{Name, Seq, Shared};
 
 /// What stands in a DEX file: its five id tables and its classes, each in the file's order.
 ///
@@ -73,7 +73,7 @@ pub struct RawCode {
     pub ins: u16,
     pub outs: u16,
     pub units: Seq<u16>,
-    pub tries: Seq<RawTry>,
+    pub tries: Shared<RawTry>,
 }
 
 /// A try item with the handler that it names: `count` units from `start` on, pairs of type and address of a unit, and
@@ -82,6 +82,6 @@ pub struct RawCode {
 pub struct RawTry {
     pub start: u32,
     pub count: u16,
-    pub handlers: Seq<(u32, u32)>,
+    pub handlers: Shared<(u32, u32)>,
     pub catch_all: Option<u32>,
 }

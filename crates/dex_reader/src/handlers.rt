@@ -7,7 +7,7 @@ use crate::fault::{Fault, Limit, ReadError, Table};
 use crate::parts::{sleb_of, test_index, uleb_of};
 use crate::place::Place;
 use std::alloc::Global;
-use vet_base::{Seq, Stop};
+use vet_base::{Shared, Stop};
 
 /// How many try items, handlers and pairs a file may have.
 pub const TRIES: u32 = 1_000_000;
@@ -16,7 +16,7 @@ pub const TRIES: u32 = 1_000_000;
 #[derive(Drop)]
 pub struct Handler {
     pub at: u32,
-    pub pairs: Seq<(u32, u32)>,
+    pub pairs: Shared<(u32, u32)>,
     pub catch_all: Option<u32>,
 }
 
@@ -25,11 +25,10 @@ fn pair_of(
     file: &[u8],
     types: u32,
     code: u32,
-    _i: u32,
     place: Place,
 ) -> Result<((u32, u32), Place), ReadError>
     requires { length file.now < 2 ^ 32 }
-    ensures value { Gives (λ x. x) result (pair_row file.now types code _i place) }
+    ensures value { Gives (λ x. x) result (pair_row file.now types code place) }
     ensures forward { IfOk result (λ x. place.at ≤ x.1.at) }
 {
     let (kind, at) = uleb_of(file, place.at)?;
@@ -42,7 +41,7 @@ fn pair_of(
     Ok(((kind, address), Place { at, total }))
 }
 
-#[tactic(auto, unfolding(crate::specs::Handlers::pairs_at), using(vet_base::proofs::Scripts::begins, vet_base::proofs::Scripts::goes_on, vet_base::proofs::Scripts::ends, vet_base::proofs::Scripts::is_done))]
+#[tactic(auto, unfolding(crate::specs::Handlers::pairs_at), using(vet_base::proofs::Repeats::repeat_begins, vet_base::proofs::Repeats::repeat_goes_on, vet_base::proofs::Repeats::repeat_fails, vet_base::proofs::Repeats::repeat_is_done))]
 fn pairs_of(
     alloc: Global,
     file: &[u8],
@@ -50,19 +49,20 @@ fn pairs_of(
     code: u32,
     count: u32,
     begin: Place,
-) -> Result<(Seq<(u32, u32)>, Place), ReadError>
+) -> Result<(Shared<(u32, u32)>, Place), ReadError>
     requires { length file.now < 2 ^ 32 }
     ensures value { Gives (λ x. x) result (pairs_at file.now types code count begin) }
     ensures forward { IfOk result (λ x. begin.at ≤ x.1.at) }
 {
     let mut pairs = Vec::new(alloc);
     let mut place = begin;
-    for i in 0..count {
-        let (pair, next) = pair_of(file, types, code, i, place)?;
+    for _ in 0..count {
+        let (pair, next) = pair_of(file, types, code, place)?;
         pairs.push(pair)?;
         place = next;
     }
-    Ok((Seq::from_vec(pairs), place))
+    let pairs = Shared::from_vec(alloc, pairs)?;
+    Ok((pairs, place))
 }
 
 /// The size of a handler as it is written says how many pairs it has, and whether an address for all types follows.
@@ -120,11 +120,10 @@ fn handler_of(
     file: &[u8],
     types: u32,
     code: u32,
-    _i: u32,
     place: Place,
 ) -> Result<(Handler, Place), ReadError>
     requires { length file.now < 2 ^ 32 }
-    ensures value { Gives (λ x. x) result (handler_row file.now types code _i place) }
+    ensures value { Gives (λ x. x) result (handler_row file.now types code place) }
     ensures begin { IfOk result (λ x. x.0.at ≡ place.at) }
     ensures forward { IfOk result (λ x. place.at < x.1.at) }
 {
@@ -148,7 +147,7 @@ fn handler_of(
 }
 
 /// So many handlers one behind the other, by rising offsets.
-#[tactic(auto, unfolding(crate::specs::Handlers::handler_rows_at), using(vet_base::proofs::Scripts::begins, vet_base::proofs::Scripts::goes_on, vet_base::proofs::Scripts::ends, vet_base::proofs::Scripts::is_done, crate::proofs::RisingHandlers::none_rise, crate::proofs::RisingHandlers::rising_push))]
+#[tactic(auto, unfolding(crate::specs::Handlers::handler_rows_at), using(vet_base::proofs::Repeats::repeat_begins, vet_base::proofs::Repeats::repeat_goes_on, vet_base::proofs::Repeats::repeat_fails, vet_base::proofs::Repeats::repeat_is_done, crate::proofs::RisingHandlers::none_rise, crate::proofs::RisingHandlers::rising_push))]
 pub fn handlers_of(
     alloc: Global,
     file: &[u8],
@@ -163,8 +162,8 @@ pub fn handlers_of(
 {
     let mut handlers = Vec::new(alloc);
     let mut place = begin;
-    for i in 0..count {
-        let (handler, next) = handler_of(alloc, file, types, code, i, place)?;
+    for _ in 0..count {
+        let (handler, next) = handler_of(alloc, file, types, code, place)?;
         handlers.push(handler)?;
         place = next;
     }

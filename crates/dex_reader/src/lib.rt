@@ -10,6 +10,7 @@ mod fault;
 mod handlers;
 mod header;
 mod ids;
+mod law;
 mod parts;
 mod place;
 mod read;
@@ -21,5 +22,6 @@ mod type_lists;
 
 pub use dex::{Body, ClassDef, Dex, FieldId, Member, MethodRow, ProtoId, RawCode, RawTry};
 pub use fault::{Fault, Field, Limit, ReadError, Table};
+pub use law::one_dex_or_fault;
 pub use read::read_dex;
 pub use told::DexFault;

@@ -87,7 +87,7 @@ pub fn text_of(alloc: Global, file: &[u8], at: u32) -> Result<Name, ReadError>
     }
     let rest = &file[start..];
     match end_of(rest) {
-        Some(len) => Ok(Name::new(rest[..len].to_vec(alloc)?)),
+        Some(len) => Ok(Name::from_bytes(alloc, &rest[..len])?),
         None => Err(Stop::Fault(Fault::Text(at))),
     }
 }

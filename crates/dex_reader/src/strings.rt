@@ -16,11 +16,10 @@ fn string_of(
     alloc: Global,
     file: &[u8],
     table: u32,
-    _row: u32,
     place: Place,
 ) -> Result<(Name, Place), ReadError>
     requires { length file.now < 2 ^ 32 }
-    ensures { Gives (λ x. x) result (string_row file.now table _row place) }
+    ensures { Gives (λ x. x) result (string_row file.now table place) }
 {
     let (offset, at) = u4_of(file, place.at, table)?;
     let (_, begin) = uleb_of(file, offset)?;
@@ -34,7 +33,7 @@ fn string_of(
 }
 
 /// The names of a table that lies within the file.
-#[tactic(auto, unfolding(crate::specs::Tables::strings_at), using(vet_base::proofs::Scripts::begins, vet_base::proofs::Scripts::goes_on, vet_base::proofs::Scripts::ends, vet_base::proofs::Scripts::is_done))]
+#[tactic(auto, unfolding(crate::specs::Tables::strings_at), using(vet_base::proofs::Repeats::repeat_begins, vet_base::proofs::Repeats::repeat_goes_on, vet_base::proofs::Repeats::repeat_fails, vet_base::proofs::Repeats::repeat_is_done))]
 pub fn strings_of(
     alloc: Global,
     file: &[u8],
@@ -48,8 +47,8 @@ pub fn strings_of(
         at: table.at,
         total: 0,
     };
-    for row in 0..table.size {
-        let (name, next) = string_of(alloc, file, table.at, row, place)?;
+    for _ in 0..table.size {
+        let (name, next) = string_of(alloc, file, table.at, place)?;
         names.push(name)?;
         place = next;
     }

@@ -11,7 +11,7 @@ use crate::handlers::{Handler, TRIES, handlers_of};
 use crate::parts::{u2_of, u4_of, uleb_of};
 use crate::place::Place;
 use std::alloc::Global;
-use vet_base::{Seq, Stop};
+use vet_base::{Shared, Stop};
 
 /// The numbers at the head of a code item, and where its units begin.
 #[derive(Clone, Copy)]
@@ -33,9 +33,9 @@ pub struct TryItem {
 }
 
 #[tactic(auto, unfolding(crate::specs::Tries::try_row), using(vet_base::proofs::Scripts::run_bind))]
-fn try_item_of(file: &[u8], code: u32, _i: u32, place: Place) -> Result<(TryItem, Place), ReadError>
+fn try_item_of(file: &[u8], code: u32, place: Place) -> Result<(TryItem, Place), ReadError>
     requires { length file.now < 2 ^ 32 }
-    ensures { Gives (λ x. x) result (try_row file.now code _i place) }
+    ensures { Gives (λ x. x) result (try_row file.now code place) }
 {
     let (start, at) = u4_of(file, place.at, code)?;
     let (count, at) = u2_of(file, at, code)?;
@@ -52,7 +52,7 @@ fn try_item_of(file: &[u8], code: u32, _i: u32, place: Place) -> Result<(TryItem
     Ok((item, Place { at, total }))
 }
 
-#[tactic(auto, unfolding(crate::specs::Tries::try_rows_at), using(vet_base::proofs::Scripts::begins, vet_base::proofs::Scripts::goes_on, vet_base::proofs::Scripts::ends, vet_base::proofs::Scripts::is_done))]
+#[tactic(auto, unfolding(crate::specs::Tries::try_rows_at), using(vet_base::proofs::Repeats::repeat_begins, vet_base::proofs::Repeats::repeat_goes_on, vet_base::proofs::Repeats::repeat_fails, vet_base::proofs::Repeats::repeat_is_done))]
 fn try_items_of(
     alloc: Global,
     file: &[u8],
@@ -65,8 +65,8 @@ fn try_items_of(
 {
     let mut items = Vec::new(alloc);
     let mut place = begin;
-    for i in 0..count {
-        let (item, next) = try_item_of(file, code, i, place)?;
+    for _ in 0..count {
+        let (item, next) = try_item_of(file, code, place)?;
         items.push(item)?;
         place = next;
     }
@@ -86,7 +86,6 @@ fn handler_in(handlers: &[Handler], end: u32, at: u64) -> Option<&Handler>
 
 #[tactic(auto, unfolding(crate::specs::Tries::try_of), using(vet_base::proofs::Scripts::run_bind))]
 fn raw_try_of(
-    alloc: Global,
     handlers: &[Handler],
     end: u32,
     list: u32,
@@ -109,13 +108,13 @@ fn raw_try_of(
     let found = RawTry {
         start: item.start,
         count: item.count,
-        handlers: Seq::from_vec(pairs.to_vec(alloc)?),
+        handlers: handler.pairs.copy()?,
         catch_all: handler.catch_all,
     };
     Ok((found, total as u32))
 }
 
-#[tactic(auto, unfolding(crate::specs::Tries::joined_at), using(vet_base::proofs::Scripts::walk_begins, crate::proofs::WalkItems::item_goes_on, crate::proofs::WalkItems::item_fails, vet_base::proofs::Scripts::walk_is_done))]
+#[tactic(auto, unfolding(crate::specs::Tries::joined_at), using(vet_base::proofs::Scripts::walk_begins, vet_base::proofs::Scripts::walk_goes_on_at, vet_base::proofs::Scripts::walk_fails_at, vet_base::proofs::Scripts::walk_is_done))]
 fn joined_of(
     alloc: Global,
     handlers: &[Handler],
@@ -124,18 +123,19 @@ fn joined_of(
     code: u32,
     items: &[TryItem],
     begin: u32,
-) -> Result<(Seq<RawTry>, u32), ReadError>
+) -> Result<(Shared<RawTry>, u32), ReadError>
     requires { AreRising handlers.now end }
     ensures { Gives (λ x. x) result (joined_at handlers.now list code items.now begin) }
 {
     let mut tries = Vec::with_capacity(alloc, items.len())?;
     let mut total = begin;
     for item in items {
-        let (found, sum) = raw_try_of(alloc, handlers, end, list, code, item, total)?;
+        let (found, sum) = raw_try_of(handlers, end, list, code, item, total)?;
         tries.push(found)?;
         total = sum;
     }
-    Ok((Seq::from_vec(tries), total))
+    let tries = Shared::from_vec(alloc, tries)?;
+    Ok((tries, total))
 }
 
 #[tactic(auto, unfolding(crate::specs::Tries::padding_of, crate::specs::Tries::tries_begin))]
@@ -154,7 +154,7 @@ fn some_tries_of(
     code: u32,
     head: CodeHead,
     total: u32,
-) -> Result<(Seq<RawTry>, u32), ReadError>
+) -> Result<(Shared<RawTry>, u32), ReadError>
     requires { length file.now < 2 ^ 32 }
     ensures { Gives (λ x. x) result (some_tries_at file.now types code head total) }
 {
@@ -185,12 +185,12 @@ pub fn tries_of(
     code: u32,
     head: CodeHead,
     total: u32,
-) -> Result<(Seq<RawTry>, u32), ReadError>
+) -> Result<(Shared<RawTry>, u32), ReadError>
     requires { length file.now < 2 ^ 32 }
     ensures { Gives (λ x. x) result (tries_at file.now types code head total) }
 {
     if head.tries == 0 {
-        return Ok((Seq::new(alloc), total));
+        return Ok((Shared::new(), total));
     }
     some_tries_of(alloc, file, types, code, head, total)
 }

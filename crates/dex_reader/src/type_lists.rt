@@ -23,11 +23,10 @@ fn entry_of(
     types: u32,
     owner: Owner,
     list: u32,
-    _i: u32,
     place: Place,
 ) -> Result<(u32, Place), ReadError>
     requires { length file.now < 2 ^ 32 }
-    ensures { Gives (λ x. x) result (entry_row file.now types owner.table owner.row list _i place) }
+    ensures { Gives (λ x. x) result (entry_row file.now types owner.table owner.row list place) }
 {
     let (index, at) = u2_of(file, place.at, list)?;
     test_index(u32::from(index), types, owner.table, owner.row)?;
@@ -38,7 +37,7 @@ fn entry_of(
     Ok((u32::from(index), Place { at, total }))
 }
 
-#[tactic(auto, unfolding(crate::specs::TypeLists::entries_at), using(vet_base::proofs::Scripts::begins, vet_base::proofs::Scripts::goes_on, vet_base::proofs::Scripts::ends, vet_base::proofs::Scripts::is_done))]
+#[tactic(auto, unfolding(crate::specs::TypeLists::entries_at), using(vet_base::proofs::Repeats::repeat_begins, vet_base::proofs::Repeats::repeat_goes_on, vet_base::proofs::Repeats::repeat_fails, vet_base::proofs::Repeats::repeat_is_done))]
 fn entries_of(
     alloc: Global,
     file: &[u8],
@@ -53,8 +52,8 @@ fn entries_of(
 {
     let mut entries = Vec::with_capacity(alloc, size as usize)?;
     let mut place = begin;
-    for i in 0..size {
-        let (index, next) = entry_of(file, types, owner, list, i, place)?;
+    for _ in 0..size {
+        let (index, next) = entry_of(file, types, owner, list, place)?;
         entries.push(index)?;
         place = next;
     }

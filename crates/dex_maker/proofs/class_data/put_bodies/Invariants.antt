@@ -1,10 +1,10 @@
 use Rattle.std.proofs.Common.{◌≡◌, ◌+◌, ◌++◌, take, drop, length}
-use Rattle.dex_maker.specs.ClassData.{bodies_bytes, code_piece}
-use Rattle.dex_maker.specs.Placed.{pieces}
+use Rattle.std.specs.List.{flat_map}
+use Rattle.dex_maker.specs.ClassData.{bodies_bytes, body_code}
 use Rattle.dex_maker.proofs.class_data.put_bodies.Given as goal
 
 abbrev pub invariant-loop-body : goal.invariant-loop-body
 invariant-loop-body l = record {
-  data_so_far : l.data.items ≡ l.fn.data.items ++ pieces code_piece (l.base + length l.fn.data.items) (take l.body-index l.bodies);
+  data_so_far : l.data.items ≡ l.fn.data.items ++ flat_map body_code (take l.body-index l.bodies);
   rows_to_come : l.rows.items ++ bodies_bytes l.before (l.base + length l.data.items) (drop l.body-index l.bodies) ≡ l.fn.rows.items ++ bodies_bytes 0 (l.base + length l.fn.data.items) l.bodies;
 }

@@ -1,5 +1,5 @@
-use Rattle.vet_base.proofs.Scripts.{is_done}
+use Rattle.vet_base.proofs.Repeats.{repeat_is_done}
 use Rattle.dex_reader.proofs.strings.strings_of.Goals as goal
 
 pub returns : goal.returns
-returns c = rw c.from_vec.ensures (is_done _ _ _ _ _ _ c.loop-row-test.false c.loop-row.invariant)
+returns c = rw c.from_vec.ensures (repeat_is_done _ _ _ _ _ _ c.loop-test.false c.loop.invariant)
