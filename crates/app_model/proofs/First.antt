@@ -6,7 +6,6 @@ use Rattle.std.proofs.lemmas.List.{drop_all}
 use Rattle.vet_base.specs.Members.{first_given, first_index}
 use Rattle.vet_base.proofs.Options.{map_itself}
 use Rattle.vet_base.proofs.Lists.{drop_read}
-use Rattle.vet_base.proofs.Firsts.{given-flat_map}
 
 -- the elements before i fail the test
 pub record NoneBefore {A : Type 0} (test : A → Bool) (xs : List A) (i : ℕ) : Type 0 where
@@ -75,6 +74,3 @@ given_at f xs i x y within is gives nothing = nothing.rest ∙ (ap (λ ys. first
 
 pub nothing_at_all : {A B : Type 0} (f : A → Option B) (xs : List A) (i : ℕ) → length xs ≤ i → NothingBefore f xs i → first_given f xs ≡ None
 nothing_at_all f xs i past nothing = nothing.rest ∙ ap (λ ys. first_given f ys) (drop_all i xs past)
-
--- what several lists one after the other give
-pub ruleset given_of_each = (given-flat_map)

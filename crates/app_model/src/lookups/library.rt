@@ -72,7 +72,7 @@ pub fn summary_of(lists: &Lists, key: SummaryId) -> Option<SummaryView<'_>>
 }
 
 /// The first that is found on the walk of the class.
-#[tactic(auto, unfolding(app_machine::specs::Summaries::row_walk, app_machine::specs::Summaries::library_classes, crate::specs::LibraryWalk::found_above), using(crate::proofs::First::given_of_each))]
+#[tactic(auto, unfolding(app_machine::specs::Summaries::row_walk, app_machine::specs::Summaries::library_classes, crate::specs::LibraryWalk::found_above), using(vet_base::proofs::Firsts::given_of_each))]
 fn on_walk(app: &App, lists: &Lists, class: &Name, wanted: Wanted) -> Option<u32>
     requires sound { SoundApp app.now }
     requires lists { SoundLists lists.now }
