@@ -2,6 +2,7 @@
 use Rattle.std.proofs.Common.{◌≡◌, ℕ, ◌+◌, ◌<◌, List, [], ◌∷◌, ◌++◌, length, take, get_or, refl, sym, ap, ◌∙◌, append_assoc, length-append, arith}
 use Rattle.std.specs.List.{flat_map}
 use Rattle.std.proofs.lemmas.List.{append-nil, take_more}
+use Rattle.std.proofs.lemmas.List.Concat.{flat_map-append}
 use Rattle.dex_maker.specs.Bytes.{u4_bytes}
 use Rattle.dex_maker.specs.Placed.{offsets_of, rows_of, pieces, placed_rows}
 
@@ -10,8 +11,7 @@ put_behind : (old so_far one now new : List ℕ) → now ≡ old ++ so_far → n
 put_behind old so_far one now new before grown = rw (grown, before) (append_assoc old so_far one)
 
 flat_map-push : {X : Type 0} (piece : X → List ℕ) (xs : List X) (x : X) → flat_map piece (xs ++ x ∷ []) ≡ flat_map piece xs ++ piece x
-flat_map-push piece [] x = append-nil (piece x)
-flat_map-push piece (y ∷ xs) x = ap (λ bytes. piece y ++ bytes) (flat_map-push piece xs x) ∙ sym (append_assoc (piece y) (flat_map piece xs) (piece x))
+flat_map-push piece xs x = flat_map-append piece xs (x ∷ []) ∙ ap (λ bytes. flat_map piece xs ++ bytes) (append-nil (piece x))
 
 -- Pieces that say nothing of where they stand, and rows that know it.
 module _ {X : Type 0} (piece : X → List ℕ) where
