@@ -1,31 +1,25 @@
 -- Class data stands where it was written.
 use Rattle.std.proofs.Common.{◌≡◌, ℕ, ◌+◌, ◌-◌, ◌<◌, ◌≤◌, List, [], ◌∷◌, ◌++◌, length, refl, length-append, append_assoc, arith}
 use Rattle.std.specs.Prelude.{sum_by}
+use Rattle.std.specs.List.{flat_map}
 use Rattle.std.proofs.lemmas.List.Sums.{sum_by-cons}
 use Rattle.dex_reader.specs.declared.dex.Body.{Body}
 use Rattle.dex_reader.specs.declared.dex.ClassDef.{ClassDef}
 use Rattle.dex_reader.specs.declared.dex.Member.{Member}
 use Rattle.dex_reader.specs.declared.place.Sizes.{Sizes}
-use Rattle.dex_reader.specs.declared.place.Totals.{Totals}
 use Rattle.dex_reader.specs.Sequences.{Follow}
-use Rattle.dex_reader.specs.CodeStands.{no_totals}
-use Rattle.dex_reader.specs.ClassesStand.{plus, one_member, IsMember, IsBody, HasClassData, MaybeClassData}
+use Rattle.dex_reader.specs.ClassesStand.{one_member, IsMember, IsBody, HasClassData, MaybeClassData}
 use Rattle.dex_reader.specs.Sound.{body_units, class_members, class_units}
-use Rattle.dex_reader.proofs.CodeReadings.{same_totals}
+use Rattle.dex_reader.specs.Totals.{no_totals, plus}
 use Rattle.dex_maker.specs.Bytes.{uleb_bytes, type_list, padding_of}
-use Rattle.dex_maker.specs.Placed.{pieces, offset_of}
-use Rattle.dex_maker.specs.ClassData.{members_bytes, body_code, code_piece, bodies_bytes, virtuals_at, class_code, class_item, class_data, code_and_data, code_begin, data_begin, class_bytes}
-use Rattle.dex_round_trip.proofs.TableLaws.{Stands}
-use Rattle.dex_round_trip.specs.Costs.{body_cost}
-use Rattle.dex_round_trip.proofs.Fits.{MembersRise, BodiesRise, DataFits, bodies_total, class_total}
-use Rattle.dex_round_trip.proofs.Standing.{stands_front, stands_back, stands_as, stands_moved, stands_three, uleb_reads}
-use Rattle.dex_round_trip.proofs.Texts.{offset_small}
-use Rattle.dex_round_trip.proofs.CodeReads.{code_total, maybe_code_stands, at_some}
+use Rattle.dex_maker.specs.Placed.{offset_of}
+use Rattle.dex_maker.specs.ClassData.{members_bytes, body_code, bodies_bytes, virtuals_at, class_code, class_item, class_data, code_and_data, code_begin, data_begin, class_bytes}
+use Rattle.dex_round_trip.proofs.Fits.{MembersRise, BodiesRise, DataFits, code_total, members_total, bodies_total, class_total}
+use Rattle.dex_round_trip.proofs.Standing.{Stands, stands_front, stands_back, stands_as, stands_moved, stands_three, uleb_reads}
+use Rattle.dex_round_trip.proofs.Texts.{offset_small, at_some}
+use Rattle.dex_round_trip.proofs.CodeReads.{maybe_code_stands}
 
 -- ---- fields
-
-members_total : List Member → Totals
-members_total ms = record { members = length ms; units = 0; tries = 0 }
 
 last_index : ℕ → List Member → ℕ
 last_index before [] = before
@@ -33,7 +27,7 @@ last_index before (m ∷ ms) = last_index m.index ms
 
 members_follow : (file : List ℕ) (fields at before : ℕ) (ms : List Member) → fields ≤ 65536 → Stands file at (members_bytes before ms) → MembersRise fields before ms
     → Follow no_totals plus (IsMember file fields) (at, before) ms (members_total ms) (at + length (members_bytes before ms), last_index before ms)
-unfolding members_bytes members_total last_index
+unfolding members_bytes last_index
 members_follow file fields at before [] few stand fit = (let e : at ≡ at + 0 = omega arith in rw (← e) refl, refl)
 members_follow file fields at before (m ∷ ms) few stand fit =
     let d = uleb_bytes (m.index - before) in
@@ -56,7 +50,7 @@ members_follow file fields at before (m ∷ ms) few stand fit =
         one = refl;
       },
       rw end (members_follow file fields (at + length d + length f) m.index ms few parts.third fit.3),
-      same_totals _ _ (omega arith) refl refl,
+      refl,
     )
 
 -- ---- methods
@@ -65,11 +59,8 @@ last_body : ℕ → List Body → ℕ
 last_body before [] = before
 last_body before (b ∷ bs) = last_body b.index bs
 
-bodies_more : (b : Body) (bs : List Body) → bodies_total (b ∷ bs) ≡ plus (plus one_member (code_total b.code)) (bodies_total bs)
-bodies_more b bs = same_totals _ _ (omega arith) (omega (arith, sum_by-cons body_units b bs)) (omega (arith, sum_by-cons body_cost b bs))
-
 bodies_follow : (file : List ℕ) (sizes : Sizes) (rows_at before at : ℕ) (bs : List Body) → sizes.types ≤ 65536 → sizes.methods ≤ 65536 → 0 < at
-    → Stands file rows_at (bodies_bytes before at bs) → Stands file at (pieces code_piece at bs) → at + length (pieces code_piece at bs) < 4294967296
+    → Stands file rows_at (bodies_bytes before at bs) → Stands file at (flat_map body_code bs) → at + length (flat_map body_code bs) < 4294967296
     → BodiesRise sizes before bs → sum_by body_units bs ≤ 8388608
     → Follow no_totals plus (IsBody file sizes) (rows_at, before) bs (bodies_total bs) (rows_at + length (bodies_bytes before at bs), last_body before bs)
 unfolding bodies_bytes last_body
@@ -82,7 +73,7 @@ bodies_follow file sizes rows_at before at (b ∷ bs) few_types few some rows_st
     let o = uleb_bytes place in
     let next = at + length code in
     let rest = bodies_bytes b.index next bs in
-    let later = pieces code_piece next bs in
+    let later = flat_map body_code bs in
     let front = stands_front file rows_at (d ++ f ++ o) rest rows_stand in
     let parts = stands_three file rows_at d f o front in
     let sizes-of : at + length (code ++ later) ≡ next + length later = omega (arith, length-append code later) in
@@ -115,7 +106,7 @@ bodies_follow file sizes rows_at before at (b ∷ bs) few_types few some rows_st
       rw end (bodies_follow file sizes (rows_at + length d + length f + length o) b.index next bs few_types few later-some
           (stands_moved file (rows_at + length (d ++ f ++ o)) (rows_at + length d + length f + length o) rest moved (stands_back file rows_at (d ++ f ++ o) rest rows_stand))
           (stands_back file at code later codes_stand) later-small fit.4 (omega arith)),
-      bodies_more b bs,
+      refl,
     )
 
 -- ---- the four lists
@@ -125,21 +116,17 @@ item_parts : (class : ClassDef) (directs virtuals : List ℕ) → class_item cla
 unfolding class_item
 item_parts class directs virtuals = simp append_assoc
 
-total_is : (class : ClassDef) → class_total class ≡ plus (plus (plus (members_total class.statics) (members_total class.instances)) (bodies_total class.directs)) (bodies_total class.virtuals)
-unfolding members_total
-total_is class = same_totals _ _ refl (omega arith) (omega arith)
-
 data_stands : (file : List ℕ) (sizes : Sizes) (at code : ℕ) (class : ClassDef) → sizes.types ≤ 65536 → sizes.fields ≤ 65536 → sizes.methods ≤ 65536 → 0 < code
-    → Stands file at (class_data code class) → Stands file code (class_code code class) → code + length (class_code code class) < 4294967296
+    → Stands file at (class_data code class) → Stands file code (class_code class) → code + length (class_code class) < 4294967296
     → DataFits sizes class → class_members class ≤ 400000 → class_units class ≤ 8388608
     → HasClassData file sizes at class (class_total class)
 unfolding class_data class_code virtuals_at
 data_stands file sizes at code class few_types few_fields few_methods some stand codes small fit members units =
     let ds = bodies_bytes 0 code class.directs in
-    let dcodes = pieces code_piece code class.directs in
+    let dcodes = flat_map body_code class.directs in
     let vat = code + length dcodes in
     let vs = bodies_bytes 0 vat class.virtuals in
-    let vcodes = pieces code_piece vat class.virtuals in
+    let vcodes = flat_map body_code class.virtuals in
     let n1 = uleb_bytes (length class.statics) in
     let n2 = uleb_bytes (length class.instances) in
     let n3 = uleb_bytes (length class.directs) in
@@ -185,7 +172,7 @@ data_stands file sizes at code class few_types few_fields few_methods some stand
       instances = members_follow file sizes.fields a5 0 class.instances few_fields (stands_front file a5 is (ds ++ vs) s5) fit.instances;
       directs = bodies_follow file sizes a6 0 code class.directs few_types few_methods some (stands_front file a6 ds vs s6) (stands_front file code dcodes vcodes codes) small-d fit.directs units-d;
       virtuals = bodies_follow file sizes a7 0 vat class.virtuals few_types few_methods some-v (stands_back file a6 ds vs s6) (stands_back file code dcodes vcodes codes) small-v fit.virtuals units-v;
-      sum = total_is class;
+      sum = refl;
     }
 
 -- the class data of a class that stands at an offset
@@ -196,7 +183,7 @@ unfolding class_bytes code_and_data code_begin data_begin
 class_stands file sizes at class few_types few_fields few_methods some stand small fit members units =
     let list = type_list class.interfaces in
     let code = at + length list in
-    let cc = class_code code class in
+    let cc = class_code class in
     let cd = class_data code class in
     let pad = padding_of (length cd) in
     let parts = stands_three file code cc cd pad (stands_back file at list (cc ++ cd ++ pad) stand) in

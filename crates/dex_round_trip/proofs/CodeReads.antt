@@ -4,19 +4,17 @@ use Rattle.std.specs.Prelude.{IfSome, sum_by}
 use Rattle.std.specs.List.{AllByRecursion, flat_map}
 use Rattle.dex_reader.specs.declared.dex.RawCode.{RawCode}
 use Rattle.dex_reader.specs.declared.dex.RawTry.{RawTry}
-use Rattle.dex_reader.specs.declared.place.Totals.{Totals}
-use Rattle.dex_reader.specs.Sequences.{Is2, Is4, RowsStand, AtOffset}
+use Rattle.dex_reader.specs.Sequences.{Is2, Is4, RowsStand}
 use Rattle.dex_reader.specs.CodeStands.{MaybeTries, padded, IsCode, MaybeCode}
 use Rattle.dex_reader.specs.Sound.{code_units}
 use Rattle.dex_maker.specs.Bytes.{u2_bytes, u4_bytes, padding_of}
 use Rattle.dex_maker.specs.Placed.{offset_of}
 use Rattle.dex_maker.specs.CodeItem.{before_tries, try_items, handlers_bytes, tries_bytes, code_head, code_item, code_bytes}
 use Rattle.dex_maker.specs.ClassData.{maybe_code}
-use Rattle.dex_round_trip.proofs.TableLaws.{Stands}
-use Rattle.dex_round_trip.specs.Costs.{code_cost, try_cost}
-use Rattle.dex_round_trip.proofs.Fits.{TryFits, CodeFits}
-use Rattle.dex_round_trip.proofs.Standing.{stands_front, stands_back, stands_as, stands_moved, stands_three, u2_reads, u4_reads}
-use Rattle.dex_round_trip.proofs.Texts.{eqb_above, offset_some}
+use Rattle.dex_round_trip.specs.Costs.{try_cost}
+use Rattle.dex_round_trip.proofs.Fits.{TryFits, CodeFits, code_total}
+use Rattle.dex_round_trip.proofs.Standing.{Stands, stands_front, stands_back, stands_as, stands_moved, stands_three, u2_reads, u4_reads}
+use Rattle.dex_round_trip.proofs.Texts.{eqb_above, offset_some, at_some}
 use Rattle.dex_round_trip.proofs.TryReads.{tries_stand}
 
 pub units_stand : (file : List ℕ) (at : ℕ) (units : List ℕ) → Stands file at (flat_map u2_bytes units) → AllByRecursion (λ u. u < 65536) units → RowsStand (Is2 file) 2 at units
@@ -87,10 +85,6 @@ pub length_u2s : (xs : List ℕ) → length (flat_map u2_bytes xs) ≡ 2 * lengt
 length_u2s [] = omega arith
 length_u2s (x ∷ xs) = let rest = length_u2s xs in omega arith
 
--- what the code of a method adds to the totals
-abbrev pub code_total : Option RawCode → Totals
-code_total code = record { members = 0; units = code_units code; tries = code_cost code }
-
 pub code_stands : (file : List ℕ) (types at : ℕ) (code : RawCode) → types ≤ 65536 → Stands file at (code_bytes code) → CodeFits types code → length code.units < 4294967296
     → IsCode file types at code (code_total (Some code))
 unfolding code_bytes code_item
@@ -120,10 +114,6 @@ code_some code =
     let u = flat_map u2_bytes code.units in
     let t = tries_bytes (length code.units) code.tries in
     omega (arith, length-append (code_head code ++ u ++ t) (padding_of (length (code_item code))), length-append (code_head code ++ u) t, length-append (code_head code) u, head_length code)
-
-pub at_some : (at : ℕ) (nothing something : Type 0) → 0 < at → something → AtOffset at nothing something
-at_some zero nothing something lt s = absurd (omega arith)
-at_some (suc at) nothing something lt s = s
 
 pub maybe_code_stands : (file : List ℕ) (types at : ℕ) (code : Option RawCode) → types ≤ 65536 → 0 < at → Stands file at (maybe_code code) → IfSome code (CodeFits types) → code_units code < 4294967296
     → MaybeCode file types (offset_of at (maybe_code code)) code (code_total code)

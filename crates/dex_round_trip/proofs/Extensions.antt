@@ -1,10 +1,10 @@
 -- Tables that are extended keep their rows, and what the rows say.
-use Rattle.std.proofs.Common.{◌≡◌, ℕ, zero, suc, ◌+◌, true, false, cond, List, [], ◌∷◌, ◌++◌, length, map, Option, Some, None, refl, sym, ap, subst, ◌∙◌, inl, inr, append_assoc, arith}
+use Rattle.std.proofs.Common.{◌≡◌, ℕ, suc, ◌+◌, true, false, cond, List, [], ◌∷◌, ◌++◌, map, Option, Some, None, refl, sym, ap, subst, ◌∙◌, inl, inr, append_assoc, arith}
 use Rattle.std.specs.Prelude.{is_some, unwrap_or, slice_get}
 use Rattle.std.specs.Option.{option_map}
 use Rattle.std.specs.List.{AllByRecursion}
 use Rattle.std.specs.declared.cmp.Ordering.{Ordering}
-use Rattle.std.specs.declared.cmp.Ordering.TheVariants.{Less, Equal, Greater}
+use Rattle.std.specs.declared.cmp.Ordering.TheVariants.{Equal}
 use Rattle.std.specs.Ordering.{is_eq, nat_cmp}
 use Rattle.std.proofs.lemmas.List.{append-nil}
 use Rattle.std.proofs.lemmas.Map.Lookups.{exact_unsigned, exact_bytes}
@@ -12,7 +12,9 @@ use Rattle.std.proofs.lemmas.Cmp.{nat_cmp_total, nat_list_cmp_total, tied_itself
 use Rattle.dex_maker.specs.declared.tables.Tables.{Tables}
 use Rattle.dex_maker.specs.Rows.{place, with_row}
 use Rattle.dex_maker.specs.Tables.{list_cmp, string_index, type_index, shorty, proto_row, proto_index}
-use Rattle.dex_maker.proofs.Places.{went}
+use Rattle.std.proofs.lemmas.Bool.{cases_Bool}
+use Rattle.vet_base.proofs.Lists.{slice_get-append}
+use Rattle.vet_base.proofs.Orders.{is_equal}
 
 -- ---- lists that are extended
 
@@ -26,17 +28,8 @@ prefix_same xs = record { rest = []; is = sym (append-nil xs) }
 pub prefix_more : {X : Type 0} (xs ys zs : List X) → Prefix xs ys → Prefix ys zs → Prefix xs zs
 prefix_more {X = X} xs ys zs p q = record { rest = p.rest ++ q.rest; is = q.is ∙ ap (λ (l : List X). l ++ q.rest) p.is ∙ append_assoc xs p.rest q.rest }
 
-get_append : {X : Type 0} (xs rest : List X) (i : ℕ) (x : X) → slice_get xs i ≡ Some x → slice_get (xs ++ rest) i ≡ Some x
-get_append [] rest i x e = absurd cc
-get_append (y ∷ ys) rest zero x e = e
-get_append (y ∷ ys) rest (suc i) x e = get_append ys rest i x e
-
 pub get_prefix : {X : Type 0} (xs ys : List X) (i : ℕ) (x : X) → Prefix xs ys → slice_get xs i ≡ Some x → slice_get ys i ≡ Some x
-get_prefix xs ys i x p e = rw p.is (get_append xs p.rest i x e)
-
-pub get_end : {X : Type 0} (xs : List X) (x : X) → slice_get (xs ++ x ∷ []) (length xs) ≡ Some x
-get_end [] x = refl
-get_end (y ∷ ys) x = get_end ys x
+get_prefix xs ys i x p e = rw p.is (slice_get-append xs p.rest i x e)
 
 -- ---- places
 
@@ -57,11 +50,6 @@ nat_tells = record { same = exact_unsigned; itself = nat_itself }
 pub list_tells : Tells list_cmp
 list_tells = record { same = exact_bytes; itself = list_itself }
 
-equal_of : (o : Ordering) → is_eq o ≡ true → o ≡ Equal
-equal_of Equal e = refl
-equal_of Less e = absurd cc
-equal_of Greater e = absurd cc
-
 -- a row is there, at that place
 pub record Placed {K : Type 0} (cmp : K → K → Ordering) (rows : List K) (row : K) : Type 0 where
   pub at : ℕ
@@ -74,11 +62,11 @@ next_some (Some m) n e = (m, refl, cc)
 place_get : {K : Type 0} (cmp : K → K → Ordering) → Tells cmp → (rows : List K) (row : K) (n : ℕ) → place cmp rows row ≡ Some n → slice_get rows n ≡ Some row
 place_get cmp tells [] row n e = absurd cc
 place_get cmp tells (x ∷ xs) row n e =
-    elim (went (is_eq (cmp row x))) [
+    elim (cases_Bool (is_eq (cmp row x))) [
       | inl same ↦
           let here : Some 0 ≡ Some n = (rw same at e) in
           let zero-is : n ≡ 0 = cc in
-          let x-is : row ≡ x = tells.same row x (equal_of (cmp row x) same) in
+          let x-is : row ≡ x = tells.same row x (is_equal (cmp row x) same) in
           rw (zero-is, x-is) refl
       | inr other ↦
           let later : option_map (λ k. k + 1) (place cmp xs row) ≡ Some n = (rw other at e) in
@@ -93,7 +81,7 @@ placed_row cmp tells rows row p = rw p.is (place_get cmp tells rows row p.at p.i
 place_append : {K : Type 0} (cmp : K → K → Ordering) (rows rest : List K) (row : K) (n : ℕ) → place cmp rows row ≡ Some n → place cmp (rows ++ rest) row ≡ Some n
 place_append cmp [] rest row n e = absurd cc
 place_append cmp (x ∷ xs) rest row n e =
-    elim (went (is_eq (cmp row x))) [
+    elim (cases_Bool (is_eq (cmp row x))) [
       | inl same ↦ rw same (rw same at e)
       | inr other ↦
           let later : option_map (λ k. k + 1) (place cmp xs row) ≡ Some n = (rw other at e) in
@@ -121,14 +109,14 @@ next_is (Some n) e = refl
 end_placed : {K : Type 0} (cmp : K → K → Ordering) → Tells cmp → (rows : List K) (row : K) → is_some (place cmp (rows ++ row ∷ []) row) ≡ true
 end_placed cmp tells [] row = rw (tells.itself row) refl
 end_placed cmp tells (x ∷ xs) row =
-    elim (went (is_eq (cmp row x))) [
+    elim (cases_Bool (is_eq (cmp row x))) [
       | inl same ↦ rw same refl
       | inr other ↦ rw other (next_is (place cmp (xs ++ row ∷ []) row) (end_placed cmp tells xs row))
     ]
 
 pub row_placed : {K : Type 0} (cmp : K → K → Ordering) → Tells cmp → (rows : List K) (row : K) → Placed cmp (with_row cmp rows row) row
 row_placed {K = K} cmp tells rows row =
-    elim (went (is_some (place cmp rows row))) [
+    elim (cases_Bool (is_some (place cmp rows row))) [
       | inl there ↦
           let same : with_row cmp rows row ≡ rows = rw there refl in
           subst (λ (l : List K). Placed cmp l row) (sym same) (is_placed cmp rows row (place cmp rows row) refl there)

@@ -1,41 +1,54 @@
--- The header and the tables of a made file are read as they were written.
-use Rattle.std.proofs.Common.{◌≡◌, ℕ, suc, ◌+◌, ◌*◌, ◌<◌, ◌≤◌, Bool, true, false, cond, leb, eqb, List, [], ◌∷◌, ◌++◌, length, map, replicate, Ok, inl, inr, refl, sym, ap, ◌∙◌, length-append, arith}
-use Rattle.std.specs.Prelude.{◌⊎◌, ◌||◌, nat_eq}
-use Rattle.std.specs.List.{flat_map, starts_with}
-use Rattle.std.proofs.lemmas.Bool.{le-leb}
-use Rattle.std.proofs.lemmas.List.{append-nil, nil_from_length}
-use Rattle.vet_base.specs.Script.{run}
+-- The header and the tables of a made file stand in it.
+use Rattle.std.proofs.Common.{◌≡◌, ℕ, zero, suc, ◌+◌, ◌*◌, ◌<◌, ◌≤◌, true, cond, eqb, List, [], ◌∷◌, ◌++◌, length, map, replicate, inl, inr, refl, sym, ap, ◌∙◌, length-append, arith}
+use Rattle.std.specs.Prelude.{◌⊎◌, nat_eq, sum_by}
+use Rattle.std.specs.List.{AllByRecursion, flat_map, starts_with}
+use Rattle.std.proofs.lemmas.Bool.{cases_Bool}
+use Rattle.std.proofs.lemmas.List.{append-nil, nil_from_length, length-map}
 use Rattle.dex_reader.specs.declared.dex.ClassDef.{ClassDef}
-use Rattle.dex_reader.specs.Parts.{table_test}
-use Rattle.dex_reader.specs.TypeLists.{place}
+use Rattle.dex_reader.specs.declared.header.Header.{Header}
+use Rattle.dex_reader.specs.declared.header.Section.{Section}
 use Rattle.dex_reader.specs.Headers as heads
-use Rattle.dex_reader.specs.Tables as reader
-use Rattle.dex_reader.specs.Whole as whole
+use Rattle.dex_reader.specs.Sequences.{Follow}
+use Rattle.dex_reader.specs.TablesStand.{TableStands, IsName, IsType, IsProto, IsField, IsMethod}
+use Rattle.dex_reader.specs.ClassesStand.{IsClassRow}
+use Rattle.dex_reader.specs.Dex.{IsSection, IsHeader, HasTables, interfaces_of}
+use Rattle.dex_reader.specs.Totals.{no_totals, plus}
+use Rattle.dex_reader.specs.Whole.{sizes_of}
 use Rattle.dex_maker.specs.declared.tables.Tables.{Tables}
-use Rattle.dex_maker.specs.Bytes.{u4_bytes}
-use Rattle.dex_maker.specs.Placed.{pieces, rows_of}
+use Rattle.dex_maker.specs.Bytes.{u4_bytes, string_item}
+use Rattle.dex_maker.specs.Placed.{offsets_of, rows_of, pieces, placed_rows}
 use Rattle.dex_maker.specs.ClassData.{class_bytes, placed_row}
-use Rattle.dex_maker.specs.File.{string_piece, string_row, params_piece, proto_row_bytes, member_row_bytes, types_at, protos_at, fields_at, methods_at, classes_at, data_at, params_data, class_begin, classes_data, strings_begin, strings_data, data_bytes, string_ids, proto_ids, class_defs, tables_bytes, section_bytes, header_begin, header_ids, header_bytes, file_bytes}
-use Rattle.dex_round_trip.proofs.TableLaws.{Stands, AreFew, total_params}
-use Rattle.dex_round_trip.specs.Values.{field_value, method_value, proto_value}
-use Rattle.dex_round_trip.proofs.FileLaws.{table_of, header_value, HeaderReadAgain, IdsReadAgain, ClassesReadAgain}
-use Rattle.dex_round_trip.proofs.Standing.{stands_front, stands_back, stands_as, stands_moved, stands_three, stands_length, u4_reads}
-use Rattle.dex_round_trip.proofs.Texts.{eqb_above, after}
-use Rattle.dex_round_trip.proofs.IdTables.{strings_again, types_again, protos_again, fields_again, methods_again}
-use Rattle.dex_round_trip.proofs.ClassRows.{placed_length, class_rows_again}
+use Rattle.dex_maker.specs.File.{params_bytes, proto_row_bytes, member_row_bytes, types_at, protos_at, fields_at, methods_at, classes_at, data_at, params_data, class_begin, classes_data, strings_begin, strings_data}
+use Rattle.dex_maker.specs.File.{data_bytes, string_ids, proto_ids, class_defs, tables_bytes, section_bytes, header_begin, header_ids, header_bytes, file_bytes, AreShort}
+use Rattle.dex_round_trip.specs.Values.{field_value, method_value, proto_value, dex_value}
+use Rattle.dex_round_trip.proofs.ClassRows.{ClassFits, SmallSizes, placed_length, classes_follow}
+use Rattle.dex_round_trip.proofs.Fits.{classes_total}
+use Rattle.dex_round_trip.proofs.IdTables.{AreFew, params_in, strings_stand, types_stand, protos_stand, fields_stand, methods_stand, proto_length, member_length}
+use Rattle.dex_round_trip.proofs.Standing.{Stands, stands_front, stands_back, stands_as, stands_moved, stands_three, stands_within, u4_reads}
+use Rattle.dex_round_trip.proofs.TableGrowth.{Sound}
+use Rattle.dex_round_trip.proofs.Texts.{eqb_above}
 
-went : (b : Bool) → (b ≡ true) ⊎ (b ≡ false)
-went true = inl refl
-went false = inr refl
+-- a table of so many rows, whose offset is 0 where it has none
+abbrev pub table_of : ℕ → ℕ → Section
+table_of size at = record { size = size; at = cond (eqb size 0) 0 at }
+
+-- the header of a file with these tables and classes
+abbrev pub header_value : Tables → List ClassDef → Header
+header_value t classes = record {
+  file_size = length (file_bytes t classes);
+  strings = table_of (length t.strings) 112;
+  types = table_of (length t.types) (types_at t);
+  protos = table_of (length t.protos) (protos_at t);
+  fields = table_of (length t.fields) (fields_at t);
+  methods = table_of (length t.methods) (methods_at t);
+  classes = table_of (length classes) (classes_at t);
+}
 
 -- ---- how long the tables are
 
-rows_length : {X : Type 0} (row piece : ℕ → X → List ℕ) (width : ℕ) → ((at : ℕ) (x : X) → length (row at x) ≡ width) → (at : ℕ) (xs : List X) → length (rows_of row piece at xs) ≡ width * length xs
-rows_length row piece width each at [] = omega arith
-rows_length row piece width each at (x ∷ xs) =
-    let rest = rows_length row piece width each (at + length (piece at x)) xs in
-    let more : width * suc (length xs) ≡ width + width * length xs = omega arith in
-    length-append (row at x) (rows_of row piece (at + length (piece at x)) xs) ∙ rw (each at x, rest, more) refl
+offsets_length : {X : Type 0} (piece : X → List ℕ) (at : ℕ) (xs : List X) → length (offsets_of piece at xs) ≡ length xs
+offsets_length piece at [] = refl
+offsets_length piece at (x ∷ xs) = ap (λ (n : ℕ). suc n) (offsets_length piece (at + length (piece x)) xs)
 
 map_length : {X : Type 0} (f : X → List ℕ) (width : ℕ) → ((x : X) → length (f x) ≡ width) → (xs : List X) → length (flat_map f xs) ≡ width * length xs
 map_length f width each [] = omega arith
@@ -44,13 +57,18 @@ map_length f width each (x ∷ xs) =
     let more : width * suc (length xs) ≡ width + width * length xs = omega arith in
     length-append (f x) (flat_map f xs) ∙ rw (each x, rest, more) refl
 
-proto_length : (at : ℕ) (row : List ℕ) → length (proto_row_bytes at row) ≡ 12
-unfolding proto_row_bytes
-proto_length at row = refl
+rows_length : {X : Type 0} (row : ℕ → X → List ℕ) (piece : X → List ℕ) (width : ℕ) → ((at : ℕ) (x : X) → length (row at x) ≡ width) → (at : ℕ) (xs : List X) → length (rows_of row piece at xs) ≡ width * length xs
+rows_length row piece width each at [] = omega arith
+rows_length row piece width each at (x ∷ xs) =
+    let rest = rows_length row piece width each (at + length (piece x)) xs in
+    let more : width * suc (length xs) ≡ width + width * length xs = omega arith in
+    length-append (row at x) (rows_of row piece (at + length (piece x)) xs) ∙ rw (each at x, rest, more) refl
 
-member_length : (row : List ℕ) → length (member_row_bytes row) ≡ 8
-unfolding member_row_bytes
-member_length row = refl
+class_rows_length : (at : ℕ) (cs : List ClassDef) → length (placed_rows placed_row class_bytes at cs) ≡ 32 * length cs
+class_rows_length at [] = refl
+class_rows_length at (c ∷ cs) =
+    let next = at + length (class_bytes at c) in
+    omega (arith, length-append (placed_row at c) (placed_rows placed_row class_bytes next cs), placed_length at c, class_rows_length next cs)
 
 -- the tables of a file, and where each stands from byte 112 on
 abbrev table_bytes : Tables → List ClassDef → List ℕ
@@ -58,15 +76,17 @@ table_bytes t cs = tables_bytes t (string_ids (data_at t cs) t cs) (proto_ids (d
 
 strings_length : (t : Tables) (cs : List ClassDef) (at : ℕ) → length (string_ids at t cs) ≡ 4 * length t.strings
 unfolding string_ids
-strings_length t cs at = rows_length string_row string_piece 4 (λ at' n. refl) (strings_begin at t cs) t.strings
+strings_length t cs at =
+    let offsets = offsets_of string_item (strings_begin at t cs) t.strings in
+    map_length u4_bytes 4 (λ x. refl) offsets ∙ ap (λ (n : ℕ). 4 * n) (offsets_length string_item (strings_begin at t cs) t.strings)
 
 protos_length : (t : Tables) (at : ℕ) → length (proto_ids at t) ≡ 12 * length t.protos
 unfolding proto_ids
-protos_length t at = rows_length proto_row_bytes params_piece 12 proto_length at t.protos
+protos_length t at = rows_length proto_row_bytes params_bytes 12 proto_length at t.protos
 
 classes_length : (t : Tables) (cs : List ClassDef) (at : ℕ) → length (class_defs at t cs) ≡ 32 * length cs
 unfolding class_defs
-classes_length t cs at = rows_length placed_row class_bytes 32 placed_length (class_begin at t) cs
+classes_length t cs at = class_rows_length (class_begin at t) cs
 
 record Tabled (t : Tables) (cs : List ClassDef) (file : List ℕ) : Type 0 where
   pub strings : Stands file 112 (string_ids (data_at t cs) t cs)
@@ -156,15 +176,15 @@ parted t cs =
     }
 
 record Data (t : Tables) (cs : List ClassDef) : Type 0 where
-  pub params : Stands (file_bytes t cs) (data_at t cs) (params_data (data_at t cs) t)
+  pub params : Stands (file_bytes t cs) (data_at t cs) (params_data t)
   pub classes : Stands (file_bytes t cs) (class_begin (data_at t cs) t) (classes_data (data_at t cs) t cs)
-  pub strings : Stands (file_bytes t cs) (strings_begin (data_at t cs) t cs) (strings_data (data_at t cs) t cs)
+  pub strings : Stands (file_bytes t cs) (strings_begin (data_at t cs) t cs) (strings_data t)
 
 data_parts : (t : Tables) (cs : List ClassDef) → Data t cs
 unfolding data_bytes class_begin strings_begin
 data_parts t cs =
     let at = data_at t cs in
-    let three = stands_three (file_bytes t cs) at (params_data at t) (classes_data at t cs) (strings_data at t cs) (parted t cs).data1 in
+    let three = stands_three (file_bytes t cs) at (params_data t) (classes_data at t cs) (strings_data t) (parted t cs).data1 in
     record { params = three.first; classes = three.second; strings = three.third }
 
 -- ---- tables with no rows
@@ -176,12 +196,9 @@ at_table : {X : Type 0} (file : List ℕ) (off : ℕ) (f : List X → List ℕ) 
 at_table file off f [] e s = stands_as file 0 [] (f []) (sym e) (stands_none file)
 at_table file off f (x ∷ xs) e s = rw (eqb_above (suc (length xs)) (omega arith)) s
 
-held : (size off width len : ℕ) → off + size * width ≤ len → (eqb size 0 || leb (cond (eqb size 0) 0 off + size * width) len) ≡ true
-held size off width len le = elim (went (eqb size 0)) [ inl none ↦ rw none refl | inr some ↦ rw some (le-leb _ _ le) ]
-
-test_holds : (file : List ℕ) (size off width : ℕ) → off + size * width ≤ length file → run (table_test file size (cond (eqb size 0) 0 off) width) ≡ Ok tt
-unfolding table_test
-test_holds file size off width le = rw (held size off width (length file) le) refl
+within_file : (size off width len : ℕ) → off + size * width ≤ len → (size ≡ 0) ⊎ (cond (eqb size 0) 0 off + size * width ≤ len)
+within_file zero off width len le = inl refl
+within_file (suc n) off width len le = inr (rw (eqb_above (suc n) (omega arith)) le)
 
 -- ---- the header
 
@@ -244,121 +261,155 @@ begins file s =
     rw front refl
 
 cond_small : (n off : ℕ) → off < 4294967296 → cond (eqb n 0) 0 off < 4294967296
-cond_small n off lt = elim (went (eqb n 0)) [ inl none ↦ rw none (omega arith) | inr some ↦ rw some lt ]
+cond_small n off lt = elim (cases_Bool (eqb n 0)) [ inl none ↦ rw none (omega arith) | inr some ↦ rw some lt ]
 
-section_reads : (file : List ℕ) (at n off : ℕ) → n < 4294967296 → off < 4294967296 → Stands file at (section_bytes n off) → run (heads.section_at file at) ≡ Ok (table_of n off)
-unfolding heads.section_at section_bytes
-section_reads file at n off few small s =
-    let first = stands_front file at (u4_bytes n) (u4_bytes (cond (eqb n 0) 0 off)) s in
-    let second = stands_back file at (u4_bytes n) (u4_bytes (cond (eqb n 0) 0 off)) s in
-    rw (u4_reads file at n few first, u4_reads file (at + 4) (cond (eqb n 0) 0 off) (cond_small n off small) second) refl
+section_stands : (file : List ℕ) (at n off : ℕ) → n < 4294967296 → off < 4294967296 → Stands file at (section_bytes n off) → IsSection file at (table_of n off)
+unfolding section_bytes
+section_stands file at n off few small s =
+    let begin = cond (eqb n 0) 0 off in
+    let first = stands_front file at (u4_bytes n) (u4_bytes begin) s in
+    let second = stands_back file at (u4_bytes n) (u4_bytes begin) s in
+    (u4_reads file at n few first, u4_reads file (at + 4) begin (cond_small n off small) second)
 
-file_size_reads : (t : Tables) (cs : List ClassDef) → length (file_bytes t cs) < 4294967296 → run (heads.file_size_at (file_bytes t cs)) ≡ Ok (length (file_bytes t cs))
-unfolding heads.file_size_at
-file_size_reads t cs small =
+pub header_stands : (t : Tables) (cs : List ClassDef) → AreShort t cs → length (file_bytes t cs) < 4294967296 → IsHeader (file_bytes t cs) (header_value t cs)
+header_stands t cs short small =
     let file = file_bytes t cs in
     let parts = header_parts t cs in
     let size = (parted t cs).size in
-    let room : 112 ≤ length file = omega (arith, size) in
-    let enough : leb 112 (length file) ≡ true = le-leb _ _ room in
-    let within : leb (length file) (length file) ≡ true = le-leb _ _ (omega arith) in
-    let size-stands = stands_as file 32 (u4_bytes (data_at t cs + length (body t cs))) (u4_bytes (length file)) (ap u4_bytes size) parts.size in
-    rw (begins file parts.magic, enough, u4_reads file 32 (length file) small size-stands, enough, within, u4_reads file 36 112 (omega arith) parts.header_size, u4_reads file 40 305419896 (omega arith) parts.tag) refl
-
-pub header_again : HeaderReadAgain
-unfolding heads.header_at
-header_again t cs short small =
-    let file = file_bytes t cs in
-    let parts = header_parts t cs in
-    let a = short.strings in
-    let b = short.types in
-    let c = short.protos in
-    let d = short.fields in
-    let e = short.methods in
-    let f = short.class_defs in
-    rw (
-      after (heads.file_size_at file) (length file) (file_size_reads t cs small),
-      after (heads.section_at file 56) (table_of (length t.strings) 112) (section_reads file 56 (length t.strings) 112 (omega arith) (omega arith) parts.strings),
-      after (heads.section_at file 64) (table_of (length t.types) (types_at t)) (section_reads file 64 (length t.types) (types_at t) (omega arith) (omega arith) parts.types),
-      after (heads.section_at file 72) (table_of (length t.protos) (protos_at t)) (section_reads file 72 (length t.protos) (protos_at t) (omega arith) (omega arith) parts.protos),
-      after (heads.section_at file 80) (table_of (length t.fields) (fields_at t)) (section_reads file 80 (length t.fields) (fields_at t) (omega arith) (omega arith) parts.fields),
-      after (heads.section_at file 88) (table_of (length t.methods) (methods_at t)) (section_reads file 88 (length t.methods) (methods_at t) (omega arith) (omega arith) parts.methods),
-      after (heads.section_at file 96) (table_of (length cs) (classes_at t)) (section_reads file 96 (length cs) (classes_at t) (omega arith) (omega arith) parts.classes),
-    ) refl
+    let file-size = stands_as file 32 (u4_bytes (data_at t cs + length (body t cs))) (u4_bytes (length file)) (ap u4_bytes size) parts.size in
+    let strings : length t.strings ≤ 65536 = short.strings in
+    let types : length t.types ≤ 65535 = short.types in
+    let protos : length t.protos ≤ 65535 = short.protos in
+    let fields : length t.fields ≤ 65536 = short.fields in
+    let methods : length t.methods ≤ 65536 = short.methods in
+    let classes : length cs ≤ 65536 = short.class_defs in
+    record {
+      magic_is = begins file parts.magic;
+      whole = omega (arith, size);
+      within = omega arith;
+      file_size = u4_reads file 32 (length file) small file-size;
+      header_size = u4_reads file 36 112 (omega arith) parts.header_size;
+      endian_tag = u4_reads file 40 305419896 (omega arith) parts.tag;
+      strings = section_stands file 56 (length t.strings) 112 (omega arith) (omega arith) parts.strings;
+      types = section_stands file 64 (length t.types) (types_at t) (omega arith) (omega arith) parts.types;
+      protos = section_stands file 72 (length t.protos) (protos_at t) (omega arith) (omega arith) parts.protos;
+      fields = section_stands file 80 (length t.fields) (fields_at t) (omega arith) (omega arith) parts.fields;
+      methods = section_stands file 88 (length t.methods) (methods_at t) (omega arith) (omega arith) parts.methods;
+      classes = section_stands file 96 (length cs) (classes_at t) (omega arith) (omega arith) parts.classes;
+    }
 
 -- ---- the tables
 
-pub ids_again : IdsReadAgain
-unfolding whole.ids_at string_ids strings_data proto_ids params_data
-ids_again t cs short small fit =
+few_of : (t : Tables) (cs : List ClassDef) → AreShort t cs → AreFew (sizes_of (header_value t cs))
+few_of t cs short = record { strings = short.strings; types = omega (arith, short.types); protos = omega (arith, short.protos) }
+
+strings_table : (t : Tables) (cs : List ClassDef) → length (file_bytes t cs) < 4294967296 → Sound t → sum_by length t.strings ≤ 33554432
+    → TableStands (IsName (file_bytes t cs)) 4 (file_bytes t cs) (header_value t cs).strings t.strings
+unfolding string_ids strings_data
+strings_table t cs small sound names =
     let file = file_bytes t cs in
-    let header = header_value t cs in
-    let sizes = whole.sizes_of header in
     let at = data_at t cs in
-    let places = tabled t cs file (parted t cs).tables in
-    let data-of = data_parts t cs in
-    let few : AreFew sizes = (short.strings, omega (arith, short.types), omega (arith, short.protos)) in
-    let bound-s : 112 + length t.strings * 4 ≤ length file = omega (arith, stands_length file 112 (string_ids at t cs) places.strings, strings_length t cs at) in
-    let bound-t : types_at t + length t.types * 4 ≤ length file = omega (arith, stands_length file (types_at t) (flat_map u4_bytes t.types) places.types, map_length u4_bytes 4 (λ x. refl) t.types) in
-    let bound-p : protos_at t + length t.protos * 12 ≤ length file = omega (arith, stands_length file (protos_at t) (proto_ids at t) places.protos, protos_length t at) in
-    let bound-f : fields_at t + length t.fields * 8 ≤ length file = omega (arith, stands_length file (fields_at t) (flat_map member_row_bytes t.fields) places.fields, map_length member_row_bytes 8 member_length t.fields) in
-    let bound-m : methods_at t + length t.methods * 8 ≤ length file = omega (arith, stands_length file (methods_at t) (flat_map member_row_bytes t.methods) places.methods, map_length member_row_bytes 8 member_length t.methods) in
     let begin = strings_begin at t cs in
-    let strings-small : begin + length (pieces string_piece begin t.strings) < 4294967296 = omega (arith, stands_length file begin (strings_data at t cs) data-of.strings) in
-    let params-small : at + length (pieces params_piece at t.protos) < 4294967296 = omega (arith, stands_length file at (params_data at t) data-of.params) in
-    let some : 0 < at = omega arith in
-    let s = strings_again file header.strings.at begin t.strings (at_table file 112 (rows_of string_row string_piece begin) t.strings refl places.strings) data-of.strings strings-small fit.strings_fit in
-    let ty = types_again file sizes header.types.at t.types few (at_table file (types_at t) (flat_map u4_bytes) t.types refl places.types) fit.types_fit in
-    let p = protos_again file sizes header.protos.at at 0 t.protos few some (at_table file (protos_at t) (rows_of proto_row_bytes params_piece at) t.protos refl places.protos) data-of.params params-small fit.protos_fit in
-    let f = fields_again file sizes header.fields.at t.fields few (at_table file (fields_at t) (flat_map member_row_bytes) t.fields refl places.fields) fit.fields_fit in
-    let m = methods_again file sizes header.methods.at t.methods few (at_table file (methods_at t) (flat_map member_row_bytes) t.methods refl places.methods) fit.methods_fit in
-    rw (
-      after (table_test file (length t.strings) header.strings.at 4) tt (test_holds file (length t.strings) 112 4 bound-s),
-      after (reader.strings_at file header.strings) (t.strings, s.0) s.1,
-      after (table_test file (length t.types) header.types.at 4) tt (test_holds file (length t.types) (types_at t) 4 bound-t),
-      after (reader.types_at file sizes header.types) (t.types, ty.0) ty.1,
-      after (table_test file (length t.protos) header.protos.at 12) tt (test_holds file (length t.protos) (protos_at t) 12 bound-p),
-      after (reader.protos_at file sizes header.protos 0) (map proto_value t.protos, place (header.protos.at + 12 * length t.protos) (total_params 0 t.protos)) p,
-      after (table_test file (length t.fields) header.fields.at 8) tt (test_holds file (length t.fields) (fields_at t) 8 bound-f),
-      after (reader.fields_at file sizes header.fields) (map field_value t.fields, f.0) f.1,
-      after (table_test file (length t.methods) header.methods.at 8) tt (test_holds file (length t.methods) (methods_at t) 8 bound-m),
-      after (reader.methods_at file sizes header.methods) (map method_value t.methods, m.0) m.1,
-    ) refl
+    let rows = (tabled t cs file (parted t cs).tables).strings in
+    let items = (data_parts t cs).strings in
+    let bound : 112 + length t.strings * 4 ≤ length file = omega (arith, stands_within file 112 (string_ids at t cs) rows, strings_length t cs at) in
+    let items-small : begin + length (flat_map string_item t.strings) < 4294967296 = omega (arith, stands_within file begin (strings_data t) items) in
+    record {
+      count = refl;
+      within = within_file (length t.strings) 112 4 (length file) bound;
+      stand = strings_stand file (header_value t cs).strings.at begin t.strings (at_table file 112 (λ names. flat_map u4_bytes (offsets_of string_item begin names)) t.strings refl rows) items items-small sound.strings names;
+    }
+
+types_table : (t : Tables) (cs : List ClassDef) → AreShort t cs → Sound t → TableStands (IsType (file_bytes t cs) (sizes_of (header_value t cs))) 4 (file_bytes t cs) (header_value t cs).types t.types
+types_table t cs short sound =
+    let file = file_bytes t cs in
+    let rows = (tabled t cs file (parted t cs).tables).types in
+    let bound : types_at t + length t.types * 4 ≤ length file = omega (arith, stands_within file (types_at t) (flat_map u4_bytes t.types) rows, map_length u4_bytes 4 (λ x. refl) t.types) in
+    record {
+      count = refl;
+      within = within_file (length t.types) (types_at t) 4 (length file) bound;
+      stand = types_stand file (sizes_of (header_value t cs)) (header_value t cs).types.at t.types (few_of t cs short) (at_table file (types_at t) (flat_map u4_bytes) t.types refl rows) sound.types;
+    }
+
+protos_table : (t : Tables) (cs : List ClassDef) → AreShort t cs → length (file_bytes t cs) < 4294967296 → Sound t → sum_by params_in t.protos ≤ 4000000
+    → TableStands (IsProto (file_bytes t cs) (sizes_of (header_value t cs))) 12 (file_bytes t cs) (header_value t cs).protos (map proto_value t.protos)
+unfolding proto_ids params_data
+protos_table t cs short small sound within =
+    let file = file_bytes t cs in
+    let at = data_at t cs in
+    let rows = (tabled t cs file (parted t cs).tables).protos in
+    let lists = (data_parts t cs).params in
+    let bound : protos_at t + length t.protos * 12 ≤ length file = omega (arith, stands_within file (protos_at t) (proto_ids at t) rows, protos_length t at) in
+    let lists-small : at + length (flat_map params_bytes t.protos) < 4294967296 = omega (arith, stands_within file at (params_data t) lists) in
+    record {
+      count = length-map t.protos proto_value;
+      within = within_file (length t.protos) (protos_at t) 12 (length file) bound;
+      stand = protos_stand file (sizes_of (header_value t cs)) (header_value t cs).protos.at at t.protos (few_of t cs short) (omega arith)
+          (at_table file (protos_at t) (rows_of proto_row_bytes params_bytes at) t.protos refl rows) lists lists-small sound.protos within;
+    }
+
+fields_table : (t : Tables) (cs : List ClassDef) → AreShort t cs → Sound t → TableStands (IsField (file_bytes t cs) (sizes_of (header_value t cs))) 8 (file_bytes t cs) (header_value t cs).fields (map field_value t.fields)
+fields_table t cs short sound =
+    let file = file_bytes t cs in
+    let rows = (tabled t cs file (parted t cs).tables).fields in
+    let bound : fields_at t + length t.fields * 8 ≤ length file = omega (arith, stands_within file (fields_at t) (flat_map member_row_bytes t.fields) rows, map_length member_row_bytes 8 member_length t.fields) in
+    record {
+      count = length-map t.fields field_value;
+      within = within_file (length t.fields) (fields_at t) 8 (length file) bound;
+      stand = fields_stand file (sizes_of (header_value t cs)) (header_value t cs).fields.at t.fields (few_of t cs short) (at_table file (fields_at t) (flat_map member_row_bytes) t.fields refl rows) sound.fields;
+    }
+
+methods_table : (t : Tables) (cs : List ClassDef) → AreShort t cs → Sound t → TableStands (IsMethod (file_bytes t cs) (sizes_of (header_value t cs))) 8 (file_bytes t cs) (header_value t cs).methods (map method_value t.methods)
+methods_table t cs short sound =
+    let file = file_bytes t cs in
+    let rows = (tabled t cs file (parted t cs).tables).methods in
+    let bound : methods_at t + length t.methods * 8 ≤ length file = omega (arith, stands_within file (methods_at t) (flat_map member_row_bytes t.methods) rows, map_length member_row_bytes 8 member_length t.methods) in
+    record {
+      count = length-map t.methods method_value;
+      within = within_file (length t.methods) (methods_at t) 8 (length file) bound;
+      stand = methods_stand file (sizes_of (header_value t cs)) (header_value t cs).methods.at t.methods (few_of t cs short) (at_table file (methods_at t) (flat_map member_row_bytes) t.methods refl rows) sound.methods;
+    }
 
 begin_some : (t : Tables) (at : ℕ) → 0 < at → 0 < class_begin at t
 unfolding class_begin
 begin_some t at lt = omega arith
 
-pub classes_again : ClassesReadAgain
+-- the classes, whose rows lie within the file
+record ClassTable (t : Tables) (cs : List ClassDef) : Type 0 where
+  end : ℕ
+  within : (length cs ≡ 0) ⊎ ((header_value t cs).classes.at + length cs * 32 ≤ length (file_bytes t cs))
+  stand : Follow no_totals plus (IsClassRow (file_bytes t cs) (sizes_of (header_value t cs))) (header_value t cs).classes.at cs (classes_total cs) end
+
+class_table : (t : Tables) (cs : List ClassDef) → AreShort t cs → length (file_bytes t cs) < 4294967296 → AllByRecursion (ClassFits (sizes_of (header_value t cs))) cs → sum_by interfaces_of cs ≤ 4000000 → ClassTable t cs
 unfolding class_defs classes_data
-classes_again t cs short small fit =
+class_table t cs short small fit lists =
     let file = file_bytes t cs in
     let at = data_at t cs in
     let begin = class_begin at t in
-    let places = tabled t cs file (parted t cs).tables in
-    let data-of = data_parts t cs in
-    let classes-small : begin + length (pieces class_bytes begin cs) < 4294967296 = omega (arith, stands_length file begin (classes_data at t cs) data-of.classes) in
-    let some : 0 < begin = begin_some t at (omega arith) in
-    let few : length t.types ≤ 65536 = omega (arith, short.types) in
-    class_rows_again file (length t.types) (header_value t cs).classes.at begin (total_params 0 t.protos) cs few some short.class_defs
-    (at_table file (classes_at t) (rows_of placed_row class_bytes begin) cs refl places.classes) data-of.classes classes-small fit
+    let rows = (tabled t cs file (parted t cs).tables).classes in
+    let data-of = (data_parts t cs).classes in
+    let bound : classes_at t + length cs * 32 ≤ length file = omega (arith, stands_within file (classes_at t) (class_defs at t cs) rows, classes_length t cs at) in
+    let data-small : begin + length (pieces class_bytes begin cs) < 4294967296 = omega (arith, stands_within file begin (classes_data at t cs) data-of) in
+    let few : SmallSizes (sizes_of (header_value t cs)) = record { types = omega (arith, short.types); fields = short.fields; methods = short.methods } in
+    let stand = classes_follow file (sizes_of (header_value t cs)) (header_value t cs).classes.at begin cs few (begin_some t at (omega arith))
+    (at_table file (classes_at t) (placed_rows placed_row class_bytes begin) cs refl rows) data-of data-small fit lists in
+    record { end = stand.0; within = within_file (length cs) (classes_at t) 32 (length file) bound; stand = stand.1 }
 
--- what the classes point to stands in the file, behind its tables
-pub record ClassesHere (t : Tables) (cs : List ClassDef) : Type 0 where
-  pub stand : Stands (file_bytes t cs) (class_begin (data_at t cs) t) (pieces class_bytes (class_begin (data_at t cs) t) cs)
-  pub some : 0 < class_begin (data_at t cs) t
-
-pub classes_stand : (t : Tables) (cs : List ClassDef) → ClassesHere t cs
-unfolding classes_data
-classes_stand t cs = record { stand = (data_parts t cs).classes; some = begin_some t (data_at t cs) (omega arith) }
-
-pub classes_room : (t : Tables) (cs : List ClassDef) → run (table_test (file_bytes t cs) (length cs) (header_value t cs).classes.at 32) ≡ Ok tt
-classes_room t cs =
-    let file = file_bytes t cs in
-    let at = data_at t cs in
-    let places = tabled t cs file (parted t cs).tables in
-    let bound : classes_at t + length cs * 32 ≤ length file = omega (arith, stands_length file (classes_at t) (class_defs at t cs) places.classes, classes_length t cs at) in
-    test_holds file (length cs) (classes_at t) 32 bound
+pub tables_stand : (t : Tables) (cs : List ClassDef) → AreShort t cs → length (file_bytes t cs) < 4294967296 → Sound t → sum_by length t.strings ≤ 33554432 → sum_by params_in t.protos + sum_by interfaces_of cs ≤ 4000000
+    → AllByRecursion (ClassFits (sizes_of (header_value t cs))) cs → HasTables (file_bytes t cs) (header_value t cs) (sizes_of (header_value t cs)) (dex_value t cs) (classes_total cs)
+tables_stand t cs short small sound names lists fit =
+    let classes = class_table t cs short small fit (omega arith) in
+    record {
+      end = classes.end;
+      strings = strings_table t cs small sound names;
+      types = types_table t cs short sound;
+      protos = protos_table t cs short small sound (omega arith);
+      fields = fields_table t cs short sound;
+      methods = methods_table t cs short sound;
+      classes_count = refl;
+      classes_within = classes.within;
+      classes = classes.stand;
+    }
 
 pub file_length : (t : Tables) (cs : List ClassDef) → length (file_bytes t cs) ≡ data_at t cs + length (data_bytes (data_at t cs) t cs)
 file_length t cs = sym (parted t cs).size

@@ -14,13 +14,14 @@ use Rattle.dex_reader.specs.Sound.{code_units, body_units, class_members, class_
 use Rattle.dex_maker.specs.declared.tables.Tables.{Tables}
 use Rattle.dex_maker.specs.Bytes.{u2_bytes, u4_bytes, uleb_bytes, padding_of, string_item, type_list, text_len}
 use Rattle.dex_maker.specs.Placed.{pieces, rows_of, offset_of}
-use Rattle.dex_maker.specs.CodeItem.{handler_bytes, handler_piece, try_bytes, handlers_bytes, try_items, before_tries, tries_bytes, code_head, code_item, code_bytes}
-use Rattle.dex_maker.specs.ClassData.{members_bytes, maybe_code, body_code, code_piece, bodies_bytes, virtuals_at, class_code, class_item, class_data, code_and_data, code_begin, class_bytes}
-use Rattle.dex_maker.specs.File.{string_piece, params_piece, data_at, params_data, class_begin, classes_data, strings_begin, strings_data, data_bytes, file_bytes, AreShort}
+use Rattle.dex_maker.specs.CodeItem.{handler_bytes, try_bytes, handlers_bytes, try_items, before_tries, tries_bytes, code_head, code_item, code_bytes}
+use Rattle.dex_maker.specs.ClassData.{members_bytes, maybe_code, body_code, bodies_bytes, virtuals_at, class_code, class_item, class_data, code_and_data, code_begin, class_bytes}
+use Rattle.dex_maker.specs.File.{params_bytes, data_at, params_data, class_begin, classes_data, strings_data, data_bytes, file_bytes, AreShort}
 use Rattle.dex_round_trip.specs.Costs.{body_cost, class_cost, code_cost, try_cost}
 use Rattle.dex_round_trip.proofs.CodeReads.{length_u2s}
 use Rattle.dex_round_trip.proofs.TryReads.{groups_short, handler_short, items_bytes}
 use Rattle.dex_round_trip.proofs.FileReads.{file_length}
+use Rattle.dex_round_trip.proofs.IdTables.{params_in}
 
 padding_short : (n : ℕ) → length (padding_of n) ≤ 3
 unfolding padding_of
@@ -38,29 +39,23 @@ list_short types =
 
 -- ---- tables
 
-abbrev pub params_in : List ℕ → ℕ
-params_in row = length (drop 2 row)
+params_short : (protos : List (List ℕ)) → length (flat_map params_bytes protos) ≤ 7 * length protos + 2 * sum_by params_in protos
+params_short [] = omega arith
+params_short (p ∷ ps) =
+    omega (arith, length-append (params_bytes p) (flat_map params_bytes ps), params_short ps, list_short (drop 2 p), sum_by-cons params_in p ps)
 
-params_short : (at : ℕ) (protos : List (List ℕ)) → length (pieces params_piece at protos) ≤ 7 * length protos + 2 * sum_by params_in protos
-params_short at [] = omega arith
-params_short at (p ∷ ps) =
-    let b = type_list (drop 2 p) in
-    omega (arith, length-append b (pieces params_piece (at + length b) ps), params_short (at + length b) ps, list_short (drop 2 p), sum_by-cons params_in p ps)
-
-strings_short : (at : ℕ) (names : List (List ℕ)) → length (pieces string_piece at names) ≤ 6 * length names + sum_by length names
-strings_short at [] = omega arith
-strings_short at (n ∷ ns) =
-    let b = string_item n in
+strings_short : (names : List (List ℕ)) → length (flat_map string_item names) ≤ 6 * length names + sum_by length names
+strings_short [] = omega arith
+strings_short (n ∷ ns) =
     let u = uleb_bytes (text_len n) in
-    omega (arith, length-append b (pieces string_piece (at + length b) ns), strings_short (at + length b) ns, length-append (u ++ n) (0 ∷ []), length-append u n, groups_short 4 (text_len n), sum_by-cons length n ns)
+    omega (arith, length-append (string_item n) (flat_map string_item ns), strings_short ns, length-append (u ++ n) (0 ∷ []), length-append u n, groups_short 4 (text_len n), sum_by-cons length n ns)
 
 -- ---- code
 
-tries_handlers : (h : ℕ) (tries : List RawTry) → 8 * length tries + length (pieces handler_piece h tries) ≤ 7 * sum_by try_cost tries
-tries_handlers h [] = omega arith
-tries_handlers h (t ∷ ts) =
-    let b = handler_bytes t in
-    omega (arith, length-append b (pieces handler_piece (h + length b) ts), tries_handlers (h + length b) ts, handler_short t, sum_by-cons try_cost t ts)
+tries_handlers : (tries : List RawTry) → 8 * length tries + length (flat_map handler_bytes tries) ≤ 7 * sum_by try_cost tries
+tries_handlers [] = omega arith
+tries_handlers (t ∷ ts) =
+    omega (arith, length-append (handler_bytes t) (flat_map handler_bytes ts), tries_handlers ts, handler_short t, sum_by-cons try_cost t ts)
 
 before_short : (units : ℕ) → length (before_tries units) ≤ 2
 before_short units = elim (eqb (units % 2) 1) as (λ b. length (cond b (u2_bytes 0) []) ≤ 2) [ true ↦ omega arith | false ↦ omega arith ]
@@ -70,11 +65,11 @@ unfolding tries_bytes try_items handlers_bytes
 tries_short units tries =
     let n = uleb_bytes (length tries) in
     let b = before_tries units in
-    let items = rows_of try_bytes handler_piece (length n) tries in
-    let list = pieces handler_piece (length n) tries in
+    let items = rows_of try_bytes handler_bytes (length n) tries in
+    let list = flat_map handler_bytes tries in
     elim (eqb (length tries) 0) as (λ k. length (cond k [] (b ++ items ++ (n ++ list))) ≤ 7 + 7 * sum_by try_cost tries) [
       | true ↦ omega arith
-      | false ↦ omega (arith, length-append (b ++ items) (n ++ list), length-append b items, length-append n list, before_short units, items_bytes (length n) tries, groups_short 4 (length tries), tries_handlers (length n) tries)
+      | false ↦ omega (arith, length-append (b ++ items) (n ++ list), length-append b items, length-append n list, before_short units, items_bytes (length n) tries, groups_short 4 (length tries), tries_handlers tries)
     ]
 
 code_short : (code : RawCode) → length (code_bytes code) ≤ 26 + 2 * length code.units + 7 * sum_by try_cost code.tries
@@ -89,11 +84,10 @@ maybe_short : (code : Option RawCode) → length (maybe_code code) ≤ 26 + 2 * 
 maybe_short None = omega arith
 maybe_short (Some code) = code_short code
 
-codes_short : (at : ℕ) (bs : List Body) → length (pieces code_piece at bs) ≤ 26 * length bs + 2 * sum_by body_units bs + 7 * sum_by body_cost bs
-codes_short at [] = omega arith
-codes_short at (b ∷ bs) =
-    let c = body_code b in
-    omega (arith, length-append c (pieces code_piece (at + length c) bs), codes_short (at + length c) bs, maybe_short b.code, sum_by-cons body_units b bs, sum_by-cons body_cost b bs)
+codes_short : (bs : List Body) → length (flat_map body_code bs) ≤ 26 * length bs + 2 * sum_by body_units bs + 7 * sum_by body_cost bs
+codes_short [] = omega arith
+codes_short (b ∷ bs) =
+    omega (arith, length-append (body_code b) (flat_map body_code bs), codes_short bs, maybe_short b.code, sum_by-cons body_units b bs, sum_by-cons body_cost b bs)
 
 -- ---- class data
 
@@ -149,9 +143,9 @@ unfolding class_bytes code_and_data code_begin class_code class_data virtuals_at
 class_short at c =
     let list = type_list c.interfaces in
     let code = at + length list in
-    let dcodes = pieces code_piece code c.directs in
+    let dcodes = flat_map body_code c.directs in
     let vat = code + length dcodes in
-    let vcodes = pieces code_piece vat c.virtuals in
+    let vcodes = flat_map body_code c.virtuals in
     let ds = bodies_bytes 0 code c.directs in
     let vs = bodies_bytes 0 vat c.virtuals in
     let item = class_item c ds vs in
@@ -163,8 +157,8 @@ class_short at c =
       length-append (dcodes ++ vcodes) item,
       length-append dcodes vcodes,
       list_short c.interfaces,
-      codes_short code c.directs,
-      codes_short vat c.virtuals,
+      codes_short c.directs,
+      codes_short c.virtuals,
       item_short c ds vs,
       bodies_short 0 code c.directs,
       bodies_short 0 vat c.virtuals,
@@ -179,12 +173,12 @@ classes_short at (c ∷ cs) =
 
 -- ---- the file
 
-data_short : (at : ℕ) (t : Tables) (cs : List ClassDef) → length (data_bytes at t cs) ≤ length (pieces params_piece at t.protos) + length (pieces class_bytes (class_begin at t) cs) + length (pieces string_piece (strings_begin at t cs) t.strings)
+data_short : (at : ℕ) (t : Tables) (cs : List ClassDef) → length (data_bytes at t cs) ≤ length (flat_map params_bytes t.protos) + length (pieces class_bytes (class_begin at t) cs) + length (flat_map string_item t.strings)
 unfolding data_bytes params_data classes_data strings_data
 data_short at t cs =
-    let p = pieces params_piece at t.protos in
+    let p = flat_map params_bytes t.protos in
     let c = pieces class_bytes (class_begin at t) cs in
-    omega (arith, length-append (p ++ c) (pieces string_piece (strings_begin at t cs) t.strings), length-append p c)
+    omega (arith, length-append (p ++ c) (flat_map string_item t.strings), length-append p c)
 
 pub file_small : (t : Tables) (cs : List ClassDef) → AreShort t cs → sum_by length t.strings ≤ 33554432 → sum_by params_in t.protos + sum_by interfaces_of cs ≤ 4000000
     → sum_by class_members cs ≤ 400000 → sum_by class_units cs ≤ 8388608 → sum_by class_cost cs ≤ 1000000 → length (file_bytes t cs) < 4294967296
@@ -194,9 +188,9 @@ file_small t cs short names lists members units tries =
       arith,
       file_length t cs,
       data_short at t cs,
-      params_short at t.protos,
+      params_short t.protos,
       classes_short (class_begin at t) cs,
-      strings_short (strings_begin at t cs) t.strings,
+      strings_short t.strings,
       short.strings,
       short.types,
       short.protos,

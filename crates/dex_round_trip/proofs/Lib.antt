@@ -1,9 +1,7 @@
 pub mod ClassDataReads
-pub mod ClassLaws
 pub mod ClassRows
 pub mod CodeReads
 pub mod Extensions
-pub mod FileLaws
 pub mod FileReads
 pub mod FileSize
 pub mod Fits
@@ -16,9 +14,7 @@ pub mod NamingGrowth
 pub mod NamingSteps
 pub mod Standing
 pub mod TableGrowth
-pub mod TableLaws
 pub mod Texts
 pub mod TryReads
 pub mod UnitFits
-pub mod WholeLaws
 pub mod WholeReads

@@ -1,12 +1,11 @@
 -- What a listing's classes are in a file is what a reader asks of them.
-use Rattle.std.proofs.Common.{◌≡◌, ℕ, suc, ◌+◌, ◌<◌, ◌≤◌, Bool, true, false, cond, List, [], ◌∷◌, length, map, Option, Some, None, refl, ap, arith}
+use Rattle.std.proofs.Common.{◌≡◌, ℕ, suc, ◌+◌, ◌<◌, ◌≤◌, Bool, true, false, cond, List, [], ◌∷◌, length, map, Option, Some, None, refl, arith}
 use Rattle.std.specs.Prelude.{IfSome, IfNone, sum_by, slice_index}
 use Rattle.std.specs.Option.{option_map}
 use Rattle.std.specs.List.{AllByRecursion}
 use Rattle.std.proofs.lemmas.List.Sums.{sum_by-cons}
 use Rattle.dex_reader.specs.declared.place.Sizes.{Sizes}
 use Rattle.dex_reader.specs.Sound.{code_units, body_units, class_members, class_units}
-use Rattle.dex_reader.specs.Dex.{interfaces_of}
 use Rattle.dex_maker.specs.declared.tables.Tables.{Tables}
 use Rattle.dex_maker.specs.declared.listing.ListedClass.{ListedClass}
 use Rattle.dex_maker.specs.declared.listing.ListedField.{ListedField}
@@ -17,18 +16,15 @@ use Rattle.dex_maker.specs.Tables.{type_index}
 use Rattle.dex_maker.specs.Lines.{width_sum, starts_from}
 use Rattle.dex_maker.specs.Codes.{handler_pair, raw_try, raw_code}
 use Rattle.dex_maker.specs.Classes.{is_static, is_direct, is_of, member_of, members_from, body_of, bodies_from, class_def, class_defs_from, code_width, method_width, class_width, member_count}
-use Rattle.dex_round_trip.proofs.ClassLaws.{ClassRowFits, ClassesFit}
+use Rattle.dex_round_trip.proofs.ClassRows.{ClassRowFits}
 use Rattle.dex_round_trip.proofs.Fits.{PairFits, TryFits, CodeFits, MembersRise, BodiesRise, DataFits}
 use Rattle.dex_round_trip.specs.Listings.{FieldCanBeRead, TryCanBeRead, CodeCanBeRead, MethodCanBeRead, ClassCanBeRead}
 use Rattle.dex_round_trip.proofs.TableGrowth.{type_below}
 use Rattle.dex_round_trip.proofs.NamingGrowth.{fields_in, methods_in}
 use Rattle.dex_round_trip.proofs.UnitFits.{units_short, units_width, outs_short, start_small}
+use Rattle.std.proofs.lemmas.List.{length-map}
 
 -- ---- tries and code
-
-map_length : {X Y : Type 0} (f : X → Y) (xs : List X) → length (map f xs) ≡ length xs
-map_length f [] = refl
-map_length f (x ∷ xs) = ap (λ (n : ℕ). suc n) (map_length f xs)
 
 pairs_fit : (t : Tables) (code : ListedCode) (handlers : List (List ℕ × ℕ)) → 0 < length t.types → width_sum code.lines ≤ 8388608
     → AllByRecursion (PairFits (length t.types)) (map (handler_pair t (starts_from 0 code.lines)) handlers)
@@ -47,7 +43,7 @@ try_fits : (t : Tables) (code : ListedCode) (item : ListedTry) → 0 < length t.
 unfolding raw_try
 try_fits t code item some le is =
     let starts = starts_from 0 code.lines in
-    let count : length (map (handler_pair t starts) item.handlers) ≡ length item.handlers = map_length (handler_pair t starts) item.handlers in
+    let count : length (map (handler_pair t starts) item.handlers) ≡ length item.handlers = length-map item.handlers (handler_pair t starts) in
     record {
       start = start_small code.lines item.start le;
       count = omega arith;
@@ -70,7 +66,7 @@ code_fits t code some le is = record {
   outs = outs_short code.lines;
   units = units_short t (starts_from 0 code.lines) 0 code.lines is.lines;
   tries = tries_fit t code code.tries some le is.tries;
-  few = omega (arith, map_length (raw_try t (starts_from 0 code.lines)) code.tries, is.few);
+  few = omega (arith, length-map code.tries (raw_try t (starts_from 0 code.lines)), is.few);
 }
 
 maybe_code_fits : (t : Tables) (code : Option ListedCode) → 0 < length t.types → code_width code ≤ 8388608 → IfSome code CodeCanBeRead → IfSome (option_map (raw_code t) code) (CodeFits (length t.types))
@@ -135,26 +131,18 @@ superclass_below : (t : Tables) (superclass : Option (List ℕ)) → 0 < length 
 superclass_below t None some = tt
 superclass_below t (Some name) some = type_below t name some
 
-row_fits : (t : Tables) (field method total : ℕ) (c : ListedClass) → 0 < length t.types → ClassCanBeRead c → total + length (class_def t field method c).interfaces ≤ 4000000 → ClassRowFits (length t.types) total (class_def t field method c)
+row_fits : (t : Tables) (field method : ℕ) (c : ListedClass) → 0 < length t.types → ClassCanBeRead c → ClassRowFits (length t.types) (class_def t field method c)
 unfolding class_def
-row_fits t field method total c some is within = record {
+row_fits t field method c some is = record {
   class_below = type_below t c.name some;
   flags_fit = is.flags;
   superclass_below = superclass_below t c.superclass some;
   interfaces_below = indices_below t c.interfaces some;
-  within = within;
 }
 
-pub rows_fit : (t : Tables) (field method total : ℕ) (cs : List ListedClass) → 0 < length t.types → AllByRecursion ClassCanBeRead cs → total + sum_by interfaces_of (class_defs_from t field method cs) ≤ 4000000
-    → ClassesFit (length t.types) total (class_defs_from t field method cs)
-rows_fit t field method total [] some are within = tt
-rows_fit t field method total (c ∷ cs) some are within =
-    let d = class_def t field method c in
-    let later = class_defs_from t (field + length c.fields) (method + length c.methods) cs in
-    let split : sum_by interfaces_of (d ∷ later) ≡ length d.interfaces + sum_by interfaces_of later = sum_by-cons interfaces_of d later in (
-      row_fits t field method total c some are.0 (omega arith),
-      rows_fit t (field + length c.fields) (method + length c.methods) (total + length d.interfaces) cs some are.1 (omega arith),
-    )
+pub rows_fit : (t : Tables) (field method : ℕ) (cs : List ListedClass) → 0 < length t.types → AllByRecursion ClassCanBeRead cs → AllByRecursion (ClassRowFits (length t.types)) (class_defs_from t field method cs)
+rows_fit t field method [] some are = tt
+rows_fit t field method (c ∷ cs) some are = (row_fits t field method c some are.0, rows_fit t (field + length c.fields) (method + length c.methods) cs some are.1)
 
 -- ---- how much they are
 

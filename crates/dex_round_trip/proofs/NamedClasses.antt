@@ -1,5 +1,5 @@
 -- The rows of a listing's file say the listing's names.
-use Rattle.std.proofs.Common.{◌≡◌, ℕ, zero, suc, ◌+◌, Bool, true, false, cond, List, [], ◌∷◌, length, map, Option, Some, None, refl}
+use Rattle.std.proofs.Common.{◌≡◌, ℕ, ◌+◌, Bool, true, false, cond, List, [], ◌∷◌, length, map, Option, Some, None, refl}
 use Rattle.std.specs.Prelude.{IfSome, slice_get, filter}
 use Rattle.std.specs.Option.{option_map}
 use Rattle.std.specs.List.{AllByRecursion}
@@ -25,11 +25,7 @@ use Rattle.dex_round_trip.specs.Named.{IsString, IsTypeOf, EachPair, BothOrNone,
 use Rattle.dex_round_trip.proofs.Extensions.{nat_tells, list_tells, placed_row, HasString, HasType, HasTypes, HasProto}
 use Rattle.dex_round_trip.proofs.NamingSteps.{FieldNames, MethodNames, FieldThere, MethodThere}
 use Rattle.dex_round_trip.proofs.NamedRows.{FieldsAt, MethodsAt, ClassAt, ClassesAt, OperandThere, LineThere, TryThere, CodeThere, BodiesThere, AllBodiesThere, listing_at}
-
-get_map : {X Y : Type 0} (f : X → Y) (xs : List X) (i : ℕ) (x : X) → slice_get xs i ≡ Some x → slice_get (map f xs) i ≡ Some (f x)
-get_map f [] i x e = absurd cc
-get_map f (y ∷ ys) zero x e = let same : y ≡ x = cc in rw same refl
-get_map f (y ∷ ys) (suc i) x e = get_map f ys i x e
+use Rattle.vet_base.proofs.Lists.{slice_get-map_at}
 
 string_is : (t : Tables) (cs : List ClassDef) (name : List ℕ) → HasString t name → IsString (dex_value t cs) (string_index t name) name
 unfolding string_index
@@ -54,7 +50,7 @@ proto_is : (t : Tables) (cs : List ClassDef) (params : List (List ℕ)) (ret : L
 unfolding proto_row
 proto_is t cs params ret h = record {
   proto = proto_value (proto_row t params ret);
-  row = get_map proto_value t.protos (proto_index t params ret) (proto_row t params ret) (proto_at t params ret h);
+  row = slice_get-map_at proto_value t.protos (proto_index t params ret) (proto_row t params ret) (proto_at t params ret h);
   ret_is = type_is t cs ret h.ret_there;
   params_are = types_are t cs params h.params_there;
 }
@@ -63,7 +59,7 @@ field_is : (t : Tables) (cs : List ClassDef) (at : ℕ) (class name kind : List 
 unfolding field_row
 field_is t cs at class name kind names row = record {
   field = field_value (field_row t class name kind);
-  row = get_map field_value t.fields at (field_row t class name kind) row;
+  row = slice_get-map_at field_value t.fields at (field_row t class name kind) row;
   class_is = type_is t cs class names.class_there;
   kind_is = type_is t cs kind names.kind_there;
   name_is = string_is t cs name names.name_there;
@@ -74,7 +70,7 @@ method_is : (t : Tables) (cs : List ClassDef) (at : ℕ) (class name : List ℕ)
 unfolding method_row
 method_is t cs at class name params ret names row = record {
   method = method_value (method_row t class name params ret);
-  row = get_map method_value t.methods at (method_row t class name params ret) row;
+  row = slice_get-map_at method_value t.methods at (method_row t class name params ret) row;
   class_is = type_is t cs class names.class_there;
   proto_is = proto_is t cs params ret names.proto_is_there;
   name_is = string_is t cs name names.name_there;

@@ -5,7 +5,8 @@ use Rattle.std.specs.Ordering.{nat_cmp}
 use Rattle.dex_maker.specs.declared.tables.Tables.{Tables}
 use Rattle.dex_maker.specs.Rows.{with_row}
 use Rattle.dex_maker.specs.Tables.{list_cmp, string_index, type_index, shorty, proto_row, proto_index, field_row, method_row, with_string, add_type, with_type, with_types, add_proto, proto_types, with_proto, for_field, for_method, add_field, with_field, add_method, with_method, push_field, and_field, push_method, and_method}
-use Rattle.dex_round_trip.proofs.Extensions.{Prefix, prefix_same, Placed, nat_tells, list_tells, row_placed, row_prefix, get_end, Extends, extends_same, extends_more, HasString, HasType, HasTypes, HasProto, has_string, has_type, has_types, has_proto}
+use Rattle.dex_round_trip.proofs.Extensions.{Prefix, prefix_same, Placed, nat_tells, list_tells, row_placed, row_prefix, Extends, extends_same, extends_more, HasString, HasType, HasTypes, HasProto, has_string, has_type, has_types, has_proto}
+use Rattle.vet_base.proofs.Lists.{slice_get_push}
 
 -- extended by exactly so many fields and methods
 pub record Adds (f m : ℕ) (t u : Tables) : Type 0 where
@@ -255,7 +256,7 @@ and_field_pushed t class name kind =
     record {
       adds = adds_more 0 0 1 0 t u (push_field u row) ready.adds (record { extends = e; fields = length-append u.fields (row ∷ []); methods = omega arith });
       names = field_names u (push_field u row) class name kind e ready.names;
-      row = rw (same_field_row u rows class name kind, ← here) (get_end u.fields row);
+      row = rw (same_field_row u rows class name kind, ← here) (slice_get_push u.fields row);
     }
 
 pub record MethodPushed (t u : Tables) (class name : List ℕ) (params : List (List ℕ)) (ret : List ℕ) : Type 0 where
@@ -275,5 +276,5 @@ and_method_pushed t class name params ret =
     record {
       adds = adds_more 0 0 0 1 t u (push_method u row) ready.adds (record { extends = e; fields = omega arith; methods = length-append u.methods (row ∷ []) });
       names = method_names u (push_method u row) class name params ret e ready.names;
-      row = rw (same_method_row u rows class name params ret, ← here) (get_end u.methods row);
+      row = rw (same_method_row u rows class name params ret, ← here) (slice_get_push u.methods row);
     }

@@ -1,11 +1,16 @@
 -- What stands in a file is read there.
-use Rattle.std.proofs.Common.{◌≡◌, ℕ, zero, suc, ◌+◌, ◌*◌, ◌/◌, ◌%◌, ◌<◌, ◌≤◌, Bool, true, false, ltb, leb, List, ◌++◌, length, get_or, drop, Some, inl, inr, refl, sym, ap, ◌∙◌, append_assoc, length-append, arith}
-use Rattle.std.specs.Prelude.{◌⊎◌}
-use Rattle.std.proofs.lemmas.Bool.{lt-ltb, le-leb, le-ltb, ltb-false}
+use Rattle.std.proofs.Common.{◌≡◌, ℕ, zero, suc, ◌+◌, ◌*◌, ◌/◌, ◌%◌, ◌<◌, ◌≤◌, true, false, ltb, leb, List, ◌++◌, length, get_or, drop, Some, inl, inr, refl, sym, ap, ◌∙◌, append_assoc, length-append, arith}
+use Rattle.std.proofs.lemmas.Bool.{lt-ltb, le-leb, le-ltb, ltb-false, cases_Bool}
 use Rattle.std.proofs.lemmas.List.{get_or-append-add, drop_at}
 use Rattle.vet_base.specs.Numbers.{u2, u4, uleb, groups}
 use Rattle.dex_maker.specs.Bytes.{u2_bytes, u4_bytes, uleb_bytes, groups_of}
-use Rattle.dex_round_trip.proofs.TableLaws.{Stands}
+
+-- a piece of a file that begins at an offset
+pub record Stands (file : List ℕ) (at : ℕ) (piece : List ℕ) : Type 0 where
+  pub before : List ℕ
+  pub after : List ℕ
+  pub parts : file ≡ before ++ (piece ++ after)
+  pub place : length before ≡ at
 
 pub stands_front : (file : List ℕ) (at : ℕ) (a b : List ℕ) → Stands file at (a ++ b) → Stands file at a
 stands_front file at a b s = record { before = s.before; after = b ++ s.after; parts = s.parts ∙ ap (λ (x : List ℕ). s.before ++ x) (append_assoc a b s.after); place = s.place }
@@ -18,7 +23,7 @@ stands_back file at a b s = record {
   place = length-append s.before a ∙ ap (λ (n : ℕ). n + length a) s.place;
 }
 
-stands_within : (file : List ℕ) (at : ℕ) (piece : List ℕ) → Stands file at piece → at + length piece ≤ length file
+pub stands_within : (file : List ℕ) (at : ℕ) (piece : List ℕ) → Stands file at piece → at + length piece ≤ length file
 stands_within file at piece s = omega (arith, ap length s.parts, length-append s.before (piece ++ s.after), length-append piece s.after, s.place)
 
 byte_at : (file : List ℕ) (at k : ℕ) (piece : List ℕ) (s : Stands file at piece) → get_or file (at + k) 0 ≡ get_or (piece ++ s.after) k 0
@@ -49,10 +54,6 @@ abbrev pub reach : ℕ → ℕ
 reach zero = 128
 reach (suc more) = 128 * reach more
 
-went : (b : Bool) → (b ≡ true) ⊎ (b ≡ false)
-went true = inl refl
-went false = inr refl
-
 pub groups_read : (more n : ℕ) (rest : List ℕ) → n < reach more → n < 4294967296 → groups false (suc more) (groups_of more n ++ rest) ≡ Some (n, length (groups_of more n))
 unfolding groups groups_of
 groups_read zero n rest lt word =
@@ -60,7 +61,7 @@ groups_read zero n rest lt word =
     let low : ltb n 128 ≡ true = lt-ltb _ _ lt in
     rw (same, low) refl
 groups_read (suc more) n rest lt word =
-    elim (went (ltb n 128)) [
+    elim (cases_Bool (ltb n 128)) [
       | inl low ↦ rw (low, low) refl
       | inr high ↦
           let big : 128 ≤ n = ltb-false _ _ high in
@@ -102,15 +103,3 @@ stands_three file at a b c s =
       second = stands_back file at a b front;
       third = stands_moved file (at + length (a ++ b)) (at + length a + length b) c moved back;
     }
-
-pub stands_length : (file : List ℕ) (at : ℕ) (piece : List ℕ) → Stands file at piece → at + length piece ≤ length file
-stands_length = stands_within
-
--- the two bytes of a number
-pub u2_value : (file : List ℕ) (at n : ℕ) → n < 65536 → Stands file at (u2_bytes n) → get_or file at 0 + 256 * get_or file (at + 1) 0 ≡ n
-u2_value file at n lt s =
-    let zero-is : at ≡ at + 0 = omega arith in
-    let b0 : get_or file at 0 ≡ n % 256 = ap (λ (i : ℕ). get_or file i 0) zero-is ∙ byte_at file at 0 (u2_bytes n) s in
-    let b1 : get_or file (at + 1) 0 ≡ n / 256 % 256 = byte_at file at 1 (u2_bytes n) s in
-    let whole : n % 256 + 256 * (n / 256 % 256) ≡ n = omega arith in
-    rw (b0, b1, whole) refl

@@ -8,7 +8,6 @@ use Rattle.std.specs.Ordering.{is_eq, nat_cmp}
 use Rattle.dex_maker.specs.declared.tables.Tables.{Tables}
 use Rattle.dex_maker.specs.Rows.{place, with_row}
 use Rattle.dex_maker.specs.Tables.{list_cmp, string_index, type_index, letter, shorty, proto_row, proto_index, field_row, method_row, with_string, add_type, with_type, with_types, add_proto, proto_types, with_proto, for_field, for_method, add_field, with_field, add_method, with_method, push_field, and_field, push_method, and_method}
-use Rattle.dex_round_trip.proofs.TableLaws.{RowFits}
 use Rattle.dex_round_trip.specs.Listings.{IsName, AreNames}
 
 -- ---- lists of which each is so
@@ -61,6 +60,12 @@ row_some cmp [] row = omega arith
 row_some cmp (x ∷ xs) row = omega (arith, row_more cmp (x ∷ xs) row)
 
 -- ---- sound tables
+
+-- a row of three numbers below these sizes
+pub record RowFits (classes middle names : ℕ) (row : List ℕ) : Type 0 where
+  pub first : slice_index row 0 < classes
+  pub second : slice_index row 1 < middle
+  pub third : slice_index row 2 < names
 
 pub record ProtoStands (strings types : ℕ) (row : List ℕ) : Type 0 where
   pub shorty : slice_index row 0 < strings

@@ -3,7 +3,7 @@ use Rattle.std.proofs.Common.{◌≡◌, ℕ, ℤ, zero, suc, ◌+◌, ◌*◌, 
 use Rattle.std.specs.Prelude.{IfSome, IfNone, sum_by}
 use Rattle.std.specs.Int.{w32, cast_signed}
 use Rattle.std.specs.List.{AllByRecursion, flat_map}
-use Rattle.std.proofs.lemmas.Bool.{lt-ltb}
+use Rattle.std.proofs.lemmas.Bool.{lt-ltb, cases_Bool, eq-eqb}
 use Rattle.std.proofs.lemmas.Bool.Decides.{nat_tests}
 use Rattle.std.proofs.lemmas.List.Sums.{sum_by-cons}
 use Rattle.vet_base.specs.Numbers.{sleb, groups, last_group}
@@ -14,13 +14,11 @@ use Rattle.dex_reader.specs.Handlers.{pair_count, catches_all, handler_of, handl
 use Rattle.dex_reader.specs.Sequences.{RowsStand, Follow}
 use Rattle.dex_reader.specs.CodeStands.{IsPair, IsHandler, IsTryItem, AreTries, pairs_of, HasTries}
 use Rattle.dex_maker.specs.Bytes.{u2_bytes, u4_bytes, uleb_bytes, groups_of}
-use Rattle.dex_maker.specs.Placed.{pieces, rows_of}
-use Rattle.dex_maker.specs.CodeItem.{pair_bytes, handler_size, catch_all_bytes, handler_bytes, handler_piece, try_bytes, try_items, handlers_bytes}
-use Rattle.dex_round_trip.proofs.TableLaws.{Stands}
+use Rattle.dex_maker.specs.Placed.{rows_of}
+use Rattle.dex_maker.specs.CodeItem.{pair_bytes, handler_size, catch_all_bytes, handler_bytes, try_bytes, try_items, handlers_bytes}
 use Rattle.dex_round_trip.specs.Costs.{try_cost}
 use Rattle.dex_round_trip.proofs.Fits.{PairFits, TryFits}
-use Rattle.dex_round_trip.proofs.Standing.{stands_front, stands_back, stands_moved, stands_three, dropped, u2_reads, u4_reads, uleb_reads}
-use Rattle.dex_maker.proofs.Places.{went}
+use Rattle.dex_round_trip.proofs.Standing.{Stands, stands_front, stands_back, stands_moved, stands_three, dropped, u2_reads, u4_reads, uleb_reads}
 
 pub pairs_stand : (file : List ℕ) (types at : ℕ) (pairs : List (ℕ × ℕ)) → types ≤ 65536 → Stands file at (flat_map pair_bytes pairs) → AllByRecursion (PairFits types) pairs
     → Follow 0 (λ a b. a + b) (IsPair file types) at pairs (length pairs) (at + length (flat_map pair_bytes pairs))
@@ -165,18 +163,18 @@ handler_is : (file : List ℕ) (types at : ℕ) (t : RawTry) → types ≤ 65536
 unfolding handler_bytes
 handler_is file types at t few stand fit = handler_stands file types at t.handlers t.catch_all few stand fit.pairs fit.few fit.catch_all fit.handles
 
-pub handlers_follow : (file : List ℕ) (types at h : ℕ) (tries : List RawTry) → types ≤ 65536 → Stands file at (pieces handler_piece h tries) → AllByRecursion (TryFits types) tries
-    → Follow 0 (λ a b. a + b) (IsHandler file types) at (handler_values at tries) (handled tries) (at + length (pieces handler_piece h tries))
-handlers_follow file types at h [] few stand fit = (omega arith, refl)
-handlers_follow file types at h (t ∷ ts) few stand fit =
+pub handlers_follow : (file : List ℕ) (types at : ℕ) (tries : List RawTry) → types ≤ 65536 → Stands file at (flat_map handler_bytes tries) → AllByRecursion (TryFits types) tries
+    → Follow 0 (λ a b. a + b) (IsHandler file types) at (handler_values at tries) (handled tries) (at + length (flat_map handler_bytes tries))
+handlers_follow file types at [] few stand fit = (omega arith, refl)
+handlers_follow file types at (t ∷ ts) few stand fit =
     let b = handler_bytes t in
-    let rest = pieces handler_piece (h + length b) ts in
+    let rest = flat_map handler_bytes ts in
     let end : at + length (b ++ rest) ≡ at + length b + length rest = omega (arith, length-append b rest) in (
       at + length b,
       length t.handlers + 1,
       handled ts,
       handler_is file types at t few (stands_front file at b rest stand) fit.0,
-      rw end (handlers_follow file types (at + length b) (h + length b) ts few (stands_back file at b rest stand) fit.1),
+      rw end (handlers_follow file types (at + length b) ts few (stands_back file at b rest stand) fit.1),
       refl,
     )
 
@@ -186,7 +184,7 @@ abbrev pub item_values : ℕ → List RawTry → List TryItem
 item_values h [] = []
 item_values h (t ∷ ts) = record { start = t.start; count = t.count; handler = h } ∷ item_values (h + length (handler_bytes t)) ts
 
-pub items_stand : (file : List ℕ) (types at h : ℕ) (tries : List RawTry) → Stands file at (rows_of try_bytes handler_piece h tries) → h + length (pieces handler_piece h tries) < 65536
+pub items_stand : (file : List ℕ) (types at h : ℕ) (tries : List RawTry) → Stands file at (rows_of try_bytes handler_bytes h tries) → h + length (flat_map handler_bytes tries) < 65536
     → AllByRecursion (TryFits types) tries → RowsStand (IsTryItem file) 8 at (item_values h tries)
 unfolding try_bytes
 items_stand file types at h [] stand small fit = tt
@@ -195,8 +193,8 @@ items_stand file types at h (t ∷ ts) stand small fit =
     let s = u4_bytes t.start in
     let c = u2_bytes t.count in
     let o = u2_bytes h in
-    let rest = pieces handler_piece (h + length b) ts in
-    let later = rows_of try_bytes handler_piece (h + length b) ts in
+    let rest = flat_map handler_bytes ts in
+    let later = rows_of try_bytes handler_bytes (h + length b) ts in
     let sizes : h + length (b ++ rest) ≡ h + length b + length rest = omega (arith, length-append b rest) in
     let parts = stands_three file at s c o (stands_front file at (try_bytes h t) later stand) in
     let here : h < 65536 = omega (arith, sizes) in
@@ -218,12 +216,12 @@ pub handlers_length : (at : ℕ) (tries : List RawTry) → length (handler_value
 handlers_length at [] = refl
 handlers_length at (t ∷ ts) = ap (λ (n : ℕ). suc n) (handlers_length (at + length (handler_bytes t)) ts)
 
-pub items_bytes : (h : ℕ) (tries : List RawTry) → length (rows_of try_bytes handler_piece h tries) ≡ 8 * length tries
+pub items_bytes : (h : ℕ) (tries : List RawTry) → length (rows_of try_bytes handler_bytes h tries) ≡ 8 * length tries
 unfolding try_bytes
 items_bytes h [] = omega arith
 items_bytes h (t ∷ ts) =
     let rest = items_bytes (h + length (handler_bytes t)) ts in
-    omega (arith, length-append (try_bytes h t) (rows_of try_bytes handler_piece (h + length (handler_bytes t)) ts))
+    omega (arith, length-append (try_bytes h t) (rows_of try_bytes handler_bytes (h + length (handler_bytes t)) ts))
 
 -- ---- which handler is whose
 
@@ -233,12 +231,9 @@ AllBelow at hs = AllByRecursion (λ (h : Handler). h.at < at) hs
 other_at : (a b : ℕ) → a < b → eqb a b ≡ false
 other_at a b lt = grind (arith, nat_tests)
 
-same_at : (a : ℕ) → eqb a a ≡ true
-same_at a = grind (arith, nat_tests)
-
 found : (front : List Handler) (at : ℕ) (h : Handler) (rest : List Handler) → AllBelow at front → h.at ≡ at → handler_at at (front ++ h ∷ rest) ≡ Some h
 unfolding handler_at
-found [] at h rest all here = rw (here, same_at at) refl
+found [] at h rest all here = rw (here, eq-eqb at at refl) refl
 found (x ∷ front) at h rest all here = rw (other_at x.at at all.0) (found front at h rest all.1 here)
 
 below_more : (front : List Handler) (at next : ℕ) (h : Handler) → AllBelow at front → h.at ≡ at → at < next → AllBelow next (front ++ h ∷ [])
@@ -275,7 +270,7 @@ cost_parts (t ∷ ts) = omega (arith, cost_parts ts, sum_by-cons pairs_of t ts, 
 pub groups_short : (more n : ℕ) → length (groups_of more n) ≤ more + 1
 unfolding groups_of
 groups_short zero n = omega arith
-groups_short (suc more) n = elim (went (ltb n 128)) [ inl low ↦ rw low (omega arith) | inr high ↦ rw high (omega (arith, groups_short more (n / 128))) ]
+groups_short (suc more) n = elim (cases_Bool (ltb n 128)) [ inl low ↦ rw low (omega arith) | inr high ↦ rw high (omega (arith, groups_short more (n / 128))) ]
 
 pairs_short : (pairs : List (ℕ × ℕ)) → length (flat_map pair_bytes pairs) ≤ 10 * length pairs
 pairs_short [] = omega arith
@@ -292,12 +287,12 @@ pub handler_short : (t : RawTry) → length (handler_bytes t) ≤ 6 + 10 * lengt
 unfolding handler_bytes
 handler_short t = omega (arith, length-append (flat_map pair_bytes t.handlers) (catch_all_bytes t.catch_all), pairs_short t.handlers, catch_short t.catch_all)
 
-handlers_short : (types h : ℕ) (tries : List RawTry) → AllByRecursion (TryFits types) tries → length (pieces handler_piece h tries) ≤ 86 * length tries
-handlers_short types h [] fit = omega arith
-handlers_short types h (t ∷ ts) fit =
+handlers_short : (types : ℕ) (tries : List RawTry) → AllByRecursion (TryFits types) tries → length (flat_map handler_bytes tries) ≤ 86 * length tries
+handlers_short types [] fit = omega arith
+handlers_short types (t ∷ ts) fit =
     let b = handler_bytes t in
-    let rest = pieces handler_piece (h + length b) ts in
-    omega (arith, length-append b rest, handlers_short types (h + length b) ts fit.1, handler_short t, fit.0.few)
+    let rest = flat_map handler_bytes ts in
+    omega (arith, length-append b rest, handlers_short types ts fit.1, handler_short t, fit.0.few)
 
 -- tries with their handlers behind them
 pub tries_stand : (file : List ℕ) (types at : ℕ) (tries : List RawTry) → types ≤ 65536 → Stands file at (try_items tries ++ handlers_bytes tries) → AllByRecursion (TryFits types) tries → length tries ≤ 500
@@ -306,14 +301,14 @@ unfolding try_items handlers_bytes
 tries_stand file types at tries few stand fit short =
     let n = uleb_bytes (length tries) in
     let h = length n in
-    let items = rows_of try_bytes handler_piece h tries in
-    let list = pieces handler_piece h tries in
+    let items = rows_of try_bytes handler_bytes h tries in
+    let list = flat_map handler_bytes tries in
     let front = stands_front file at items (n ++ list) stand in
     let back = stands_back file at items (n ++ list) stand in
     let place : at + length items ≡ at + 8 * length (item_values h tries) = omega (arith, items_bytes h tries, items_length h tries) in
     let begin = at + 8 * length (item_values h tries) in
     let second = stands_moved file (at + length items) begin (n ++ list) place back in
-    let small : h + length list < 65536 = omega (arith, groups_short 4 (length tries), handlers_short types h tries fit) in
+    let small : h + length list < 65536 = omega (arith, groups_short 4 (length tries), handlers_short types tries fit) in
     let number : length tries < 4294967296 = omega arith in
     let count : length (handler_values (begin + h) tries) ≡ length tries = handlers_length (begin + h) tries in
     record {
@@ -324,7 +319,7 @@ tries_stand file types at tries few stand fit short =
       handled = handled tries;
       items_stand = items_stand file types at h tries front small fit;
       size_is = rw count (uleb_reads file begin (length tries) number (stands_front file begin n list second));
-      handlers_stand = handlers_follow file types (begin + h) h tries few (stands_back file begin n list second) fit;
+      handlers_stand = handlers_follow file types (begin + h) tries few (stands_back file begin n list second) fit;
       are = tries_are [] begin h (begin + h) tries refl tt;
       sum = sym (cost_parts tries) ∙ ap (λ (k : ℕ). k + handled tries + sum_by pairs_of tries) (sym (items_length h tries));
     }

@@ -3,6 +3,7 @@ ghost use Rattle.dex_maker.specs.declared.fault.MakeFault.TheVariants.{Memory as
 ghost use Rattle.dex_maker.specs.Made.{fault_of};
 ghost use Rattle.dex_round_trip.specs.Listings.{dex_of, CanBeRead};
 
+use crate::law::listings_read_again;
 use dex_maker::{Listing, MakeFault, make_dex};
 use dex_reader::{Dex, DexFault, read_dex};
 use std::alloc::Global;
@@ -27,6 +28,7 @@ pub fn read_back(alloc: Global, listing: &Listing) -> Result<Dex, MakeFault>
     ensures fault { IfErr result (λ e. (e ≡ want_of_memory) ⊎ (fault_of listing.now ≡ Some e)) }
 {
     let bytes = make_dex(alloc, listing)?;
+    listings_read_again();
     match read_dex(alloc, &bytes) {
         Ok(dex) => Ok(dex),
         Err(fault) => Err(memory_alone(fault)),

@@ -3,12 +3,12 @@ use dex_maker::{
     is_makeable, make_dex,
 };
 use dex_reader::read_dex;
-use std::alloc::{AllocError, Global};
+use std::alloc::Global;
 use std::test::*;
-use vet_base::{Name, Seq};
+use vet_base::{Memory, Name, Seq};
 
-fn name(alloc: Global, text: &str) -> Result<Name, AllocError> {
-    Ok(Name::new(text.as_bytes().to_vec(alloc)?))
+fn name(alloc: Global, text: &str) -> Result<Name, Memory> {
+    Name::from_bytes(alloc, text.as_bytes())
 }
 
 fn plain(
@@ -18,7 +18,7 @@ fn plain(
     literal: i64,
     operand: Operand,
     target: Option<u32>,
-) -> Result<ListedLine, AllocError> {
+) -> Result<ListedLine, Memory> {
     let registers = Seq::from_vec(registers.to_vec(alloc)?);
     Ok(ListedLine::Plain(opcode, registers, literal, operand, target))
 }
@@ -33,7 +33,7 @@ fn code(alloc: Global, registers: u16, ins: u16, lines: Vec<ListedLine>) -> List
 }
 
 /// `La/Main;`, which extends `Landroid/app/Activity;`, with an `onCreate` of this code.
-fn main_class(alloc: Global, code: ListedCode) -> Result<Listing, AllocError> {
+fn main_class(alloc: Global, code: ListedCode) -> Result<Listing, Memory> {
     let params = vec![in alloc; name(alloc, "Landroid/os/Bundle;")?]?;
     let method = ListedMethod {
         name: name(alloc, "onCreate")?,
@@ -101,7 +101,7 @@ fn a_literal_out_of_range_names_its_line(rt: HostRuntime) -> Result<(), Fail> {
 }
 
 /// A class of `int` fields, each static but the third and the fifth behind the first.
-fn class_of_fields(alloc: Global, count: u32) -> Result<Listing, AllocError> {
+fn class_of_fields(alloc: Global, count: u32) -> Result<Listing, Memory> {
     let mut fields = Vec::new(alloc);
     for i in 0..count {
         let flags = if i == 3 || i == 5 { 1 } else { 9 };
@@ -118,7 +118,7 @@ fn one_class(
     alloc: Global,
     interfaces: Seq<Name>,
     fields: Seq<ListedField>,
-) -> Result<Listing, AllocError> {
+) -> Result<Listing, Memory> {
     let class = ListedClass {
         name: name(alloc, "La/Main;")?,
         flags: 1,
@@ -153,7 +153,7 @@ fn differences_begin_anew_behind_static_fields(rt: HostRuntime) -> Result<(), Fa
 }
 
 /// So many names of `L`, four letters and `;`, no two of them alike.
-fn distinct_names(alloc: Global, count: u32) -> Result<Vec<Name>, AllocError> {
+fn distinct_names(alloc: Global, count: u32) -> Result<Vec<Name>, Memory> {
     let mut names = Vec::new(alloc);
     for i in 0..count {
         let text = [
@@ -164,7 +164,7 @@ fn distinct_names(alloc: Global, count: u32) -> Result<Vec<Name>, AllocError> {
             b'a' + (i % 16) as u8,
             b';',
         ];
-        names.push(Name::new(text.to_vec(alloc)?))?;
+        names.push(Name::from_bytes(alloc, &text)?)?;
     }
     Ok(names)
 }
