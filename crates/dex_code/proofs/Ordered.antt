@@ -10,6 +10,8 @@ use Rattle.std.proofs.lemmas.Map.Keys.{sorted_from_strictly_increasing, IsStrict
 use Rattle.std.proofs.lemmas.List.Sorted.{list_any-IsPermutation}
 use Rattle.std.proofs.lemmas.Bool.Decides.{nat_tests}
 use Rattle.dex_code.specs.Next.{insert_once, in_order}
+use Rattle.std.proofs.lemmas.Bool.{eq-eqb}
+use Rattle.std.proofs.Math.Bool.{or_comm}
 
 -- the number is a member
 abbrev mem : ℕ → List ℕ → Bool
@@ -26,9 +28,6 @@ Climbs (x ∷ xs) = AllAbove x xs × Climbs xs
 not_same : (m n : ℕ) → n < m → (m == n) ≡ false
 not_same m n lt = grind (arith, nat_tests)
 
-same : (m n : ℕ) → m ≡ n → (m == n) ≡ true
-same m n e = grind (arith, nat_tests)
-
 above_not : (n x : ℕ) (xs : List ℕ) → n ≤ x → AllAbove x xs → mem n xs ≡ false
 above_not n x [] le above = refl
 above_not n x (y ∷ ys) le above = rw (not_same y n (omega (arith, above.0))) (above_not n x ys le above.1)
@@ -36,7 +35,7 @@ above_not n x (y ∷ ys) le above = rw (not_same y n (omega (arith, above.0))) (
 -- the heads of climbing lists with the same members are not apart
 heads : (x y : ℕ) (xs ys : List ℕ) → AllAbove y ys → ((n : ℕ) → mem n (x ∷ xs) ≡ mem n (y ∷ ys)) → x < y → ⊥
 heads x y xs ys above members lt =
-    let there : mem x (x ∷ xs) ≡ true = rw (same x x refl) refl in
+    let there : mem x (x ∷ xs) ≡ true = rw (eq-eqb x x refl) refl in
     let not_there : mem x (y ∷ ys) ≡ false = rw (not_same y x lt) (above_not x y ys (omega arith) above) in
     let clash : true ≡ false = sym there ∙ members x ∙ not_there in
     absurd cc
@@ -47,8 +46,8 @@ tails_by n x xs ys false is above above' e = rw is at e
 
 same_climb : (xs ys : List ℕ) → Climbs xs → Climbs ys → ((n : ℕ) → mem n xs ≡ mem n ys) → xs ≡ ys
 same_climb [] [] a b members = refl
-same_climb [] (y ∷ ys) a b members = let clash : false ≡ true = members y ∙ rw (same y y refl) refl in absurd cc
-same_climb (x ∷ xs) [] a b members = let clash : true ≡ false = sym (rw (same x x refl) refl) ∙ members x in absurd cc
+same_climb [] (y ∷ ys) a b members = let clash : false ≡ true = members y ∙ rw (eq-eqb y y refl) refl in absurd cc
+same_climb (x ∷ xs) [] a b members = let clash : true ≡ false = sym (rw (eq-eqb x x refl) refl) ∙ members x in absurd cc
 same_climb (x ∷ xs) (y ∷ ys) a b members =
     let not_below : x < y → ⊥ = heads x y xs ys b.0 members in
     let not_above : y < x → ⊥ = heads y x ys xs a.0 (λ n. sym (members n)) in
@@ -154,12 +153,6 @@ mem_append n (x ∷ xs) ys = by_cases (x == n) (mem_append n xs ys)
     by_cases true later = refl
     by_cases false later = later
 
-either_way : (p q : Bool) → (p || q) ≡ (q || p)
-either_way true true = refl
-either_way true false = refl
-either_way false true = refl
-either_way false false = refl
-
 members_alone : (xs ys : List ℕ) → ((n : ℕ) → mem n xs ≡ mem n ys) → in_order xs ≡ in_order ys
 members_alone xs ys members = same_climb (in_order xs) (in_order ys) (climbs_in_order xs) (climbs_in_order ys) (λ n. mem_in_order n xs ∙ members n ∙ sym (mem_in_order n ys))
 
@@ -170,7 +163,7 @@ pub in_order-in_order : (xs : List ℕ) → in_order (in_order xs) ≡ in_order 
 in_order-in_order xs = members_alone (in_order xs) xs (λ n. mem_in_order n xs)
 
 pub in_order-swap : (xs ys : List ℕ) → in_order (xs ++ ys) ≡ in_order (ys ++ xs)
-in_order-swap xs ys = members_alone (xs ++ ys) (ys ++ xs) (λ n. mem_append n xs ys ∙ either_way (mem n xs) (mem n ys) ∙ sym (mem_append n ys xs))
+in_order-swap xs ys = members_alone (xs ++ ys) (ys ++ xs) (λ n. mem_append n xs ys ∙ or_comm (mem n xs) (mem n ys) ∙ sym (mem_append n ys xs))
 
 pub in_order-before : (xs ys zs : List ℕ) → in_order xs ≡ in_order ys → in_order (xs ++ zs) ≡ in_order (ys ++ zs)
 in_order-before xs ys zs e = members_alone (xs ++ zs) (ys ++ zs) (λ n. mem_append n xs zs ∙ ap (λ b. b || mem n zs) (same_members xs ys e n) ∙ sym (mem_append n ys zs))
