@@ -12,24 +12,10 @@ use Rattle.dex_code.specs.Insns.{is_payload, kind_of}
 use Rattle.dex_code.specs.Lines.{Line}
 use Rattle.dex_code.specs.Flow.{found, is_start, starts, all_start, distances_in, targets_stand}
 use Rattle.dex_code.specs.Tries.{handlers_start, catch_all_starts, try_stands, AllTriesStand}
-use Rattle.dex_code.specs.Next.{insert_once, in_order, targets_from, targets_of, first_start, following, next_of, covers, addresses, covering, catches_of}
+use Rattle.dex_code.specs.Next.{targets_from, targets_of, first_start, following, next_of, covers, addresses, covering, catches_of}
+use Rattle.dex_code.proofs.Ordered.{from_order}
 use Rattle.vet_base.proofs.Members.{in_either, list_all_in, from_map}
 use Rattle.std.proofs.lemmas.Bool.{and_parts, eqb-true}
-
-in_insert : (x k : ℕ) (xs : List ℕ) → In x (insert_once k xs) → (x ≡ k) ⊎ In x xs
-in_insert x k [] h = h
-in_insert x k (y ∷ ys) h = by_tests (nat_lt k y) (k == y) (in_insert x k ys) h
-  where
-    by_tests : (a b : Bool) → (In x (insert_once k ys) → (x ≡ k) ⊎ In x ys) → In x (cond a (k ∷ y ∷ ys) (cond b (y ∷ ys) (y ∷ insert_once k ys))) → (x ≡ k) ⊎ In x (y ∷ ys)
-    by_tests true b later h = h
-    by_tests false true later h = inr h
-    by_tests false false later (inl e) = inr (inl e)
-    by_tests false false later (inr j) = elim (later j) [ inl e ↦ inl e | inr i ↦ inr (inr i) ]
-
-in_ordered : (x : ℕ) (ns : List ℕ) → In x (in_order ns) → In x ns
-unfolding in_order
-in_ordered x [] h = h
-in_ordered x (n ∷ ns) h = elim (in_insert x n (in_order ns) h) [ inl e ↦ inl e | inr k ↦ inr (in_ordered x ns k) ]
 
 here : (b : Bool) (at pc : ℕ) (ns : List ℕ) → IsTrue (not b) → at ≡ pc → In pc (start_if b at ++ ns)
 here true at pc ns h e = absurd cc
@@ -88,7 +74,7 @@ module _ (lines : List Line) where
   pub next_there : (rest : List Line) (line : Line) (pc : ℕ) → IsTrue (targets_stand lines line.0 line.1) → ((n : ℕ) → In n (starts_of rest) → In n (starts_of lines)) → In pc (next_of lines line rest) → In pc (starts_of lines)
   unfolding next_of
   next_there rest line pc h behind k =
-      elim (in_either pc (targets_of lines line.0 line.1) (following (kind_of line.1) rest) (in_ordered pc (targets_of lines line.0 line.1 ++ following (kind_of line.1) rest) k)) [
+      elim (in_either pc (targets_of lines line.0 line.1) (following (kind_of line.1) rest) (from_order pc (targets_of lines line.0 line.1 ++ following (kind_of line.1) rest) k)) [
         | inl j ↦ targets_there line.0 line.1 pc h j
         | inr j ↦ behind pc (first_there rest pc (where_it_is (may_go_on (kind_of line.1)) (first_start rest) pc j))
       ]
@@ -125,4 +111,4 @@ module _ (lines : List Line) where
     -- by an exception
     pub catches_there : (tries : List RawTry) (at pc : ℕ) → AllTriesStand size lines tries → In pc (catches_of tries at) → In pc (starts_of lines)
     unfolding catches_of
-    catches_there tries at pc all k = covering_there tries at pc all (in_ordered pc (covering tries at) k)
+    catches_there tries at pc all k = covering_there tries at pc all (from_order pc (covering tries at) k)
