@@ -1,5 +1,5 @@
 -- Testing the lines, and the tries, one after the other.
-use Rattle.std.proofs.Common.{◌≡◌, ℕ, ◌+◌, ◌<◌, ◌≤◌, true, false, Result, Ok, Err, List, [], ◌∷◌, length, drop, get_or, refl, sym, ◌∙◌}
+use Rattle.std.proofs.Common.{◌≡◌, ℕ, ◌+◌, ◌<◌, ◌≤◌, true, false, Result, Ok, Err, List, [], length, drop, get_or, refl, sym, ◌∙◌}
 use Rattle.std.proofs.lemmas.List.{drop_all}
 use Rattle.vet_base.specs.declared.stop.Stop.{Stop}
 use Rattle.vet_base.specs.declared.stop.Stop.TheVariants as stops

@@ -1,6 +1,6 @@
 -- One sweep over the units gives the lines that stand end to end, and gives them wherever they stand so.
 use Rattle.std.proofs.Common.{◌≡◌, ℕ, zero, suc, ◌+◌, ◌<◌, ◌≤◌, Bool, true, false, Result, Ok, List, [], ◌∷◌, length, refl, sym, ap, subst, ◌∙◌, arith}
-use Rattle.std.specs.Prelude.{IsTrue, nat_lt, nat_le}
+use Rattle.std.specs.Prelude.{nat_lt}
 use Rattle.std.proofs.lemmas.Bool.Decides.{nat_tests}
 use Rattle.dalvik_formats.specs.declared.format.Format.{Format}
 use Rattle.dalvik_formats.specs.declared.format.Format.TheVariants as formats

@@ -1,6 +1,5 @@
 -- Where control goes in code that was tested, instructions start.
-use Rattle.std.proofs.Common.{◌≡◌, ℕ, ◌+◌, ℤ, Bool, true, false, cond, not, ◌&&◌, List, [], ◌∷◌, ◌++◌, map, Option, Some, None, option_to_list, nat_lt, nat_le, ◌==◌, IsTrue, refl, sym, subst, arith, ◌⊎◌, inl, inr}
-use Rattle.std.proofs.lemmas.Bool.Decides.{nat_tests}
+use Rattle.std.proofs.Common.{◌≡◌, ℕ, ◌+◌, ℤ, Bool, true, false, cond, not, ◌&&◌, List, [], ◌∷◌, ◌++◌, map, Option, Some, None, option_to_list, nat_le, ◌==◌, IsTrue, refl, sym, subst, inl, inr}
 use Rattle.dalvik_formats.specs.Layouts.{group_of, may_go_on}
 use Rattle.dex_reader.specs.declared.dex.RawTry.{RawTry}
 use Rattle.vet_base.specs.Members.{In}

@@ -1,7 +1,6 @@
 -- The tests of a method's code all hold exactly where the relation in words does.
-use Rattle.std.proofs.Common.{◌≡◌, ℕ, ◌+◌, ◌<◌, Bool, Result, Ok, Err, List, [], ◌∷◌, length, refl, sym, ap, subst, ◌∙◌, arith, ◌⊎◌, inl}
+use Rattle.std.proofs.Common.{◌≡◌, ℕ, ◌+◌, ◌<◌, Bool, Result, Ok, Err, List, [], ◌∷◌, length, refl, sym, ap, subst, ◌∙◌, ◌⊎◌, inl}
 use Rattle.std.specs.Prelude.{IsTrue, nat_lt, nat_le, ◌||◌}
-use Rattle.std.proofs.lemmas.Bool.Decides.{nat_tests}
 use Rattle.dex_reader.specs.declared.dex.RawCode.{RawCode}
 use Rattle.dex_reader.specs.declared.dex.RawTry.{RawTry}
 use Rattle.vet_base.specs.Script.{Script, Value, ◌>>=◌, test, run}

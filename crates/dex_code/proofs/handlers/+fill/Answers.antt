@@ -5,7 +5,6 @@ use Rattle.std.proofs.lemmas.Result.{on_ok_weaker}
 use Rattle.dex_reader.specs.declared.dex.RawTry.{RawTry}
 use Rattle.dex_code.specs.Lines.{Line}
 use Rattle.dex_code.specs.Handlers.{AddsCatches}
-use Rattle.dex_code.specs.Next.{in_order}
 use Rattle.dex_code.proofs.Ordered.{in_order-in_order}
 use Rattle.dex_code.proofs.Halves.{ascend_take, ascend_drop, halves, shared_by_all}
 use Rattle.dex_code.proofs.handlers.+fill.Goals as goal
