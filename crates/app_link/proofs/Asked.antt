@@ -8,26 +8,7 @@ use Rattle.app_machine.specs.declared.app.Class.{Class}
 use Rattle.vet_base.specs.Members.{first_given}
 use Rattle.app_machine.specs.Names.{Name}
 use Rattle.app_machine.specs.Lookups.{class_named}
-use Rattle.app_link.proofs.Throughs.{front}
-
-module _ {A B : Type 0} (f : A → Option B) (ys : List A) where
-  -- what the first of two lists gives, both give
-  pub given_first : (xs : List A) (y : B) → first_given f xs ≡ Some y → first_given f (xs ++ ys) ≡ Some y
-  given_first [] y is = absurd cc
-  given_first (x ∷ xs) y is = by_first (f x) (given_first xs y) is
-    where
-      by_first : (o : Option B) → (first_given f xs ≡ Some y → first_given f (xs ++ ys) ≡ Some y) → elim o as (λ (o : Option B). Option B) [ Some z ↦ Some z | None ↦ first_given f xs ] ≡ Some y → elim o as (λ (o : Option B). Option B) [ Some z ↦ Some z | None ↦ first_given f (xs ++ ys) ] ≡ Some y
-      by_first (Some z) later e = e
-      by_first None later e = later e
-
-  -- where the first gives nothing, the second one counts
-  pub given_behind : (xs : List A) → first_given f xs ≡ None → first_given f (xs ++ ys) ≡ first_given f ys
-  given_behind [] is = refl
-  given_behind (x ∷ xs) is = by_first (f x) (given_behind xs) is
-    where
-      by_first : (o : Option B) → (first_given f xs ≡ None → first_given f (xs ++ ys) ≡ first_given f ys) → elim o as (λ (o : Option B). Option B) [ Some z ↦ Some z | None ↦ first_given f xs ] ≡ None → elim o as (λ (o : Option B). Option B) [ Some z ↦ Some z | None ↦ first_given f (xs ++ ys) ] ≡ first_given f ys
-      by_first (Some z) later e = absurd cc
-      by_first None later e = later e
+use Rattle.vet_base.proofs.Lists.{drop_read}
 
 module _ {B : Type 0} (f : Class → Option B) (app : App) (names : List Name) where
   abbrev given : List Name → Option B
@@ -42,7 +23,7 @@ module _ {B : Type 0} (f : Class → Option B) (app : App) (names : List Name) w
 
   module _ (i : ℕ) (name : Name) (lt : i < length names) (item : name ≡ get_or names i name) (none : NoneAsked i) where
     at_name : (o : Option Class) → class_named app name ≡ o → given names ≡ first_given f (cons_option o (filter_map (class_named app) (drop (i + 1) names)))
-    at_name o is = none.rest ∙ (ap given (front names i name lt item) ∙ ap (λ (o : Option Class). first_given f (cons_option o (filter_map (class_named app) (drop (i + 1) names)))) is)
+    at_name o is = none.rest ∙ (ap given (drop_read names i name lt item) ∙ ap (λ (o : Option Class). first_given f (cons_option o (filter_map (class_named app) (drop (i + 1) names)))) is)
 
     pub asked_outside : class_named app name ≡ None → NoneAsked (i + 1)
     asked_outside absent = record { rest = at_name None absent }

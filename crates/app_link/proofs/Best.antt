@@ -8,21 +8,14 @@ use Rattle.std.proofs.lemmas.Cmp.{nat_list_cmp_total, tied_itself}
 use Rattle.app_machine.specs.declared.app.Class.{Class}
 use Rattle.app_machine.specs.Names.{Name}
 use Rattle.app_machine.specs.Sound.{name_order}
-use Rattle.app_model.proofs.Elements.{in_either}
 use Rattle.app_link.specs.Circle.{LeastAmong, comes_first}
 use Rattle.app_link.specs.Hierarchy.{Above}
+use Rattle.vet_base.proofs.Orders.{is_less, not_less}
+use Rattle.vet_base.proofs.Members.{in_either}
 
 -- one more of the names
 pub front_grows : (names : List Name) (i : ℕ) (name : Name) → i < length names → name ≡ get_or names i name → take (i + 1) names ≡ take i names ++ name ∷ []
 front_grows names i name lt item = take_more names i name lt ∙ ap (λ (n : Name). take i names ++ n ∷ []) (sym item)
-
-is_less : (o : Ordering) → is_lt o ≡ true → o ≡ Less
-is_less Less e = refl
-is_less Equal e = absurd cc
-is_less Greater e = absurd cc
-
-not_less : (o : Ordering) → is_lt o ≡ false → o ≡ Less → ⊥
-not_less o e less = let k : is_lt o ≡ true = ap is_lt less in absurd cc
 
 not_itself : (name : Name) → name_order name name ≡ Less → ⊥
 not_itself name less = let e : name_order name name ≡ Equal = tied_itself nat_list_cmp_total name in let both : Less ≡ Equal = sym less ∙ e in absurd cc

@@ -6,12 +6,12 @@ use Rattle.dex_code.specs.declared.decoder.Counts.{Counts}
 use Rattle.dex_code.specs.declared.decoder.Decoded.{Decoded}
 use Rattle.dex_code.specs.declared.fault.CodeFault.{CodeFault}
 use Rattle.dex_code.specs.Code.{decoding, IsCode, FirstFault}
-use Rattle.dex_code.proofs.Whole.{decodes}
-use Rattle.dex_code.proofs.Runs.{fails_first}
+use Rattle.dex_code.specs.CodeLaws.{CodeLaws}
 use Rattle.std.specs.Prelude.{List, Some}
 use Rattle.dex_reader.specs.declared.dex.Dex.{Dex}
 use Rattle.app_link.specs.declared.members.Place.{Place}
 use Rattle.app_link.specs.Code.{blamed, code_at, ShortCode, ShortCodes}
+use Rattle.vet_base.proofs.Runs.{fails_first}
 
 pub blamed_ok : {F G A : Type 0} (f : F → G) (s : Script F A) (x : A) → run s ≡ Ok x → run (blamed f s) ≡ Ok x
 blamed_ok f (Value y) x e = ap (λ r. elim r [ Ok z ↦ Ok z | Err _ ↦ Ok y ]) e
@@ -23,8 +23,8 @@ blamed_err f (Value y) e h = absurd cc
 blamed_err f (Test true fault rest) e h = blamed_err f rest e h
 blamed_err f (Test false fault rest) e h = let same : fault ≡ e = cc in ap (λ x. Err (f x)) same
 
-pub code_runs : {G : Type 0} (f : CodeFault → G) (code : RawCode) (counts : Counts) (decoded : Decoded) → IsCode code counts decoded → run (blamed f (decoding code counts)) ≡ Ok decoded
-code_runs f code counts decoded is = blamed_ok f (decoding code counts) decoded (decodes code counts decoded is)
+pub code_runs : {G : Type 0} (laws : CodeLaws) (f : CodeFault → G) (code : RawCode) (counts : Counts) (decoded : Decoded) → IsCode code counts decoded → run (blamed f (decoding code counts)) ≡ Ok decoded
+code_runs laws f code counts decoded is = blamed_ok f (decoding code counts) decoded ((laws.decoding code counts decoded).1 is)
 
 pub fault_runs : {G : Type 0} (f : CodeFault → G) (code : RawCode) (counts : Counts) (fault : CodeFault) → FirstFault code counts fault → run (blamed f (decoding code counts)) ≡ Err (f fault)
 unfolding FirstFault

@@ -17,7 +17,9 @@ use Rattle.app_link.specs.Orders.{named, has_name}
 use Rattle.app_link.specs.Settled.{Entries, Outers, AllSettled, filled_by, gives, given_to, listed}
 use Rattle.app_link.proofs.Firsts.{at_either}
 use Rattle.app_link.proofs.Frame.{found_in}
-use Rattle.app_link.proofs.Lookups.{eq_names, split, cond_true, cond_false, flat_map_same}
+use Rattle.std.proofs.lemmas.Bool.{cond-true, cond-false, cases_Bool}
+use Rattle.vet_base.proofs.Members.{flat_map_agree}
+use Rattle.vet_base.proofs.Texts.{tied_equal}
 
 -- these are filled, and then those that are left make the whole
 pub record Fills (outers : Outers) (front : List Class) (left : Entries) (whole : List Class) : Type 0 where
@@ -51,16 +53,16 @@ test_same a b = texts_ties a b ∙ at_either a b
 -- what a name among the classes gives
 gives_filled : (outers : Outers) (entries : Entries) (name : Name) → elim (class_among (map (filled_by outers) entries) name) [ None ↦ name ∷ [] | Some c ↦ c.outer ] ≡ outer_if outers name (lookup (is_at (name_order name)) entries)
 gives_filled outers [] name = refl
-gives_filled outers (e ∷ es) name = elim (split (same_name e.0 name)) [
+gives_filled outers (e ∷ es) name = elim (cases_Bool (same_name e.0 name)) [
   | inl same ↦ (
       let at : is_at (name_order name) e.0 ≡ true = sym (test_same e.0 name) ∙ same in
-      let k : name ≡ e.0 = eq_names name e.0 at in
-      let one : class_among (map (filled_by outers) (e ∷ es)) name ≡ Some (filled_by outers e) = cond_true (same_name e.0 name) (Some (filled_by outers e)) (class_among (map (filled_by outers) es) name) same in
+      let k : name ≡ e.0 = tied_equal name e.0 at in
+      let one : class_among (map (filled_by outers) (e ∷ es)) name ≡ Some (filled_by outers e) = cond-true (same_name e.0 name) (Some (filled_by outers e)) (class_among (map (filled_by outers) es) name) same in
       let two : lookup (is_at (name_order name)) (e ∷ es) ≡ Some e.1 = lookup_head (is_at (name_order name)) e es at in
       ap (λ (o : Option Class). elim o [ None ↦ name ∷ [] | Some c ↦ c.outer ]) one ∙ (ap (λ (n : Name). listed (named outers n)) (sym k) ∙ ap (outer_if outers name) (sym two)))
   | inr other ↦ (
       let at : is_at (name_order name) e.0 ≡ false = sym (test_same e.0 name) ∙ other in
-      let one : class_among (map (filled_by outers) (e ∷ es)) name ≡ class_among (map (filled_by outers) es) name = cond_false (same_name e.0 name) (Some (filled_by outers e)) (class_among (map (filled_by outers) es) name) other in
+      let one : class_among (map (filled_by outers) (e ∷ es)) name ≡ class_among (map (filled_by outers) es) name = cond-false (same_name e.0 name) (Some (filled_by outers e)) (class_among (map (filled_by outers) es) name) other in
       let two : lookup (is_at (name_order name)) (e ∷ es) ≡ lookup (is_at (name_order name)) es = lookup_tail (is_at (name_order name)) e es at in
       ap (λ (o : Option Class). elim o [ None ↦ name ∷ [] | Some c ↦ c.outer ]) one ∙ (gives_filled outers es name ∙ ap (outer_if outers name) (sym two)))
 ]
@@ -69,10 +71,10 @@ pub gives_as : (classes : Entries) (outers : Outers) (name : Name) (o : Option C
 unfolding gives
 gives_as classes outers name None e =
     let no : has_name classes name ≡ false = ap (λ (o : Option Class). is_some o) e in
-    sym (cond_false (has_name classes name) (listed (named outers name)) (name ∷ []) no)
+    sym (cond-false (has_name classes name) (listed (named outers name)) (name ∷ []) no)
 gives_as classes outers name (Some c) e =
     let yes : has_name classes name ≡ true = ap (λ (o : Option Class). is_some o) e in
-    sym (cond_true (has_name classes name) (listed (named outers name)) (name ∷ []) yes)
+    sym (cond-true (has_name classes name) (listed (named outers name)) (name ∷ []) yes)
 
 given_same : (outers : Outers) (entries : Entries) (name : Name) → given_by (map (filled_by outers) entries) name ≡ gives entries outers name
 unfolding given_by named
@@ -101,6 +103,6 @@ has_outers outers entries sorted all = record { each = λ c k. of_class c (from_
         let lists : named outers from.name ≡ Some (given_to entries outers from.class) = all.settled.lists from.name from.class there (all.all from.name known) in
         let one : c.outer ≡ listed (named outers from.name) = ap (λ (d : Class). d.outer) from.is in
         let two : listed (named outers from.name) ≡ given_to entries outers from.class = ap listed lists in
-        let same : flat_map (gives entries outers) (directly_above from.class) ≡ flat_map (given_by (map (filled_by outers) entries)) (directly_above from.class) = flat_map_same (gives entries outers) (given_by (map (filled_by outers) entries)) (directly_above from.class) (λ x j. sym (given_same outers entries x)) in
+        let same : flat_map (gives entries outers) (directly_above from.class) ≡ flat_map (given_by (map (filled_by outers) entries)) (directly_above from.class) = flat_map_agree (gives entries outers) (given_by (map (filled_by outers) entries)) (directly_above from.class) (λ x j. sym (given_same outers entries x)) in
         let three : given_to entries outers from.class ≡ firsts (flat_map (given_by (map (filled_by outers) entries)) (directly_above c)) = ap firsts same ∙ ap (λ (d : Class). firsts (flat_map (given_by (map (filled_by outers) entries)) (directly_above d))) (sym from.is) in
         one ∙ (two ∙ three)

@@ -7,16 +7,19 @@ use Rattle.std.proofs.lemmas.List.Folds.{list_any-append}
 use Rattle.vet_base.specs.Members.{In}
 use Rattle.app_machine.specs.Names.{Name}
 use Rattle.app_machine.specs.Sound.{name_order}
-use Rattle.app_model.proofs.Elements.{Apart, in_either, passes_if}
 use Rattle.app_link.specs.Hierarchy.{SameNames, add_once, is_among, firsts}
-use Rattle.app_link.proofs.FoldsOn.{fold_joined}
-use Rattle.app_link.proofs.Lookups.{eq_names, at_itself, cond_true, cond_false, split}
+use Rattle.app_link.proofs.Lookups.{at_itself}
+use Rattle.std.proofs.lemmas.List.Sums.{fold-append}
+use Rattle.std.proofs.lemmas.Bool.{cond-true, cond-false, cases_Bool}
+use Rattle.vet_base.proofs.Texts.{tied_equal}
+use Rattle.vet_base.proofs.Members.{in_either, passes_if}
+use Rattle.vet_base.proofs.Apart.{Apart}
 
 pub at_either : (a b : Name) → is_at (name_order a) b ≡ is_at (name_order b) a
-at_either a b = elim (split (is_at (name_order a) b)) [
-  | inl same ↦ (let e : a ≡ b = eq_names a b same in same ∙ sym (subst (λ (n : Name). is_at (name_order b) n ≡ true) (sym e) (at_itself b)))
-  | inr other ↦ elim (split (is_at (name_order b) a)) [
-    | inl same ↦ (let e : b ≡ a = eq_names b a same in let k : is_at (name_order a) b ≡ true = subst (λ (n : Name). is_at (name_order a) n ≡ true) (sym e) (at_itself a) in absurd cc)
+at_either a b = elim (cases_Bool (is_at (name_order a) b)) [
+  | inl same ↦ (let e : a ≡ b = tied_equal a b same in same ∙ sym (subst (λ (n : Name). is_at (name_order b) n ≡ true) (sym e) (at_itself b)))
+  | inr other ↦ elim (cases_Bool (is_at (name_order b) a)) [
+    | inl same ↦ (let e : b ≡ a = tied_equal b a same in let k : is_at (name_order a) b ≡ true = subst (λ (n : Name). is_at (name_order a) n ≡ true) (sym e) (at_itself a) in absurd cc)
     | inr apart ↦ other ∙ sym apart
   ]
 ]
@@ -51,20 +54,20 @@ module _ (seen seen_then names : List Name) (name : Name) (same : SameNames seen
   same_without old = record { each = λ q. adds q ∙ (kept q ∙ same.each q) }
     where
       kept : (q : Name) → cond (is_at (name_order name) q) true (is_among seen q) ≡ is_among seen q
-      kept q = elim (split (is_at (name_order name) q)) [
-        | inl here ↦ cond_true (is_at (name_order name) q) true (is_among seen q) here ∙ sym (subst (λ (n : Name). is_among seen n ≡ true) (eq_names name q here) old)
-        | inr other ↦ cond_false (is_at (name_order name) q) true (is_among seen q) other
+      kept q = elim (cases_Bool (is_at (name_order name) q)) [
+        | inl here ↦ cond-true (is_at (name_order name) q) true (is_among seen q) here ∙ sym (subst (λ (n : Name). is_among seen n ≡ true) (tied_equal name q here) old)
+        | inr other ↦ cond-false (is_at (name_order name) q) true (is_among seen q) other
       ]
 
 pub adds_new : (seen names : List Name) (name : Name) → SameNames seen names → is_among seen name ≡ false → names ++ name ∷ [] ≡ add_once names name
-adds_new seen names name same fresh = sym (cond_false (is_among names name) names (names ++ name ∷ []) (sym (same.each name) ∙ fresh))
+adds_new seen names name same fresh = sym (cond-false (is_among names name) names (names ++ name ∷ []) (sym (same.each name) ∙ fresh))
 
 pub adds_none : (seen names : List Name) (name : Name) → SameNames seen names → is_among seen name ≡ true → names ≡ add_once names name
-adds_none seen names name same old = sym (cond_true (is_among names name) names (names ++ name ∷ []) (sym (same.each name) ∙ old))
+adds_none seen names name same old = sym (cond-true (is_among names name) names (names ++ name ∷ []) (sym (same.each name) ∙ old))
 
 pub firsts_joined : (xs ys : List Name) → firsts (xs ++ ys) ≡ fold add_once (firsts xs) ys
 unfolding firsts
-firsts_joined xs ys = fold_joined add_once [] xs ys
+firsts_joined xs ys = fold-append add_once [] xs ys
 
 -- the second list begins with the first one
 pub record Begins (xs ys : List Name) : Type 0 where
@@ -90,9 +93,9 @@ begins_both xs ys a b =
     nothing (n ∷ ns) none = absurd (omega (arith, none))
 
 once_begins : (names : List Name) (name : Name) → Begins names (add_once names name)
-once_begins names name = elim (split (is_among names name)) [
-  | inl old ↦ subst (λ (ns : List Name). Begins names ns) (sym (cond_true (is_among names name) names (names ++ name ∷ []) old)) (begins_itself names)
-  | inr fresh ↦ record { rest = name ∷ []; is = cond_false (is_among names name) names (names ++ name ∷ []) fresh }
+once_begins names name = elim (cases_Bool (is_among names name)) [
+  | inl old ↦ subst (λ (ns : List Name). Begins names ns) (sym (cond-true (is_among names name) names (names ++ name ∷ []) old)) (begins_itself names)
+  | inr fresh ↦ record { rest = name ∷ []; is = cond-false (is_among names name) names (names ++ name ∷ []) fresh }
 ]
 
 -- more names stand behind those that were there
@@ -108,9 +111,9 @@ end_apart [] name apart new = (λ k. k, tt)
 end_apart (n ∷ ns) name apart new = (λ k. elim (in_either n ns (name ∷ []) k) [ inl j ↦ apart.0 j | inr (inl e) ↦ new (inl (sym e)) | inr (inr j) ↦ j ], end_apart ns name apart.1 (λ k. new (inr k)))
 
 once_apart : (names : List Name) (name : Name) → Apart names → Apart (add_once names name)
-once_apart names name apart = elim (split (is_among names name)) [
-  | inl old ↦ subst (λ (ns : List Name). Apart ns) (sym (cond_true (is_among names name) names (names ++ name ∷ []) old)) apart
-  | inr fresh ↦ subst (λ (ns : List Name). Apart ns) (sym (cond_false (is_among names name) names (names ++ name ∷ []) fresh)) (end_apart names name apart (λ k. is_there fresh (passes_if (is_at (name_order name)) names name k (at_itself name))))
+once_apart names name apart = elim (cases_Bool (is_among names name)) [
+  | inl old ↦ subst (λ (ns : List Name). Apart ns) (sym (cond-true (is_among names name) names (names ++ name ∷ []) old)) apart
+  | inr fresh ↦ subst (λ (ns : List Name). Apart ns) (sym (cond-false (is_among names name) names (names ++ name ∷ []) fresh)) (end_apart names name apart (λ k. is_there fresh (passes_if (is_at (name_order name)) names name k (at_itself name))))
 ]
   where
     is_there : is_among names name ≡ false → is_among names name ≡ true → ⊥
@@ -126,9 +129,9 @@ unfolding firsts
 firsts_apart names = adding_apart [] names tt
 
 in_once : (names : List Name) (name x : Name) → In x (add_once names name) → In x names ⊎ (x ≡ name)
-in_once names name x k = elim (split (is_among names name)) [
-  | inl old ↦ inl (subst (λ (ns : List Name). In x ns) (cond_true (is_among names name) names (names ++ name ∷ []) old) k)
-  | inr fresh ↦ elim (in_either x names (name ∷ []) (subst (λ (ns : List Name). In x ns) (cond_false (is_among names name) names (names ++ name ∷ []) fresh) k)) [
+in_once names name x k = elim (cases_Bool (is_among names name)) [
+  | inl old ↦ inl (subst (λ (ns : List Name). In x ns) (cond-true (is_among names name) names (names ++ name ∷ []) old) k)
+  | inr fresh ↦ elim (in_either x names (name ∷ []) (subst (λ (ns : List Name). In x ns) (cond-false (is_among names name) names (names ++ name ∷ []) fresh) k)) [
     | inl j ↦ inl j
     | inr (inl e) ↦ inr e
     | inr (inr j) ↦ absurd j

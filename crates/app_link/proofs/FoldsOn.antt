@@ -2,7 +2,8 @@
 use Rattle.std.proofs.Common.{◌≡◌, ℕ, ◌+◌, ◌<◌, ◌≤◌, List, [], ◌∷◌, ◌++◌, length, drop, get_or, refl, sym, ap, ◌∙◌}
 use Rattle.std.specs.Prelude.{fold, flat_map}
 use Rattle.std.proofs.lemmas.List.{drop_all}
-use Rattle.app_link.proofs.Throughs.{front}
+use Rattle.std.proofs.lemmas.List.Sums.{fold-append}
+use Rattle.vet_base.proofs.Lists.{drop_read}
 
 -- the value so far, and then the items from i on, make the whole
 pub record FoldsOnto {A B : Type 0} (f : B → A → B) (items : List A) (i : ℕ) (value whole : B) : Type 0 where
@@ -13,17 +14,13 @@ onto_begins f items value = record { is = refl }
 
 pub onto_goes_on : {A B : Type 0} (f : B → A → B) (items : List A) (i : ℕ) (x : A) (value whole : B) → i < length items → x ≡ get_or items i x → FoldsOnto f items i value whole → FoldsOnto f items (i + 1) (f value x) whole
 onto_goes_on f items i x value whole lt item so_far =
-    let k : drop i items ≡ x ∷ drop (i + 1) items = front items i x lt item in
+    let k : drop i items ≡ x ∷ drop (i + 1) items = drop_read items i x lt item in
     record { is = ap (fold f value) (sym k) ∙ so_far.is }
 
 pub onto_is_done : {A B : Type 0} (f : B → A → B) (items : List A) (i : ℕ) (value whole : B) → length items ≤ i → FoldsOnto f items i value whole → value ≡ whole
 onto_is_done f items i value whole le so_far =
     let k : drop i items ≡ [] = drop_all i items le in
     ap (fold f value) (sym k) ∙ so_far.is
-
-pub fold_joined : {A B : Type 0} (f : B → A → B) (value : B) (xs ys : List A) → fold f value (xs ++ ys) ≡ fold f (fold f value xs) ys
-fold_joined f value [] ys = refl
-fold_joined f value (x ∷ xs) ys = fold_joined f (f value x) xs ys
 
 -- the value so far, and then what the items from i on give, make the whole
 pub record FoldsEach {A B C : Type 0} (f : B → C → B) (give : A → List C) (items : List A) (i : ℕ) (value whole : B) : Type 0 where
@@ -34,8 +31,8 @@ each_begins f give items value = record { is = refl }
 
 pub each_goes_on : {A B C : Type 0} (f : B → C → B) (give : A → List C) (items : List A) (i : ℕ) (x : A) (value whole : B) → i < length items → x ≡ get_or items i x → FoldsEach f give items i value whole → FoldsEach f give items (i + 1) (fold f value (give x)) whole
 each_goes_on f give items i x value whole lt item so_far =
-    let k : drop i items ≡ x ∷ drop (i + 1) items = front items i x lt item in
-    record { is = sym (fold_joined f value (give x) (flat_map give (drop (i + 1) items))) ∙ (ap (λ (xs : List _). fold f value (flat_map give xs)) (sym k) ∙ so_far.is) }
+    let k : drop i items ≡ x ∷ drop (i + 1) items = drop_read items i x lt item in
+    record { is = sym (fold-append f value (give x) (flat_map give (drop (i + 1) items))) ∙ (ap (λ (xs : List _). fold f value (flat_map give xs)) (sym k) ∙ so_far.is) }
 
 pub each_is_done : {A B C : Type 0} (f : B → C → B) (give : A → List C) (items : List A) (i : ℕ) (value whole : B) → length items ≤ i → FoldsEach f give items i value whole → value ≡ whole
 each_is_done f give items i value whole le so_far =

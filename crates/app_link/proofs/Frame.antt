@@ -18,10 +18,12 @@ use Rattle.app_machine.specs.Names.{Name}
 use Rattle.vet_base.specs.Ascending.{Ascends}
 use Rattle.app_machine.specs.Sound.{name_order, class_order, IsAbove, directly, beyond}
 use Rattle.app_machine.specs.Lookups.{directly_above}
+use Rattle.vet_base.proofs.Members.{each_in}
 use Rattle.app_link.specs.Orders.{named, has_name}
 use Rattle.app_link.specs.Hierarchy.{Above, NoCircle, without_outer, renamed}
 use Rattle.app_link.specs.Hierarchy as hierarchy
-use Rattle.app_link.proofs.Lookups.{split, eq_names}
+use Rattle.std.proofs.lemmas.Bool.{cases_Bool}
+use Rattle.vet_base.proofs.Texts.{tied_equal}
 
 -- names that stand in strict order
 ascend_by_name : (list : List Class) → IsStrictlySortedBy name_order (map (λ (c : Class). c.name) list) → Ascends class_order list
@@ -67,14 +69,6 @@ in_keys [] name x k = absurd k
 in_keys (e ∷ es) name x (inl k) = inl (ap (λ (p : Name × _). p.0) k)
 in_keys (e ∷ es) name x (inr k) = inr (in_keys es name x k)
 
-all_in : (P : Name → Type 0) (names : List Name) (name : Name) → AllByRecursion P names → In name names → P name
-all_in P [] name all k = absurd k
-all_in P (n ∷ ns) name all (inl k) = subst P (sym k) all.0
-all_in P (n ∷ ns) name all (inr k) = all_in P ns name all.1 k
-
-not_equal : (o : Ordering) → o ≡ Greater → is_eq o ≡ false
-not_equal o e = rw e refl
-
 -- in an ordered list the entry of a name is what is found
 pub found_in : {X : Type 0} (entries : List (Name × X)) (name : Name) (x : X) → IsStrictlySortedBy name_order (keys_of entries) → In (name, x) entries → named entries name ≡ Some x
 unfolding named
@@ -85,9 +79,9 @@ found_in {X = X} (e ∷ es) name x sorted (inl k) =
     let tie : is_at (name_order name) e.0 ≡ true = ap (λ (n : Name). is_eq (name_order name n)) (sym same) ∙ ap is_eq (tied_itself nat_list_cmp_total name) in
     lookup_head (is_at (name_order name)) e es tie ∙ ap (λ (y : X). Some y) (sym value)
 found_in (e ∷ es) name x sorted (inr k) =
-    let less : name_order e.0 name ≡ Less = all_in (λ y. name_order e.0 y ≡ Less) (keys_of es) name (sorted_head name_order e.0 (keys_of es) sorted) (in_keys es name x k) in
+    let less : name_order e.0 name ≡ Less = each_in (λ y. name_order e.0 y ≡ Less) (keys_of es) name (sorted_head name_order e.0 (keys_of es) sorted) (in_keys es name x k) in
     let greater : name_order name e.0 ≡ Greater = rw (nat_list_cmp_total.antisymm name e.0, less) refl in
-    let differs : is_at (name_order name) e.0 ≡ false = not_equal (name_order name e.0) greater in
+    let differs : is_at (name_order name) e.0 ≡ false = ap is_eq greater in
     lookup_tail (is_at (name_order name)) e es differs ∙ found_in es name x (sorted_tail name_order e.0 (keys_of es) sorted) k
 
 module _ (app : App) (entries : List (Name × Class)) (same : map without_outer app.classes ≡ map renamed entries) (sorted : IsStrictlySortedBy name_order (keys_of entries)) where
@@ -104,10 +98,10 @@ module _ (app : App) (entries : List (Name × Class)) (same : map without_outer 
 named_there : (list : List Class) (entries : List (Name × Class)) (name : Name) → map without_outer list ≡ map renamed entries → IsTrue (is_some (lookup (is_at (name_order name)) entries)) → (k : Class) × In k list × (k.name ≡ name)
 named_there list [] name same h = absurd cc
 named_there [] (e ∷ es) name same h = absurd cc
-named_there (c ∷ cs) (e ∷ es) name same h = elim (split (is_at (name_order name) e.0)) [
+named_there (c ∷ cs) (e ∷ es) name same h = elim (cases_Bool (is_at (name_order name) e.0)) [
   | inl here ↦ (
       let first : without_outer c ≡ renamed e = cc in
-      let k : name ≡ e.0 = eq_names name e.0 here in
+      let k : name ≡ e.0 = tied_equal name e.0 here in
       let n : c.name ≡ e.0 = ap (λ (d : Class). d.name) first in
       (c, inl refl, n ∙ sym k))
   | inr other ↦ (

@@ -17,16 +17,11 @@ use Rattle.app_link.specs.Frame.{IsFrame}
 use Rattle.app_link.proofs.Frame.{classes_ascend, no_circle, class_of_entry}
 use Rattle.app_link.proofs.KeyOrder.{instances, are_keys, instances_ascend, few_keys}
 use Rattle.app_link.proofs.Keeps.{first_alone}
-
-same_length : {A B C : Type 0} (f : A → C) (g : B → C) (xs : List A) (ys : List B) → map f xs ≡ map g ys → length xs ≡ length ys
-same_length f g [] [] e = refl
-same_length f g [] (y ∷ ys) e = absurd cc
-same_length f g (x ∷ xs) [] e = absurd cc
-same_length f g (x ∷ xs) (y ∷ ys) e = let others : map f xs ≡ map g ys = cc in let h : length xs ≡ length ys = same_length f g xs ys others in omega (arith, h)
+use Rattle.vet_base.proofs.Lists.{length_maps}
 
 module _ (entries : List (Name × Class)) (fields : Fields) (app : App) (frame : IsFrame entries fields app) where
   classes_short : length app.classes < 4294967296
-  classes_short = let h : length app.classes ≡ length entries = same_length without_outer renamed app.classes entries frame.classes in let k : length entries < 4294967296 = frame.few_classes in omega (arith, h, k)
+  classes_short = let h : length app.classes ≡ length entries = length_maps without_outer renamed app.classes entries frame.classes in let k : length entries < 4294967296 = frame.few_classes in omega (arith, h, k)
 
   keys_short : length app.keys < 4294967296
   keys_short = let h : length (all_keys fields) ≤ 1 + length fields = few_keys fields in let k : length fields < 4294967295 = frame.few_fields in let e : length app.keys ≡ length (all_keys fields) = ap length frame.keys in omega (arith, h, k, e)

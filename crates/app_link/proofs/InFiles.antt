@@ -7,13 +7,11 @@ use Rattle.std.specs.Map.{keys_of}
 use Rattle.std.proofs.lemmas.Cmp.{nat_list_cmp_total}
 use Rattle.std.proofs.lemmas.List.{append-nil}
 use Rattle.std.proofs.lemmas.Map.Entries.{lookup_head, lookup_tail}
-use Rattle.vet_base.specs.Script.{Script, Value, Test, ◌>>=◌, run}
+use Rattle.vet_base.specs.Script.{Script, Value, Test, ◌>>=◌, run, through}
 use Rattle.dex_reader.specs.declared.dex.Dex.{Dex}
 use Rattle.dex_reader.specs.declared.dex.ClassDef.{ClassDef}
 use Rattle.dex_reader.specs.declared.dex.Member.{Member}
 use Rattle.dex_reader.specs.declared.dex.Body.{Body}
-use Rattle.dex_reader.proofs.Readings.{bind_runs}
-use Rattle.dex_code.proofs.Runs.{first_gave, passed, passes}
 use Rattle.app_machine.specs.declared.app.Class.{Class}
 use Rattle.app_machine.specs.declared.component.Kind.{Kind}
 use Rattle.app_machine.specs.declared.component.Component.{Component}
@@ -28,16 +26,17 @@ use Rattle.app_link.specs.declared.members.Listed.{Listed}
 use Rattle.app_link.specs.Texts.{Triple, type_of}
 use Rattle.app_link.specs.Orders.{triple_order, named, has_name, with_name, named_triple, with_triple}
 use Rattle.app_link.specs.Classes.{class_row, dex_classes, all_classes}
-use Rattle.app_link.specs.MemberRows.{Fields, Methods, second, one_field, some_fields, one_method, some_methods, class_members, dex_members, all_members}
+use Rattle.app_link.specs.MemberRows.{Fields, Methods, second, one_field, some_fields, first_of, one_method, nth_method, some_methods, class_members, dex_members, all_members}
 use Rattle.app_link.specs.Components.{kind_of, of_kind, component_of, application_of, components_of, one_component, component_row, component_rows, application_row, all_components}
 use Rattle.app_link.specs.Gathered.{Gathered, AreGathered, gathering}
 use Rattle.app_link.specs.InFiles.{class_entry, classes_of, classes_in, field_entry, class_fields, fields_of, fields_in, method_entry, class_methods, methods_of, methods_in}
-use Rattle.app_link.specs.Through.{through}
-use Rattle.app_link.proofs.Keeps.{same_value}
-use Rattle.app_link.proofs.Lookups.{split, eq_names, at_itself}
-use Rattle.app_link.proofs.Passes.{IsPass, pass_on, through_pass, AreBoth, both_as, two_and_two, through_both}
+use Rattle.app_link.proofs.Lookups.{at_itself}
+use Rattle.app_link.proofs.Passes.{IsPass, pass_on, each_pass, through_pass, AreBoth, both_as, two_and_two, through_both}
 use Rattle.app_link.proofs.Places.{triple_total}
 use Rattle.app_link.proofs.PutIn.{putting, putting_joined, put_ordered, ordered_put}
+use Rattle.vet_base.proofs.Runs.{value_is, test_ok, test_passes, bind_ok, bind_runs}
+use Rattle.std.proofs.lemmas.Bool.{cases_Bool}
+use Rattle.vet_base.proofs.Texts.{tied_equal}
 
 abbrev put_classes : List (Name × Class) → List (Name × Class) → Script Fault (List (Name × Class))
 put_classes = putting name_order nat_list_cmp_total TwoClasses
@@ -51,37 +50,37 @@ classes_pass = record { none = λ s. refl; joined = putting_joined name_order na
 members_pass : (X : Type 0) → IsPass (put_members {X = X})
 members_pass X = record { none = λ s. refl; joined = putting_joined triple_order triple_total second }
 
-one_class : (dex : Dex) (i : ℕ) (def : ClassDef) (s : List (Name × Class)) → class_row dex i def s ≡ put_classes (class_entry dex def ∷ []) s
+one_class : (dex : Dex) (def : ClassDef) (s : List (Name × Class)) → class_row dex def s ≡ put_classes (class_entry dex def ∷ []) s
 unfolding class_row class_entry with_name named
-one_class dex i def s = refl
+one_class dex def s = refl
 
-file_classes : (i : ℕ) (dex : Dex) (s : List (Name × Class)) → dex_classes i dex s ≡ put_classes (classes_of dex) s
+file_classes : (dex : Dex) (s : List (Name × Class)) → dex_classes dex s ≡ put_classes (classes_of dex) s
 unfolding dex_classes classes_of
-file_classes i dex s = through_pass put_classes classes_pass (class_row dex) (λ j def. class_entry dex def ∷ []) (λ j defs. map (class_entry dex) defs) (λ j. refl) (λ j def defs. refl) (one_class dex) 0 dex.classes s
+file_classes dex s = each_pass put_classes classes_pass (class_row dex) (λ def. class_entry dex def ∷ []) (map (class_entry dex)) refl (λ def defs. refl) (one_class dex) dex.classes s
 
 classes_put : (dexes : List Dex) → all_classes dexes ≡ put_classes (classes_in dexes) []
 unfolding all_classes classes_in
-classes_put dexes = through_pass put_classes classes_pass dex_classes (λ j dex. classes_of dex) (λ j files. flat_map classes_of files) (λ j. refl) (λ j dex files. refl) file_classes 0 dexes []
+classes_put dexes = each_pass put_classes classes_pass dex_classes classes_of (flat_map classes_of) refl (λ dex files. refl) file_classes dexes []
 
-field_put : (dex : Dex) (class : Name) (static : Bool) (i : ℕ) (member : Member) (s : Fields) → one_field dex class static i member s ≡ put_members (field_entry dex class static member ∷ []) s
+field_put : (dex : Dex) (class : Name) (static : Bool) (member : Member) (s : Fields) → one_field dex class static member s ≡ put_members (field_entry dex class static member ∷ []) s
 unfolding one_field field_entry with_triple named_triple
-field_put dex class static i member s = refl
+field_put dex class static member s = refl
 
 some_fields_put : (dex : Dex) (class : Name) (static : Bool) (members : List Member) (s : Fields) → some_fields dex class static members s ≡ put_members (map (field_entry dex class static) members) s
 unfolding some_fields
 some_fields_put dex class static members s =
-    through_pass put_members (members_pass Bool) (one_field dex class static) (λ j member. field_entry dex class static member ∷ []) (λ j ms. map (field_entry dex class static) ms) (λ j. refl) (λ j m ms. refl) (field_put dex class static) 0 members s
+    each_pass put_members (members_pass Bool) (one_field dex class static) (λ member. field_entry dex class static member ∷ []) (map (field_entry dex class static)) refl (λ m ms. refl) (field_put dex class static) members s
 
 method_put : (file : ℕ × Dex) (class : ℕ × ClassDef) (is_virtual : Bool) (i : ℕ) (body : Body) (s : Methods)
-    → one_method file.1 (type_of file.1 class.1.class) (file.0, class.0) is_virtual i body s ≡ put_members (method_entry file class is_virtual (i, body) ∷ []) s
+    → nth_method file.1 (type_of file.1 class.1.class) (first_of file.0 class.0 is_virtual) i body s ≡ put_members (method_entry file class is_virtual (i, body) ∷ []) s
 unfolding one_method method_entry with_triple named_triple
 method_put file class is_virtual i body s = refl
 
 some_methods_put : (file : ℕ × Dex) (class : ℕ × ClassDef) (is_virtual : Bool) (bodies : List Body) (s : Methods)
-    → some_methods file.1 (type_of file.1 class.1.class) (file.0, class.0) is_virtual bodies s ≡ put_members (map (method_entry file class is_virtual) (enumerate_from 0 bodies)) s
+    → some_methods file.1 (type_of file.1 class.1.class) (first_of file.0 class.0 is_virtual) bodies s ≡ put_members (map (method_entry file class is_virtual) (enumerate_from 0 bodies)) s
 unfolding some_methods
 some_methods_put file class is_virtual bodies s =
-    through_pass put_members (members_pass Listed) (one_method file.1 (type_of file.1 class.1.class) (file.0, class.0) is_virtual) (λ j body. method_entry file class is_virtual (j, body) ∷ [])
+    through_pass put_members (members_pass Listed) (nth_method file.1 (type_of file.1 class.1.class) (first_of file.0 class.0 is_virtual)) (λ j body. method_entry file class is_virtual (j, body) ∷ [])
     (λ j bs. map (method_entry file class is_virtual) (enumerate_from j bs)) (λ j. refl) (λ j b bs. refl) (method_put file class is_virtual) 0 bodies s
 
 class_put : (file : ℕ × Dex) (c : ℕ) (def : ClassDef) (a : Fields) (b : Methods)
@@ -92,12 +91,12 @@ class_put file c def a b =
     let class : Name = type_of dex def.class in
     both_as (class_members file.0 dex c def (a, b))
     (some_fields dex class true def.statics a >>= some_fields dex class false def.instances) (put_members (class_fields dex def) a)
-    (some_methods dex class (file.0, c) false def.directs b >>= some_methods dex class (file.0, c) true def.virtuals) (put_members (class_methods file (c, def)) b)
-    (two_and_two (some_fields dex class true def.statics a) (some_fields dex class false def.instances) (some_methods dex class (file.0, c) false def.directs b) (some_methods dex class (file.0, c) true def.virtuals))
+    (some_methods dex class (first_of file.0 c false) def.directs b >>= some_methods dex class (first_of file.0 c true) def.virtuals) (put_members (class_methods file (c, def)) b)
+    (two_and_two (some_fields dex class true def.statics a) (some_fields dex class false def.instances) (some_methods dex class (first_of file.0 c false) def.directs b) (some_methods dex class (first_of file.0 c true) def.virtuals))
     (pass_on put_members (members_pass Bool) (map (field_entry dex class true) def.statics) (map (field_entry dex class false) def.instances) a (some_fields dex class true def.statics a) (some_fields dex class false def.instances)
     (some_fields_put dex class true def.statics a) (some_fields_put dex class false def.instances))
     (pass_on put_members (members_pass Listed) (map (method_entry file (c, def) false) (enumerate_from 0 def.directs)) (map (method_entry file (c, def) true) (enumerate_from 0 def.virtuals)) b
-    (some_methods dex class (file.0, c) false def.directs b) (some_methods dex class (file.0, c) true def.virtuals) (some_methods_put file (c, def) false def.directs b) (some_methods_put file (c, def) true def.virtuals))
+    (some_methods dex class (first_of file.0 c false) def.directs b) (some_methods dex class (first_of file.0 c true) def.virtuals) (some_methods_put file (c, def) false def.directs b) (some_methods_put file (c, def) true def.virtuals))
 
 file_put : (d : ℕ) (dex : Dex) (a : Fields) (b : Methods) → AreBoth (dex_members d dex (a, b)) (put_members (fields_of dex) a) (put_members (methods_of (d, dex)) b)
 unfolding dex_members fields_of methods_of
@@ -122,8 +121,8 @@ members_put dexes =
 there_from : {X : Type 0} (entries : List (Name × X)) (name : Name) → IsTrue (has_name entries name) → In name (keys_of entries)
 unfolding named
 there_from [] name h = absurd cc
-there_from (e ∷ es) name h = elim (split (is_at (name_order name) e.0)) [
-  | inl here ↦ inl (eq_names name e.0 here)
+there_from (e ∷ es) name h = elim (cases_Bool (is_at (name_order name) e.0)) [
+  | inl here ↦ inl (tied_equal name e.0 here)
   | inr other ↦ inr (there_from es name (subst (λ (o : Option _). IsTrue (is_some o)) (lookup_tail (is_at (name_order name)) e es other) h))
 ]
 
@@ -131,7 +130,7 @@ there_to : {X : Type 0} (entries : List (Name × X)) (name : Name) → In name (
 unfolding named
 there_to [] name k = absurd k
 there_to (e ∷ es) name (inl same) = rw (lookup_head (is_at (name_order name)) e es (ap (is_at (name_order name)) (sym same) ∙ at_itself name)) refl
-there_to (e ∷ es) name (inr k) = elim (split (is_at (name_order name) e.0)) [
+there_to (e ∷ es) name (inr k) = elim (cases_Bool (is_at (name_order name) e.0)) [
   | inl here ↦ rw (lookup_head (is_at (name_order name)) e es here) refl
   | inr other ↦ rw (lookup_tail (is_at (name_order name)) e es other) (there_to es name k)
 ]
@@ -154,9 +153,9 @@ module _ (classes : List (Name × Class)) where
   kind_listed None name s = refl
   kind_listed (Some kind) name s = refl
 
-  row_listed : (i : ℕ) (row : Word × Name) (s : List Component) → component_row classes i row s ≡ listing (option_to_list (component_of row)) s
+  row_listed : (row : Word × Name) (s : List Component) → component_row classes row s ≡ listing (option_to_list (component_of row)) s
   unfolding component_row component_of
-  row_listed i row s = kind_listed (kind_of row.0) row.1 s
+  row_listed row s = kind_listed (kind_of row.0) row.1 s
 
   filtered : (o : Option Component) (rows : List (Word × Name)) (row : Word × Name) → component_of row ≡ o → filter_map component_of (row ∷ rows) ≡ option_to_list (component_of row) ++ filter_map component_of rows
   filtered None rows row e = rw e refl
@@ -169,7 +168,7 @@ module _ (classes : List (Name × Class)) where
 
   rows_listed : (rows : List (Word × Name)) (s : List Component) → component_rows classes rows s ≡ listing (filter_map component_of rows) s
   unfolding component_rows
-  rows_listed rows s = through_pass listing listing_pass (component_row classes) (λ j row. option_to_list (component_of row)) (λ j rows. filter_map component_of rows) (λ j. refl) (λ j row rows. filtered (component_of row) rows row refl) row_listed 0 rows s
+  rows_listed rows s = each_pass listing listing_pass (component_row classes) (λ row. option_to_list (component_of row)) (filter_map component_of) refl (λ row rows. filtered (component_of row) rows row refl) row_listed rows s
 
   components_listed : (manifest : Manifest) → all_components classes manifest ≡ listing (components_of manifest) []
   unfolding all_components components_of
@@ -180,9 +179,9 @@ module _ (classes : List (Name × Class)) where
   AreKnown cs = (c : Component) → In c cs → In c.class (keys_of classes)
 
   listed_stand : (cs s t : List Component) → run (listing cs s) ≡ Ok t → (t ≡ s ++ cs) × AreKnown cs
-  listed_stand [] s t e = (sym (append-nil s ∙ same_value {F = Fault} s t e), λ c k. absurd k)
+  listed_stand [] s t e = (sym (append-nil s ∙ value_is {F = Fault} s t e), λ c k. absurd k)
   listed_stand (x ∷ xs) s t e =
-      let first = passed (has_name classes x.class) (NoClass x.class) (listing xs (s ++ x ∷ [])) t e in
+      let first = test_ok (has_name classes x.class) (NoClass x.class) (listing xs (s ++ x ∷ [])) t e in
       let rest = listed_stand xs (s ++ x ∷ []) t first.1 in (
         rest.0 ∙ append_assoc s (x ∷ []) xs,
         λ c k. elim k [
@@ -194,7 +193,7 @@ module _ (classes : List (Name × Class)) where
   listed_run : (cs s : List Component) → AreKnown cs → run (listing cs s) ≡ Ok (s ++ cs)
   listed_run [] s known = ap (λ (ds : List Component). Ok ds) (sym (append-nil s))
   listed_run (x ∷ xs) s known =
-      passes (has_name classes x.class) (NoClass x.class) (listing xs (s ++ x ∷ [])) (there_to classes x.class (known x (inl refl)))
+      test_passes (has_name classes x.class) (NoClass x.class) (listing xs (s ++ x ∷ [])) (there_to classes x.class (known x (inl refl)))
       ∙ (listed_run xs (s ++ x ∷ []) (λ c k. known c (inr k)) ∙ ap (λ (ds : List Component). Ok ds) (append_assoc s (x ∷ []) xs))
 
 module _ (dexes : List Dex) (manifest : Manifest) where
@@ -205,10 +204,10 @@ module _ (dexes : List Dex) (manifest : Manifest) where
   pub gathering_stands : (g : Gathered) → run (gathering dexes manifest) ≡ Ok g → AreGathered dexes manifest g
   unfolding gathering
   gathering_stands g e =
-      let classes = first_gave (all_classes dexes) (λ classes. all_members dexes >>= (λ members. all_components classes manifest >>= (λ components. Value (made classes members components)))) g e in
-      let members = first_gave (all_members dexes) (λ members. all_components classes.0 manifest >>= (λ components. Value (made classes.0 members components))) g classes.2 in
-      let components = first_gave (all_components classes.0 manifest) (λ components. Value (made classes.0 members.0 components)) g members.2 in
-      let same : made classes.0 members.0 components.0 ≡ g = same_value {F = Fault} (made classes.0 members.0 components.0) g components.2 in
+      let classes = bind_ok (all_classes dexes) (λ classes. all_members dexes >>= (λ members. all_components classes manifest >>= (λ components. Value (made classes members components)))) g e in
+      let members = bind_ok (all_members dexes) (λ members. all_components classes.0 manifest >>= (λ components. Value (made classes.0 members components))) g classes.2 in
+      let components = bind_ok (all_components classes.0 manifest) (λ components. Value (made classes.0 members.0 components)) g members.2 in
+      let same : made classes.0 members.0 components.0 ≡ g = value_is {F = Fault} (made classes.0 members.0 components.0) g components.2 in
       let parts = (members_put dexes).parted members.0.0 members.0.1 members.1 in
       let listed = listed_stand classes.0 (components_of manifest) [] components.0 (sym (ap run (components_listed classes.0 manifest)) ∙ components.1) in
       let are : AreGathered dexes manifest (made classes.0 members.0 components.0) = record {

@@ -11,15 +11,14 @@ use Rattle.dex_reader.specs.declared.dex.Dex.{Dex}
 use Rattle.app_machine.specs.declared.app.App.{App}
 use Rattle.vet_base.specs.Members.{In}
 use Rattle.vet_base.specs.Ascending.{Ascends}
-use Rattle.app_model.proofs.Elements.{Apart}
 use Rattle.app_link.specs.declared.coded.Coded.{Coded}
 use Rattle.app_link.specs.Texts.{Triple}
 use Rattle.app_link.specs.MemberRows.{Fields}
 use Rattle.app_link.specs.Orders.{triple_order}
 use Rattle.app_link.specs.StaticList.{AreStatics, statics_named}
-use Rattle.app_link.proofs.Ascending.{below_later}
-use Rattle.app_link.proofs.KeyOrder.{ascends_strictly}
 use Rattle.app_link.proofs.Places.{triple_total, tied_triples_equal}
+use Rattle.vet_base.proofs.Ascending.{ascends_from_sorted, below_later}
+use Rattle.vet_base.proofs.Apart.{Apart}
 
 new_in : (ks : List Triple) (k : Triple) → In k (insert_key triple_order ks k)
 new_in [] k = inl refl
@@ -73,7 +72,7 @@ pub are_statics : (app : App) (fields : Fields) (dexes : List Dex) (coded : List
 are_statics app fields dexes coded keys statics made listed sorted =
     let whole : statics ≡ fold (insert_key triple_order) [] (statics_named app fields dexes coded) = listed ∙ made in
     record {
-      order = ascends_strictly statics sorted;
+      order = ascends_from_sorted triple_order statics sorted;
       each = λ field. (
         λ k. from_none field (there_from (statics_named app fields dexes coded) [] field (subst (λ (ts : List Triple). In field ts) whole k)),
         λ k. subst (λ (ts : List Triple). In field ts) (sym whole) (there_then (statics_named app fields dexes coded) [] field k),

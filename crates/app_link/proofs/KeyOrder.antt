@@ -15,6 +15,8 @@ use Rattle.app_link.specs.Texts.{Triple}
 use Rattle.app_link.specs.MemberRows.{Fields}
 use Rattle.app_link.specs.Orders.{triple_order}
 use Rattle.app_link.specs.Keys.{key_unless, key_if, all_keys}
+use Rattle.vet_base.proofs.Orders.{then_assoc}
+use Rattle.vet_base.proofs.Ascending.{ascends_from_sorted}
 
 abbrev field_unless : Bool → Triple → List Triple
 field_unless true field = []
@@ -41,13 +43,8 @@ pub are_keys : (fields : Fields) → AreKeys (all_keys fields) (instances fields
 unfolding all_keys
 are_keys fields = keys_are fields
 
-same_then : (a b c : Ordering) → ordering_then (ordering_then a b) c ≡ ordering_then a (ordering_then b c)
-same_then Less b c = refl
-same_then Equal b c = refl
-same_then Greater b c = refl
-
 pub same_order : (a b : Triple) → triple_order a b ≡ field_order a b
-same_order a b = same_then (name_order a.0 b.0) (name_order a.1 b.1) (name_order a.2 b.2)
+same_order a b = sym (then_assoc (name_order a.0 b.0) (name_order a.1 b.1) (name_order a.2 b.2))
 
 below_all : (x : Triple) (fields : Fields) → AllByRecursion (λ y. triple_order x y ≡ Less) (keys_of fields) → AllByRecursion (λ y. triple_order x y ≡ Less) (instances fields)
 unfolding instances
@@ -67,19 +64,13 @@ instances_sorted (e ∷ es) sorted = one e.1 e.0 (below_all e.0 es sorted.0) (in
     one true f all rest = rest
     one false f all rest = (all, rest)
 
-pub ascends_strictly : (ts : List Triple) → IsStrictlySortedBy triple_order ts → Ascends triple_order ts
-unfolding IsStrictlySortedBy
-ascends_strictly [] sorted = tt
-ascends_strictly (x ∷ []) sorted = tt
-ascends_strictly (x ∷ y ∷ ys) sorted = (sorted.0.0, ascends_strictly (y ∷ ys) sorted.1)
-
 pub ascends_as_fields : (ts : List Triple) → Ascends triple_order ts → Ascends field_order ts
 ascends_as_fields [] sorted = tt
 ascends_as_fields (x ∷ []) sorted = tt
 ascends_as_fields (x ∷ y ∷ ys) sorted = (sym (same_order x y) ∙ sorted.0, ascends_as_fields (y ∷ ys) sorted.1)
 
 pub instances_ascend : (fields : Fields) → IsStrictlySortedBy triple_order (keys_of fields) → Ascends field_order (instances fields)
-instances_ascend fields sorted = ascends_as_fields (instances fields) (ascends_strictly (instances fields) (instances_sorted fields sorted))
+instances_ascend fields sorted = ascends_as_fields (instances fields) (ascends_from_sorted triple_order (instances fields) (instances_sorted fields sorted))
 
 few : (fields : Fields) → length (flat_map key_if fields) ≤ length fields
 unfolding key_if

@@ -1,5 +1,4 @@
 pub mod AreCoded
-pub mod Ascending
 pub mod Asked
 pub mod Best
 pub mod Blamed
@@ -42,4 +41,3 @@ pub mod Steps
 pub mod StepsFlow
 pub mod StepsStatics
 pub mod Stuck
-pub mod Throughs

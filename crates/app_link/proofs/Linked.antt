@@ -2,6 +2,7 @@
 use Rattle.std.proofs.Common.{◌≡◌, ℕ, Ok, List, [], map, length, sym, ◌∙◌, ap, subst}
 use Rattle.vet_base.specs.Script.{run}
 use Rattle.dex_reader.specs.declared.dex.Dex.{Dex}
+use Rattle.dex_code.specs.CodeLaws.{CodeLaws}
 use Rattle.app_machine.specs.declared.app.App.{App}
 use Rattle.app_machine.specs.declared.app.Class.{Class}
 use Rattle.app_machine.specs.declared.method.Method.{Method}
@@ -28,7 +29,7 @@ within dexes gathered coding classes methods fields one two three e =
     (subst (λ (n : ℕ). run (within_limits classes n (length gathered.fields) coding.1) ≡ Ok tt) two
     (subst (λ (n : ℕ). run (within_limits classes methods n coding.1) ≡ Ok tt) three e))
 
-module _ (dexes : List Dex) (manifest : Manifest) (layouts : Layouts) (gathered : Gathered) (coding : Coding) (frame app : App)
+module _ (laws : CodeLaws) (dexes : List Dex) (manifest : Manifest) (layouts : Layouts) (gathered : Gathered) (coding : Coding) (frame app : App)
     (is : IsFrame gathered.classes gathered.fields frame) (others : app ≡ record frame { statics = app.statics; methods = app.methods }) where
   -- the app before its statics and methods were put in
   before : before_code app ≡ frame
@@ -51,7 +52,7 @@ module _ (dexes : List Dex) (manifest : Manifest) (layouts : Layouts) (gathered 
     gathers = gathering_stands dexes manifest gathered gathers;
     no_circle = is.no_circle;
     coding = coding;
-    codes = coding_stands dexes gathered.methods coding codes;
+    codes = coding_stands laws dexes gathered.methods coding codes;
     limits = limits_stand (length gathered.classes) (length gathered.methods) (length gathered.fields) coding.1 (within dexes gathered coding classes methods fields one two three limits);
     classes = subst (λ (cs : List Class). map without_outer cs ≡ map renamed gathered.classes) (sym same_classes) is.classes;
     outers = subst HasOuters (sym same_classes) is.outers;

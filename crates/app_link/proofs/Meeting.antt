@@ -6,13 +6,13 @@ use Rattle.std.proofs.lemmas.List.Concat.{flat_map-append}
 use Rattle.app_machine.specs.declared.app.App.{App}
 use Rattle.app_machine.specs.declared.app.Class.{Class}
 use Rattle.vet_base.specs.Members.{In}
-use Rattle.app_machine.specs.Names.{Name}
+use Rattle.app_machine.specs.Names.{Name, same_name}
 use Rattle.app_machine.specs.Lookups.{class_among, class_named, up_within, up}
-use Rattle.app_model.proofs.Elements.{Apart, in_either, in_flat, from_flat, no_more}
-use Rattle.app_model.proofs.Reach.{found_is_in}
 use Rattle.app_link.specs.Hierarchy.{add_once, firsts}
 use Rattle.app_link.specs.Statics.{own_interfaces, first_interfaces, interfaces_named, met_within, met}
 use Rattle.app_link.proofs.Firsts.{Begins, begins_itself, begins_on, begins_both, adding_begins, firsts_begin, firsts_joined, firsts_apart, in_firsts}
+use Rattle.vet_base.proofs.Members.{in_either, in_flat, from_flat, in_found}
+use Rattle.vet_base.proofs.Apart.{Apart, no_more}
 
 in_up_within : (n : ℕ) (classes : List Class) (name : Option Name) (c : Class) → In c (up_within n classes name) → In c classes
 in_up_within zero classes name c k = absurd k
@@ -21,7 +21,7 @@ in_up_within (suc n) classes (Some name) c k = by_class (class_among classes nam
   where
     by_class : (o : Option Class) → class_among classes name ≡ o → ((above : Option Name) → In c (up_within n classes above) → In c classes) → In c (elim o as (λ (o : Option Class). List Class) [ None ↦ [] | Some d ↦ d ∷ up_within n classes d.superclass ]) → In c classes
     by_class None there higher j = absurd j
-    by_class (Some d) there higher (inl e) = (let is : In d classes × (d.name ≡ name) = found_is_in classes name d there in subst (λ (x : Class). In x classes) (sym e) is.0)
+    by_class (Some d) there higher (inl e) = subst (λ (x : Class). In x classes) (sym e) (in_found (λ (x : Class). same_name x.name name) classes d there)
     by_class (Some d) there higher (inr j) = higher d.superclass j
 
 module _ (app : App) where
@@ -40,7 +40,7 @@ module _ (app : App) where
     where
       by_class : (o : Option Class) → class_among app.classes name ≡ o → In x (elim o as (λ (o : Option Class). List Name) [ None ↦ [] | Some c ↦ c.interfaces ]) → In x all_named
       by_class None there j = absurd j
-      by_class (Some c) there j = (let is : In c app.classes × (c.name ≡ name) = found_is_in app.classes name c there in in_flat own_interfaces app.classes c x is.0 j)
+      by_class (Some c) there j = in_flat own_interfaces app.classes c x (in_found (λ (d : Class). same_name d.name name) app.classes c there) j
 
 module _ (app : App) (class : Name) where
   abbrev first : List Name

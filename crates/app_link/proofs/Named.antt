@@ -7,8 +7,7 @@ use Rattle.dex_code.specs.declared.names.Naming.{Naming}
 use Rattle.dex_code.specs.declared.names.Naming.TheVariants as naming
 use Rattle.dex_code.specs.Acts.{arguments_of, call_kind_of, naming_of, suits}
 use Rattle.dex_code.specs.Insns.{kind_of}
-use Rattle.dex_code.proofs.ActNames.{NamesKey, NamesStatic, NamesCall}
-use Rattle.dex_code.proofs.Starts.{same_number}
+use Rattle.dex_code.specs.CodeLaws.{NamesKey, NamesStatic, NamesCall}
 use Rattle.app_machine.specs.declared.app.App.{App}
 use Rattle.app_machine.specs.declared.app.Class.{Class}
 use Rattle.app_machine.specs.declared.app.Key.{Key}
@@ -20,26 +19,9 @@ use Rattle.app_link.specs.Named.{key_of, named_of}
 use Rattle.app_link.specs.Statics.{same_triple, number_among, number_of, resolved}
 use Rattle.app_link.specs.StaticList.{static_among, static_index}
 use Rattle.app_link.specs.Code.{taken_by, call_takes, call_fits}
-
-index_below : {A : Type 0} (test : A → Bool) (xs : List A) (j : ℕ) → first_index test xs ≡ Some j → j < length xs
-index_below test [] j e = absurd cc
-index_below {A = A} test (x ∷ xs) j e = by_test (test x) (index_below test xs) e
-  where
-    by_rest : (o : Option ℕ) → ((k : ℕ) → o ≡ Some k → k < length xs) → option_map suc o ≡ Some j → j < suc (length xs)
-    by_rest None below e = absurd cc
-    by_rest (Some k) below e = let same : suc k ≡ j = cc in let lt : k < length xs = below k refl in omega (arith, same, lt)
-
-    by_test : (b : Bool) → ((k : ℕ) → first_index test xs ≡ Some k → k < length xs) → cond b (Some 0) (option_map suc (first_index test xs)) ≡ Some j → j < suc (length xs)
-    by_test true below e = let same : 0 ≡ j = cc in omega (arith, same)
-    by_test false below e = by_rest (first_index test xs) below e
-
-given_below : {A : Type 0} (f : A → Option ℕ) (n : ℕ) → ((x : A) (j : ℕ) → f x ≡ Some j → j < n) → (xs : List A) (j : ℕ) → first_given f xs ≡ Some j → j < n
-given_below f n below [] j e = absurd cc
-given_below f n below (x ∷ xs) j e = by_first (f x) (below x) (given_below f n below xs) e
-  where
-    by_first : (o : Option ℕ) → ((k : ℕ) → o ≡ Some k → k < n) → ((k : ℕ) → first_given f xs ≡ Some k → k < n) → elim o as (λ (o : Option ℕ). Option ℕ) [ Some y ↦ Some y | None ↦ first_given f xs ] ≡ Some j → j < n
-    by_first (Some k) one others e = one j e
-    by_first None one others e = others j e
+use Rattle.vet_base.proofs.Firsts.{index_below, given_below}
+use Rattle.vet_base.proofs.Options.{unwrap_below}
+use Rattle.std.proofs.lemmas.Bool.{eqb-true}
 
 key_or_elem : (o : Option ℕ) (n : ℕ) → 0 < n → ((j : ℕ) → o ≡ Some j → j < n) → (elim o as (λ (o : Option ℕ). KeyId) [ Some k ↦ record { 0 = k } | None ↦ elem_key ]).0 < n
 key_or_elem (Some k) n some below = below k refl
@@ -52,15 +34,11 @@ key_below app dex i some =
     key_or_elem (first_given (λ (c : Class). first_index (λ (k : Key). is_field k c.name at.1 at.2) app.keys) (up app at.0)) (length app.keys) some
     (given_below (λ (c : Class). first_index (λ (k : Key). is_field k c.name at.1 at.2) app.keys) (length app.keys) (λ c j e. index_below (λ (k : Key). is_field k c.name at.1 at.2) app.keys j e) (up app at.0))
 
-index_or_first : (o : Option ℕ) (n : ℕ) → 0 < n → ((j : ℕ) → o ≡ Some j → j < n) → unwrap_or o 0 < n
-index_or_first (Some k) n some below = below k refl
-index_or_first None n some below = some
-
 number_below : (app : App) (fields : Fields) (statics : List Triple) (dex : Dex) (i : ℕ) → 0 < length statics → number_of app fields statics dex i < length statics
 unfolding number_of number_among
 number_below app fields statics dex i some =
     let at : Triple = resolved app fields (field_of dex i) in
-    index_or_first (first_index (λ (s : Triple). same_triple s at) statics) (length statics) some (index_below (λ (s : Triple). same_triple s at) statics)
+    unwrap_below (first_index (λ (s : Triple). same_triple s at) statics) (length statics) some (index_below (λ (s : Triple). same_triple s at) statics)
 
 module _ (app : App) (fields : Fields) (statics : List Triple) (dex : Dex) where
   pub suited : (needed : Naming) → IsTrue (suits needed (named_of app fields statics dex needed))
@@ -89,7 +67,7 @@ module _ (app : App) (fields : Fields) (statics : List Triple) (dex : Dex) where
 
   call_named : (insn : Insn) (needed : Naming) → IsTrue (call_takes dex (call_kind_of (kind_of insn)) (length (arguments_of insn)) needed) → NamesCall insn (named_of app fields statics dex needed)
   unfolding named_of method_of
-  call_named insn (naming.Method i) h = sym (same_number (taken_by dex (call_kind_of (kind_of insn)) i) (length (arguments_of insn)) h)
+  call_named insn (naming.Method i) h = sym (eqb-true (taken_by dex (call_kind_of (kind_of insn)) i) (length (arguments_of insn)) h)
   call_named insn naming.Nothing h = tt
   call_named insn needed h = tt
 

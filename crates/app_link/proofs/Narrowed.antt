@@ -1,8 +1,9 @@
 -- A loop that makes methods, each with at most 65,535 registers.
 use Rattle.std.proofs.Common.{◌≡◌, ℕ, zero, suc, ◌+◌, ◌<◌, ◌≤◌, List, [], ◌∷◌, ◌++◌, map, take, length, get_or, sym, ap, ◌∙◌, subst, arith, inl, inr}
 use Rattle.app_machine.specs.declared.method.Method.{Method}
-use Rattle.app_model.proofs.Elements.{in_either}
 use Rattle.app_link.specs.Methods.{Narrow}
+use Rattle.vet_base.proofs.Lists.{map_more_read}
+use Rattle.vet_base.proofs.Members.{in_either}
 
 pub narrow_begins : Narrow []
 narrow_begins = record { each = λ m k. absurd k }
@@ -18,14 +19,7 @@ one_narrow ms m few all = record {
 pub narrow_goes_on : (ms more : List Method) (m : Method) → more ≡ ms ++ m ∷ [] → m.registers ≤ 65535 → Narrow ms → Narrow more
 narrow_goes_on ms more m is few all = subst Narrow (sym is) (one_narrow ms m few all)
 
-one_mapped : {A B : Type 0} (f : A → B) (xs : List A) (i : ℕ) (x : A) → i < length xs → x ≡ get_or xs i x → map f (take (i + 1) xs) ≡ map f (take i xs) ++ f x ∷ []
-one_mapped f [] i x lt e = absurd (omega arith)
-one_mapped f (y ∷ ys) zero x lt e = ap (λ (z : _). f z ∷ []) (sym e)
-one_mapped {B = B} f (y ∷ ys) (suc i) x lt e =
-    let next : suc i + 1 ≡ suc (i + 1) = omega arith in
-    ap (λ (n : ℕ). map f (take n (y ∷ ys))) next ∙ ap (λ (zs : List B). f y ∷ zs) (one_mapped f ys i x (omega (arith, lt)) e)
-
 -- what is made of the elements so far, and of one more
 pub mapped_goes_on : {A B : Type 0} (f : A → B) (xs : List A) (i : ℕ) (x : A) (so_far more : List B) (y : B) → i < length xs → x ≡ get_or xs i x → more ≡ so_far ++ y ∷ [] → y ≡ f x → so_far ≡ map f (take i xs) → more ≡ map f (take (i + 1) xs)
 mapped_goes_on {B = B} f xs i x so_far more y lt item is made kept =
-    is ∙ (ap (λ (z : B). so_far ++ z ∷ []) made ∙ (ap (λ (zs : List B). zs ++ f x ∷ []) kept ∙ sym (one_mapped f xs i x lt item)))
+    is ∙ (ap (λ (z : B). so_far ++ z ∷ []) made ∙ (ap (λ (zs : List B). zs ++ f x ∷ []) kept ∙ sym (map_more_read f xs i x lt item)))

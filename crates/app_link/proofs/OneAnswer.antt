@@ -4,6 +4,7 @@ use Rattle.std.specs.List.Sorted.{IsStrictlySortedBy}
 use Rattle.std.specs.Map.{keys_of}
 use Rattle.vet_base.specs.Script.{run}
 use Rattle.dex_reader.specs.declared.dex.Dex.{Dex}
+use Rattle.dex_code.specs.CodeLaws.{CodeLaws}
 use Rattle.app_machine.specs.declared.app.App.{App}
 use Rattle.app_machine.specs.declared.app.Class.{Class}
 use Rattle.app_machine.specs.declared.app.Key.{Key}
@@ -33,24 +34,19 @@ use Rattle.app_link.specs.Settled.{Outers, AllSettled, filled_by}
 use Rattle.app_link.specs.StaticList.{statics_named}
 use Rattle.app_link.specs.Texts.{Triple}
 use Rattle.app_link.proofs.AreCoded.{coding_runs}
-use Rattle.app_link.proofs.Ascending.{ascending_alike}
 use Rattle.app_link.proofs.InFiles.{gathering_runs}
 use Rattle.app_link.proofs.Limits.{limits_run}
 use Rattle.app_link.proofs.OneHierarchy.{classes_are, one_circle}
 use Rattle.app_link.proofs.Places.{triple_total}
+use Rattle.vet_base.proofs.Results.{ok_or_err, one_ok, one_err}
+use Rattle.vet_base.proofs.Ascending.{ascending_alike}
 
-ok_or_err : {A F : Type 0} (r : Result A F) (x : A) (e : F) → r ≡ Ok x → r ≡ Err e → ⊥
-ok_or_err r x e is fails = let both : Ok x ≡ Err e = sym is ∙ fails in absurd cc
-
-one_value : {A F : Type 0} (r : Result A F) (x y : A) → r ≡ Ok x → r ≡ Ok y → x ≡ y
-one_value {F = F} r x y a b = ap (λ (s : Result _ F). elim s [ Ok z ↦ z | Err _ ↦ x ]) (sym a ∙ b)
-
-module _ (dexes : List Dex) (manifest : Manifest) (layouts : Layouts) (app : App) (is : IsApp dexes manifest layouts app) where
+module _ (laws : CodeLaws) (dexes : List Dex) (manifest : Manifest) (layouts : Layouts) (app : App) (is : IsApp dexes manifest layouts app) where
   same : (gathered : Gathered) → run (gathering dexes manifest) ≡ Ok gathered → is.gathered ≡ gathered
-  same gathered e = one_value (run (gathering dexes manifest)) is.gathered gathered (gathering_runs dexes manifest is.gathered is.gathers) e
+  same gathered e = one_ok (run (gathering dexes manifest)) is.gathered gathered (gathering_runs dexes manifest is.gathered is.gathers) e
 
   codes_of : (gathered : Gathered) → run (gathering dexes manifest) ≡ Ok gathered → run (all_codes dexes gathered.methods) ≡ Ok is.coding
-  codes_of gathered e = subst (λ (g : Gathered). run (all_codes dexes g.methods) ≡ Ok is.coding) (same gathered e) (coding_runs dexes is.gathered.methods is.coding is.codes)
+  codes_of gathered e = subst (λ (g : Gathered). run (all_codes dexes g.methods) ≡ Ok is.coding) (same gathered e) (coding_runs laws dexes is.gathered.methods is.coding is.codes)
 
   none : (fault : Fault) → FirstFault dexes manifest fault → ⊥
   none fault (of_gathering e) = ok_or_err (run (gathering dexes manifest)) is.gathered fault (gathering_runs dexes manifest is.gathered is.gathers) e
@@ -58,53 +54,50 @@ module _ (dexes : List Dex) (manifest : Manifest) (layouts : Layouts) (app : App
   none fault (of_code gathered e circles fails) = ok_or_err (run (all_codes dexes gathered.methods)) is.coding fault (codes_of gathered e) fails
   none fault (of_limits gathered coding e circles codes fails) =
       let k : is.gathered ≡ gathered = same gathered e in
-      let c : is.coding ≡ coding = one_value (run (all_codes dexes gathered.methods)) is.coding coding (codes_of gathered e) codes in
+      let c : is.coding ≡ coding = one_ok (run (all_codes dexes gathered.methods)) is.coding coding (codes_of gathered e) codes in
       let one : run (within_limits (length gathered.classes) (length gathered.methods) (length gathered.fields) is.coding.1) ≡ Ok tt = subst (λ (g : Gathered). run (within_limits (length g.classes) (length g.methods) (length g.fields) is.coding.1) ≡ Ok tt) k (limits_run (length is.gathered.classes) (length is.gathered.methods) (length is.gathered.fields) is.coding.1 is.limits) in
       let two : run (within_limits (length gathered.classes) (length gathered.methods) (length gathered.fields) coding.1) ≡ Ok tt = subst (λ (x : Coding). run (within_limits (length gathered.classes) (length gathered.methods) (length gathered.fields) x.1) ≡ Ok tt) c one in
       ok_or_err (run (within_limits (length gathered.classes) (length gathered.methods) (length gathered.fields) coding.1)) tt fault two fails
 
-pub one_answer : (dexes : List Dex) (manifest : Manifest) (layouts : Layouts) → OneAnswer dexes manifest layouts
-one_answer dexes manifest layouts = record { not_both = λ app fault is f. none dexes manifest layouts app is f.found f.first }
-
-one_error : {A F : Type 0} (r : Result A F) (x y : F) → r ≡ Err x → r ≡ Err y → x ≡ y
-one_error {A = A} r x y a b = ap (λ (s : Result A _). elim s [ Ok _ ↦ x | Err z ↦ z ]) (sym a ∙ b)
+pub one_answer : (laws : CodeLaws) (dexes : List Dex) (manifest : Manifest) (layouts : Layouts) → OneAnswer dexes manifest layouts
+one_answer laws dexes manifest layouts = record { not_both = λ app fault is f. none laws dexes manifest layouts app is f.found f.first }
 
 module _ (dexes : List Dex) (manifest : Manifest) where
   -- where the hierarchy has a circle, it is not free of them
   no_circle : (one two : Gathered) (name : Name) → run (gathering dexes manifest) ≡ Ok one → run (gathering dexes manifest) ≡ Ok two → IsLeastCircle one.classes name → NoCircle two.classes → ⊥
-  no_circle one two name a b circle none = none.none name (subst (λ (g : Gathered). Above g.classes name name) (one_value (run (gathering dexes manifest)) one two a b) circle.circle)
+  no_circle one two name a b circle none = none.none name (subst (λ (g : Gathered). Above g.classes name name) (one_ok (run (gathering dexes manifest)) one two a b) circle.circle)
 
   -- the code of files that were gathered is one result
   codes_as : (one two : Gathered) (r : Result Coding Fault) → run (gathering dexes manifest) ≡ Ok one → run (gathering dexes manifest) ≡ Ok two → run (all_codes dexes one.methods) ≡ r → run (all_codes dexes two.methods) ≡ r
-  codes_as one two r a b e = subst (λ (g : Gathered). run (all_codes dexes g.methods) ≡ r) (one_value (run (gathering dexes manifest)) one two a b) e
+  codes_as one two r a b e = subst (λ (g : Gathered). run (all_codes dexes g.methods) ≡ r) (one_ok (run (gathering dexes manifest)) one two a b) e
 
   limits_as : (one two : Gathered) (c d : Coding) (r : Result (Unit {0}) Fault) → run (gathering dexes manifest) ≡ Ok one → run (gathering dexes manifest) ≡ Ok two → c ≡ d
       → run (within_limits (length one.classes) (length one.methods) (length one.fields) c.1) ≡ r → run (within_limits (length two.classes) (length two.methods) (length two.fields) d.1) ≡ r
   limits_as one two c d r a b same e =
-      let k : run (within_limits (length two.classes) (length two.methods) (length two.fields) c.1) ≡ r = subst (λ (g : Gathered). run (within_limits (length g.classes) (length g.methods) (length g.fields) c.1) ≡ r) (one_value (run (gathering dexes manifest)) one two a b) e in
+      let k : run (within_limits (length two.classes) (length two.methods) (length two.fields) c.1) ≡ r = subst (λ (g : Gathered). run (within_limits (length g.classes) (length g.methods) (length g.fields) c.1) ≡ r) (one_ok (run (gathering dexes manifest)) one two a b) e in
       subst (λ (x : Coding). run (within_limits (length two.classes) (length two.methods) (length two.fields) x.1) ≡ r) same k
 
   -- there is one first fault
   pub one_fault : (f g : Fault) → FirstFault dexes manifest f → FirstFault dexes manifest g → f ≡ g
-  one_fault f g (of_gathering a) (of_gathering b) = one_error (run (gathering dexes manifest)) f g a b
+  one_fault f g (of_gathering a) (of_gathering b) = one_err (run (gathering dexes manifest)) f g a b
   one_fault f g (of_gathering a) (of_hierarchy two b circle) = absurd (ok_or_err (run (gathering dexes manifest)) two f b a)
   one_fault f g (of_gathering a) (of_code two b none d) = absurd (ok_or_err (run (gathering dexes manifest)) two f b a)
   one_fault f g (of_gathering a) (of_limits two y b none d k) = absurd (ok_or_err (run (gathering dexes manifest)) two f b a)
   one_fault f g (of_hierarchy one a circle) (of_gathering b) = absurd (ok_or_err (run (gathering dexes manifest)) one g a b)
   one_fault f g (of_hierarchy {name = x} one a circle) (of_hierarchy {name = y} two b other) =
-      ap Circle (one_circle two.classes x y (subst (λ (h : Gathered). IsLeastCircle h.classes x) (one_value (run (gathering dexes manifest)) one two a b) circle) other)
+      ap Circle (one_circle two.classes x y (subst (λ (h : Gathered). IsLeastCircle h.classes x) (one_ok (run (gathering dexes manifest)) one two a b) circle) other)
   one_fault f g (of_hierarchy {name = x} one a circle) (of_code two b none d) = absurd (no_circle one two x a b circle none)
   one_fault f g (of_hierarchy {name = x} one a circle) (of_limits two y b none d k) = absurd (no_circle one two x a b circle none)
   one_fault f g (of_code one a none c) (of_gathering b) = absurd (ok_or_err (run (gathering dexes manifest)) one g a b)
   one_fault f g (of_code one a none c) (of_hierarchy {name = x} two b circle) = absurd (no_circle two one x b a circle none)
-  one_fault f g (of_code one a none c) (of_code two b other d) = one_error (run (all_codes dexes two.methods)) f g (codes_as one two (Err f) a b c) d
+  one_fault f g (of_code one a none c) (of_code two b other d) = one_err (run (all_codes dexes two.methods)) f g (codes_as one two (Err f) a b c) d
   one_fault f g (of_code one a none c) (of_limits two y b other d k) = absurd (ok_or_err (run (all_codes dexes two.methods)) y f d (codes_as one two (Err f) a b c))
   one_fault f g (of_limits one x a none c h) (of_gathering b) = absurd (ok_or_err (run (gathering dexes manifest)) one g a b)
   one_fault f g (of_limits one x a none c h) (of_hierarchy {name = n} two b circle) = absurd (no_circle two one n b a circle none)
   one_fault f g (of_limits one x a none c h) (of_code two b other d) = absurd (ok_or_err (run (all_codes dexes two.methods)) x g (codes_as one two (Ok x) a b c) d)
   one_fault f g (of_limits one x a none c h) (of_limits two y b other d k) =
-      let same : x ≡ y = one_value (run (all_codes dexes two.methods)) x y (codes_as one two (Ok x) a b c) d in
-      one_error (run (within_limits (length two.classes) (length two.methods) (length two.fields) y.1)) f g (limits_as one two x y (Err f) a b same h) k
+      let same : x ≡ y = one_ok (run (all_codes dexes two.methods)) x y (codes_as one two (Ok x) a b c) d in
+      one_err (run (within_limits (length two.classes) (length two.methods) (length two.fields) y.1)) f g (limits_as one two x y (Err f) a b same h) k
 
 -- what is told of the first fault is told of no other
 pub told_alone : (dexes : List Dex) (manifest : Manifest) (layouts : Layouts) (fault : Fault) (told f : LinkFault) → FirstFault dexes manifest fault → (told ≡ want_of_memory) ⊎ (told ≡ shown fault) → FirstLinkFault dexes manifest layouts f
@@ -113,10 +106,10 @@ told_alone dexes manifest layouts fault told f here (inl memory) first = inr (ap
 told_alone dexes manifest layouts fault told f here (inr shows) first = inl (ap (λ (x : LinkFault). Err x) (shows ∙ (ap shown (one_fault dexes manifest fault first.found here first.first) ∙ sym first.shows)))
 
 -- where the first fault is told there is no app
-pub no_app : (dexes : List Dex) (manifest : Manifest) (layouts : Layouts) (fault : Fault) (told : LinkFault) (app : App) → FirstFault dexes manifest fault → (told ≡ want_of_memory) ⊎ (told ≡ shown fault) → IsApp dexes manifest layouts app
+pub no_app : (laws : CodeLaws) (dexes : List Dex) (manifest : Manifest) (layouts : Layouts) (fault : Fault) (told : LinkFault) (app : App) → FirstFault dexes manifest fault → (told ≡ want_of_memory) ⊎ (told ≡ shown fault) → IsApp dexes manifest layouts app
     → (let r : Result App LinkFault = Err told in r ≡ Ok app) ⊎ (let r : Result App LinkFault = Err told in r ≡ Err want_of_memory)
-no_app dexes manifest layouts fault told app here (inl memory) is = inr (ap (λ (x : LinkFault). Err x) memory)
-no_app dexes manifest layouts fault told app here (inr shows) is = absurd (none dexes manifest layouts app is fault here)
+no_app laws dexes manifest layouts fault told app here (inl memory) is = inr (ap (λ (x : LinkFault). Err x) memory)
+no_app laws dexes manifest layouts fault told app here (inr shows) is = absurd (none laws dexes manifest layouts app is fault here)
 
 app_of : List Class → List Method → List Key → List Triple → List Component → List Name → List Name → List Name → App
 app_of classes methods keys statics components clicks providers layout_classes = record { classes = classes; methods = methods; keys = keys; statics = statics; components = components; clicks = clicks; providers = providers; layout_classes = layout_classes }
@@ -131,10 +124,10 @@ same_app a b one two three four five six seven eight =
     let same : app_of a.classes a.methods a.keys a.statics a.components a.clicks a.providers a.layout_classes ≡ app_of b.classes b.methods b.keys b.statics b.components b.clicks b.providers b.layout_classes = cc in
     parts_of a ∙ (same ∙ sym (parts_of b))
 
-module _ (dexes : List Dex) (manifest : Manifest) (layouts : Layouts) (gathered : Gathered) (outers : Outers) (gathers : run (gathering dexes manifest) ≡ Ok gathered) (sorted : IsStrictlySortedBy name_order (keys_of gathered.classes))
+module _ (laws : CodeLaws) (dexes : List Dex) (manifest : Manifest) (layouts : Layouts) (gathered : Gathered) (outers : Outers) (gathers : run (gathering dexes manifest) ≡ Ok gathered) (sorted : IsStrictlySortedBy name_order (keys_of gathered.classes))
     (settled : AllSettled gathered.classes outers) where
   gathered_as : (app : App) (is : IsApp dexes manifest layouts app) → is.gathered ≡ gathered
-  gathered_as app is = one_value (run (gathering dexes manifest)) is.gathered gathered (gathering_runs dexes manifest is.gathered is.gathers) gathers
+  gathered_as app is = one_ok (run (gathering dexes manifest)) is.gathered gathered (gathering_runs dexes manifest is.gathered is.gathers) gathers
 
   classes_as : (app : App) (is : IsApp dexes manifest layouts app) → app.classes ≡ map (filled_by outers) gathered.classes
   classes_as app is = classes_are gathered.classes outers sorted settled app.classes (subst (λ (g : Gathered). map without_outer app.classes ≡ map renamed g.classes) (gathered_as app is) is.classes) is.outers
@@ -144,7 +137,7 @@ module _ (dexes : List Dex) (manifest : Manifest) (layouts : Layouts) (gathered 
     same_gathered = gathered_as a one ∙ sym (gathered_as b two)
 
     same_coding : one.coding ≡ two.coding
-    same_coding = one_value (run (all_codes dexes two.gathered.methods)) one.coding two.coding (subst (λ (g : Gathered). run (all_codes dexes g.methods) ≡ Ok one.coding) same_gathered (coding_runs dexes one.gathered.methods one.coding one.codes)) (coding_runs dexes two.gathered.methods two.coding two.codes)
+    same_coding = one_ok (run (all_codes dexes two.gathered.methods)) one.coding two.coding (subst (λ (g : Gathered). run (all_codes dexes g.methods) ≡ Ok one.coding) same_gathered (coding_runs laws dexes one.gathered.methods one.coding one.codes)) (coding_runs laws dexes two.gathered.methods two.coding two.codes)
 
     same_classes : a.classes ≡ b.classes
     same_classes = classes_as a one ∙ sym (classes_as b two)

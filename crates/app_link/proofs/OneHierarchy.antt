@@ -19,7 +19,9 @@ use Rattle.app_link.specs.Orders.{named, has_name}
 use Rattle.app_link.specs.Settled.{Entries, Outers, AllSettled, filled_by, gives, given_to, listed}
 use Rattle.app_link.proofs.Filled.{outer_if, test_same, gives_as}
 use Rattle.app_link.proofs.Frame.{entry_of, found_in}
-use Rattle.app_link.proofs.Lookups.{eq_names, split, cond_true, cond_false, flat_map_same}
+use Rattle.std.proofs.lemmas.Bool.{cond-true, cond-false, cases_Bool}
+use Rattle.vet_base.proofs.Members.{flat_map_agree}
+use Rattle.vet_base.proofs.Texts.{tied_equal}
 
 abbrev given_from : Name → Option Class → List Name
 given_from name None = name ∷ []
@@ -36,18 +38,18 @@ module _ (outers : Outers) (name : Name) where
       let first : without_outer c ≡ renamed e = cc in
       let others : map without_outer cs ≡ map renamed es = cc in
       let k : c.name ≡ e.0 = ap (λ (d : Class). d.name) first in
-      elim (split (same_name c.name name)) [
+      elim (cases_Bool (same_name c.name name)) [
         | inl here ↦ (
             let at : is_at (name_order name) e.0 ≡ true = ap (λ (n : Name). is_at (name_order name) n) (sym k) ∙ (sym (test_same c.name name) ∙ here) in
-            let is : name ≡ e.0 = eq_names name e.0 at in
-            let one : class_among (c ∷ cs) name ≡ Some c = cond_true (same_name c.name name) (Some c) (class_among cs name) here in
+            let is : name ≡ e.0 = tied_equal name e.0 at in
+            let one : class_among (c ∷ cs) name ≡ Some c = cond-true (same_name c.name name) (Some c) (class_among cs name) here in
             let two : lookup (is_at (name_order name)) (e ∷ es) ≡ Some e.1 = lookup_head (is_at (name_order name)) e es at in
             let three : given_from name (class_among (c ∷ cs) name) ≡ c.outer = ap (given_from name) one in
             let four : outer_if outers name (lookup (is_at (name_order name)) (e ∷ es)) ≡ listed (named outers name) = ap (outer_if outers name) two in
             three ∙ (lists c (inl refl) (k ∙ sym is) ∙ sym four))
         | inr other ↦ (
             let at : is_at (name_order name) e.0 ≡ false = ap (λ (n : Name). is_at (name_order name) n) (sym k) ∙ (sym (test_same c.name name) ∙ other) in
-            let one : class_among (c ∷ cs) name ≡ class_among cs name = cond_false (same_name c.name name) (Some c) (class_among cs name) other in
+            let one : class_among (c ∷ cs) name ≡ class_among cs name = cond-false (same_name c.name name) (Some c) (class_among cs name) other in
             let two : lookup (is_at (name_order name)) (e ∷ es) ≡ lookup (is_at (name_order name)) es = lookup_tail (is_at (name_order name)) e es at in
             let three : given_from name (class_among (c ∷ cs) name) ≡ given_from name (class_among cs name) = ap (given_from name) one in
             let four : outer_if outers name (lookup (is_at (name_order name)) (e ∷ es)) ≡ outer_if outers name (lookup (is_at (name_order name)) es) = ap (outer_if outers name) two in
@@ -97,7 +99,7 @@ module _ (entries : Entries) (outers : Outers) (sorted : IsStrictlySortedBy name
       outer_is n d i less ∙ ap (λ (m : Name). listed (named outers m)) is) in
       let one : c.outer ≡ firsts (flat_map (given_by list) (directly_above c)) = has.each c k in
       let two : firsts (flat_map (given_by list) (directly_above c)) ≡ firsts (flat_map (given_by list) (directly_above e.class)) = ap (λ (ns : List Name). firsts (flat_map (given_by list) ns)) (sym e.above) in
-      let three : firsts (flat_map (given_by list) (directly_above e.class)) ≡ given_to entries outers e.class = ap firsts (flat_map_same (given_by list) (gives entries outers) (directly_above e.class) each) in
+      let three : firsts (flat_map (given_by list) (directly_above e.class)) ≡ given_to entries outers e.class = ap firsts (flat_map_agree (given_by list) (gives entries outers) (directly_above e.class) each) in
       one ∙ (two ∙ (three ∙ sym (ap listed lists)))
 
   -- the classes are these
@@ -106,7 +108,7 @@ module _ (entries : Entries) (outers : Outers) (sorted : IsStrictlySortedBy name
 
 by_order : (a b : Name) (o : Ordering) → name_order a b ≡ o → (name_order a b ≡ Less → ⊥) → (name_order b a ≡ Less → ⊥) → a ≡ b
 by_order a b Less is first second = absurd (first is)
-by_order a b Equal is first second = eq_names a b (ap is_eq is)
+by_order a b Equal is first second = tied_equal a b (ap is_eq is)
 by_order a b Greater is first second = absurd (second (rw (nat_list_cmp_total.antisymm b a, is) refl))
 
 -- there is one least circle

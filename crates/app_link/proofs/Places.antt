@@ -10,47 +10,34 @@ use Rattle.std.proofs.lemmas.Cmp.{nat_list_cmp_total, then_total, on_total}
 use Rattle.app_machine.specs.Names.{Name, same_name}
 use Rattle.vet_base.specs.Ascending.{Ascends}
 use Rattle.app_machine.specs.Sound.{name_order}
-use Rattle.app_model.proofs.Halving.{found_at, found_nowhere}
-use Rattle.app_model.proofs.NameOrder.{same_tie, tied_same, same_equal}
 use Rattle.app_link.specs.Texts.{Triple}
 use Rattle.app_link.specs.Orders.{triple_order}
 use Rattle.app_link.specs.Statics.{same_triple, number_among}
-use Rattle.app_link.proofs.Throughs.{placed}
+use Rattle.std.proofs.lemmas.Bool.{and_parts, and_from}
+use Rattle.vet_base.proofs.Orders.{then_equal, both_equal}
+use Rattle.std.proofs.lemmas.List.{get_or_default}
+use Rattle.vet_base.proofs.Texts.{same_tie, tied_same, same_equal}
+use Rattle.vet_base.proofs.Halving.{found_at, found_nowhere}
 
 pub triple_total : IsTotalOrder triple_order
 triple_total = then_total (then_total (on_total (λ (t : Triple). t.0) nat_list_cmp_total) (on_total (λ (t : Triple). t.1) nat_list_cmp_total)) (on_total (λ (t : Triple). t.2) nat_list_cmp_total)
 
-both : (a b : Bool) → (a && b) ≡ true → (a ≡ true) × (b ≡ true)
-both true b h = (refl, h)
-both false b h = absurd cc
-
-joined_true : (a b : Bool) → a ≡ true → b ≡ true → (a && b) ≡ true
-joined_true a b h k = rw (h, k) refl
-
-then_equal : (o p : Ordering) → o ≡ Equal → p ≡ Equal → ordering_then o p ≡ Equal
-then_equal o p h k = rw (h, k) refl
-
-equal_both : (o p : Ordering) → ordering_then o p ≡ Equal → (o ≡ Equal) × (p ≡ Equal)
-equal_both Less p h = absurd cc
-equal_both Equal p h = (refl, h)
-equal_both Greater p h = absurd cc
-
 pub same_triples_tie : (a b : Triple) → same_triple a b ≡ true → triple_order a b ≡ Equal
 same_triples_tie a b same =
-    let outer = both (same_name a.0 b.0 && same_name a.1 b.1) (same_name a.2 b.2) same in
-    let inner = both (same_name a.0 b.0) (same_name a.1 b.1) outer.0 in
+    let outer = and_parts (same_name a.0 b.0 && same_name a.1 b.1) (same_name a.2 b.2) same in
+    let inner = and_parts (same_name a.0 b.0) (same_name a.1 b.1) outer.0 in
     then_equal (ordering_then (name_order a.0 b.0) (name_order a.1 b.1)) (name_order a.2 b.2) (then_equal (name_order a.0 b.0) (name_order a.1 b.1) (same_tie a.0 b.0 inner.0) (same_tie a.1 b.1 inner.1)) (same_tie a.2 b.2 outer.1)
 
 pub tied_triples_same : (a b : Triple) → triple_order a b ≡ Equal → same_triple a b ≡ true
 tied_triples_same a b tie =
-    let outer = equal_both (ordering_then (name_order a.0 b.0) (name_order a.1 b.1)) (name_order a.2 b.2) tie in
-    let inner = equal_both (name_order a.0 b.0) (name_order a.1 b.1) outer.0 in
-    joined_true (same_name a.0 b.0 && same_name a.1 b.1) (same_name a.2 b.2) (joined_true (same_name a.0 b.0) (same_name a.1 b.1) (tied_same a.0 b.0 inner.0) (tied_same a.1 b.1 inner.1)) (tied_same a.2 b.2 outer.1)
+    let outer = both_equal (ordering_then (name_order a.0 b.0) (name_order a.1 b.1)) (name_order a.2 b.2) tie in
+    let inner = both_equal (name_order a.0 b.0) (name_order a.1 b.1) outer.0 in
+    and_from (same_name a.0 b.0 && same_name a.1 b.1) (same_name a.2 b.2) (and_from (same_name a.0 b.0) (same_name a.1 b.1) (tied_same a.0 b.0 inner.0) (tied_same a.1 b.1 inner.1)) (tied_same a.2 b.2 outer.1)
 
 pub tied_triples_equal : (a b : Triple) → triple_order a b ≡ Equal → a ≡ b
 tied_triples_equal a b tie =
-    let outer = equal_both (ordering_then (name_order a.0 b.0) (name_order a.1 b.1)) (name_order a.2 b.2) tie in
-    let inner = equal_both (name_order a.0 b.0) (name_order a.1 b.1) outer.0 in
+    let outer = both_equal (ordering_then (name_order a.0 b.0) (name_order a.1 b.1)) (name_order a.2 b.2) tie in
+    let inner = both_equal (name_order a.0 b.0) (name_order a.1 b.1) outer.0 in
     let first : a.0 ≡ b.0 = same_equal a.0 b.0 (tied_same a.0 b.0 inner.0) in
     let second : a.1 ≡ b.1 = same_equal a.1 b.1 (tied_same a.1 b.1 inner.1) in
     let third : a.2 ≡ b.2 = same_equal a.2 b.2 (tied_same a.2 b.2 outer.1) in
@@ -61,7 +48,7 @@ module _ (statics : List Triple) (sorted : Ascends triple_order statics) (at : T
   unfolding number_among
   place_there i within position =
       let x : Triple = get_or statics i at in
-      let is : x ≡ get_or statics i x = placed statics i at within in
+      let is : x ≡ get_or statics i x = get_or_default statics i at (get_or statics i at) within in
       let ties : triple_order (get_or statics i x) at ≡ Equal = position x in
       let passes : same_triple x at ≡ true = ap (λ (s : Triple). same_triple s at) is ∙ tied_triples_same (get_or statics i x) at ties in
       let first = found_at (λ (t : Triple). t) triple_total statics sorted at (λ s. same_triple s at) (λ s same. same_triples_tie s at same) i x within is ties passes in

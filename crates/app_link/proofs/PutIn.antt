@@ -13,29 +13,18 @@ use Rattle.std.proofs.lemmas.Cmp.{eq_by_cmp_equiv, on_total}
 use Rattle.std.proofs.lemmas.Map.{NonePasses, lookup-none, none_passes_from_lookup}
 use Rattle.std.proofs.lemmas.Map.Keys.{IsDistinct-head, IsDistinct-tail, IsDistinct-cons}
 use Rattle.vet_base.specs.Script.{Script, Value, Test, ◌>>=◌, run}
-use Rattle.dex_code.proofs.Runs.{passed, passes}
 use Rattle.vet_base.specs.Members.{In}
 use Rattle.vet_base.specs.Ascending.{Ascends}
 use Rattle.app_link.specs.Orders.{AreOrdered}
-use Rattle.app_link.proofs.Ascending.{ascending_alike}
-use Rattle.app_link.proofs.Keeps.{same_value}
-
-missed : {X : Type 0} (o : Option X) → IsTrue (not (is_some o)) → o ≡ None
-missed None h = refl
-missed (Some x) h = absurd cc
-
-misses : {X : Type 0} (o : Option X) → o ≡ None → IsTrue (not (is_some o))
-misses o e = rw e refl
+use Rattle.vet_base.proofs.Runs.{value_is, test_ok, test_passes}
+use Rattle.vet_base.proofs.Options.{none_of}
+use Rattle.std.proofs.lemmas.Bool.{not-true}
+use Rattle.vet_base.proofs.Orders.{turned_back, differs_back}
+use Rattle.vet_base.proofs.Ascending.{ascending_alike}
 
 module _ {A : Type 0} (order : A → A → Ordering) (total : IsTotalOrder order) where
-  reversed : (x y : A) → order x y ≡ Greater → order y x ≡ Less
-  reversed x y greater = rw (total.antisymm y x, greater) refl
-
   not_tied : (x y : A) → order x y ≡ Equal → eq_by_cmp order x y ≡ false → ⊥
   not_tied x y tie differs = let same : eq_by_cmp order x y ≡ true = ap is_eq tie in absurd cc
-
-  differs_back : (x y : A) → eq_by_cmp order x y ≡ false → eq_by_cmp order y x ≡ false
-  differs_back x y differs = (eq_by_cmp_equiv total).symm y x ∙ differs
 
 module _ {K X : Type 0} (order : K → K → Ordering) (total : IsTotalOrder order) where
   all_above : (P : K → Type 0) (es : List (K × X)) (e : K × X) → AllByRecursion P (keys_of es) → In e es → P e.0
@@ -115,7 +104,7 @@ module _ {K X : Type 0} (order : K → K → Ordering) (total : IsTotalOrder ord
       by_order Greater o later = (
         all_from (λ q. order d.0 q ≡ Less) (insert_entry order ds k x) (λ e i. elim (old_or_new ds k x e (lacks_behind d ds k lacks) i) [
           | inl old ↦ all_above (λ q. order d.0 q ≡ Less) ds e sorted.0 old
-          | inr new ↦ subst (λ (y : K × X). order d.0 y.0 ≡ Less) (sym new) (reversed order total k d.0 o)
+          | inr new ↦ subst (λ (y : K × X). order d.0 y.0 ≡ Less) (sym new) (turned_back total k d.0 o)
         ]),
         later,
       )
@@ -142,7 +131,7 @@ module _ {K X : Type 0} (order : K → K → Ordering) (total : IsTotalOrder ord
     put_stands : (es s t : List (K × X)) → run (putting es s) ≡ Ok t → IsStrictlySortedBy order (keys_of s) → Put es s t
     unfolding IsDistinct
     put_stands [] s t e sorted =
-        let same : s ≡ t = same_value {F = F} s t e in
+        let same : s ≡ t = value_is {F = F} s t e in
         record {
           once = tt;
           new = λ d i. absurd i;
@@ -152,11 +141,11 @@ module _ {K X : Type 0} (order : K → K → Ordering) (total : IsTotalOrder ord
           there = λ d i. absurd i;
         }
     put_stands (x ∷ xs) s t e sorted =
-        let first = passed (not (is_some (lookup (is_at (order x.0)) s))) (fault x.0) (putting xs (insert_entry order s x.0 x.1)) t e in
-        let lacks : Lacks s x.0 = lacks_from s x.0 (none_passes_from_lookup (is_at (order x.0)) s (missed (lookup (is_at (order x.0)) s) first.0)) in
+        let first = test_ok (not (is_some (lookup (is_at (order x.0)) s))) (fault x.0) (putting xs (insert_entry order s x.0 x.1)) t e in
+        let lacks : Lacks s x.0 = lacks_from s x.0 (none_passes_from_lookup (is_at (order x.0)) s (none_of (lookup (is_at (order x.0)) s) (not-true (is_some (lookup (is_at (order x.0)) s)) first.0))) in
         let rest : Put xs (insert_entry order s x.0 x.1) t = put_stands xs (insert_entry order s x.0 x.1) t first.1 (sorted_more s x.0 x.1 lacks sorted) in
         record {
-          once = IsDistinct-cons (eq_by_cmp order) x.0 (keys_of xs) (all_from (λ q. eq_by_cmp order x.0 q ≡ false) xs (λ d i. differs_back order total d.0 x.0 (rest.new d i (x.0, x.1) (new_in s x.0 x.1 lacks)))) rest.once;
+          once = IsDistinct-cons (eq_by_cmp order) x.0 (keys_of xs) (all_from (λ q. eq_by_cmp order x.0 q ≡ false) xs (λ d i. differs_back total d.0 x.0 (rest.new d i (x.0, x.1) (new_in s x.0 x.1 lacks)))) rest.once;
           new = λ d i. elim i [
             | inl same ↦ subst (λ (y : K × X). Lacks s y.0) (sym same) lacks
             | inr j ↦ (λ y k. rest.new d j y (old_in s x.0 x.1 y lacks k))
@@ -178,11 +167,11 @@ module _ {K X : Type 0} (order : K → K → Ordering) (total : IsTotalOrder ord
     put_runs (x ∷ xs) s once new =
         let lacks : Lacks s x.0 = new x (inl refl) in
         let rest = put_runs xs (insert_entry order s x.0 x.1) (IsDistinct-tail (eq_by_cmp order) x.0 (keys_of xs) once) later in
-        let fresh : IsTrue (not (is_some (lookup (is_at (order x.0)) s))) = misses (lookup (is_at (order x.0)) s) (lookup-none (is_at (order x.0)) s (lacks_to s x.0 lacks)) in
-        (rest.0, passes (not (is_some (lookup (is_at (order x.0)) s))) (fault x.0) (putting xs (insert_entry order s x.0 x.1)) fresh ∙ rest.1)
+        let fresh : IsTrue (not (is_some (lookup (is_at (order x.0)) s))) = ap (λ (o : Option X). not (is_some o)) (lookup-none (is_at (order x.0)) s (lacks_to s x.0 lacks)) in
+        (rest.0, test_passes (not (is_some (lookup (is_at (order x.0)) s))) (fault x.0) (putting xs (insert_entry order s x.0 x.1)) fresh ∙ rest.1)
       where
         differs : (d : K × X) → In d xs → eq_by_cmp order d.0 x.0 ≡ false
-        differs d i = differs_back order total x.0 d.0 (all_above (λ q. eq_by_cmp order x.0 q ≡ false) xs d (IsDistinct-head (eq_by_cmp order) x.0 (keys_of xs) once) i)
+        differs d i = differs_back total x.0 d.0 (all_above (λ q. eq_by_cmp order x.0 q ≡ false) xs d (IsDistinct-head (eq_by_cmp order) x.0 (keys_of xs) once) i)
 
         later : (d : K × X) → In d xs → Lacks (insert_entry order s x.0 x.1) d.0
         later d i y k = elim (old_or_new s x.0 x.1 y (new x (inl refl)) k) [

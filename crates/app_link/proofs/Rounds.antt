@@ -8,12 +8,13 @@ use Rattle.app_machine.specs.Sound.{name_order}
 use Rattle.std.proofs.lemmas.List.{drop_all, append-nil}
 use Rattle.vet_base.specs.Members.{In}
 use Rattle.app_machine.specs.Names.{Name}
-use Rattle.app_model.proofs.Elements.{in_front, in_back, in_either}
 use Rattle.app_link.specs.Orders.{named, has_name}
-use Rattle.app_link.proofs.Lookups.{eq_names, split}
 use Rattle.app_link.specs.Settled.{Entries, Outers, Settled, Turn, Covers, AreStuck, IsStuck, AllSettled, is_settled}
 use Rattle.app_link.proofs.Settling.{known_settled}
-use Rattle.app_link.proofs.Throughs.{front}
+use Rattle.std.proofs.lemmas.Bool.{cases_Bool}
+use Rattle.vet_base.proofs.Texts.{tied_equal}
+use Rattle.vet_base.proofs.Lists.{drop_read}
+use Rattle.vet_base.proofs.Members.{in_front, in_back, in_either}
 
 -- before the turn of the i-th name: what is left of those before it
 pub record Round (classes : Entries) (names : List Name) (initial : Outers) (i : ℕ) (outers : Outers) (left : List Name) : Type 0 where
@@ -31,7 +32,7 @@ module _ (classes : Entries) (names : List Name) (initial : Outers) (i : ℕ) (o
   in_parts : (q : Name) → IsTrue (has_name classes q) → IsTrue (has_name outers q) ⊎ (In q left ⊎ In q (name ∷ drop (i + 1) names))
   in_parts q known = elim (round.covers.each q known) [
     | inl had ↦ inl had
-    | inr k ↦ inr (in_either q left (name ∷ drop (i + 1) names) (subst (λ (ns : List Name). In q (left ++ ns)) (front names i name lt item) k))
+    | inr k ↦ inr (in_either q left (name ∷ drop (i + 1) names) (subst (λ (ns : List Name). In q (left ++ ns)) (drop_read names i name lt item) k))
   ]
 
   round_goes_on : Turn classes outers new name false → Round classes names initial (i + 1) new left
@@ -104,8 +105,8 @@ module _ (classes : Entries) (names : List Name) (initial : Outers) (i : ℕ) (o
 -- what stands among the keys of what a look-up finds
 in_keys : {X : Type 0} (entries : List (Name × X)) (name : Name) → IsTrue (is_some (lookup (is_at (name_order name)) entries)) → In name (keys_of entries)
 in_keys [] name known = absurd cc
-in_keys (e ∷ es) name known = elim (split (is_at (name_order name) e.0)) [
-  | inl same ↦ inl (eq_names name e.0 same)
+in_keys (e ∷ es) name known = elim (cases_Bool (is_at (name_order name) e.0)) [
+  | inl same ↦ inl (tied_equal name e.0 same)
   | inr other ↦ inr (in_keys es name (ap (λ (o : Option _). is_some o) (sym (lookup_tail (is_at (name_order name)) e es other)) ∙ known))
 ]
 

@@ -8,11 +8,13 @@ use Rattle.vet_base.specs.Members.{In}
 use Rattle.app_machine.specs.Names.{Name}
 use Rattle.app_machine.specs.Sound.{name_order}
 use Rattle.app_machine.specs.Lookups.{directly_above}
-use Rattle.app_model.proofs.Elements.{in_front, in_back, in_either}
 use Rattle.app_link.specs.Circle.{above_named, newly}
 use Rattle.app_link.specs.Hierarchy.{Above, directly, beyond, is_among}
 use Rattle.app_link.specs.Orders.{named}
-use Rattle.app_link.proofs.Lookups.{eq_names, at_itself, cond_true, cond_false, split}
+use Rattle.app_link.proofs.Lookups.{at_itself}
+use Rattle.std.proofs.lemmas.Bool.{cond-true, cond-false, cases_Bool}
+use Rattle.vet_base.proofs.Texts.{tied_equal}
+use Rattle.vet_base.proofs.Members.{in_front, in_back, in_either}
 
 above_by : (classes : List (Name × Class)) (name above : Name) (o : Option Class) → named classes name ≡ o → In above (elim o [ None ↦ [] | Some c ↦ directly_above c ]) → Above classes name above
 above_by classes name above None is k = absurd k
@@ -45,7 +47,7 @@ module _ (classes : List (Name × Class)) (root : Name) where
   pub search_finds : (seen queue rest : List Name) (name : Name) → queue ≡ rest ++ name ∷ [] → is_at (name_order name) root ≡ true → Searching seen queue → (IsTrue true → Above classes root root) × (Above classes root root → IsTrue true)
   search_finds seen queue rest name split_at same search =
       let k : In name queue = subst (λ (ns : List Name). In name ns) (sym split_at) (in_back name rest (name ∷ []) (inl refl)) in
-      (λ _. subst (λ (n : Name). Above classes root n) (eq_names name root same) (search.reached name k), λ _. refl)
+      (λ _. subst (λ (n : Name). Above classes root n) (tied_equal name root same) (search.reached name k), λ _. refl)
 
   ends : (seen queue : List Name) → queue ≡ [] → Searching seen queue → Above classes root root → ⊥
   ends seen queue none search p = let there : is_among seen root ≡ true = begins root root p refl in let away : is_among seen root ≡ false = search.away in absurd cc
@@ -76,7 +78,7 @@ module _ (classes : List (Name × Class)) (root : Name) where
         kept false b e = e
 
     seen_now : (q : Name) → q ≡ name → IsTrue (is_among seen_then q)
-    seen_now q e = adds q ∙ cond_true (is_at (name_order name) q) true (is_among seen q) (subst (λ (n : Name). is_at (name_order name) n ≡ true) (sym e) (at_itself name))
+    seen_now q e = adds q ∙ cond-true (is_at (name_order name) q) true (is_among seen q) (subst (λ (n : Name). is_at (name_order name) n ≡ true) (sym e) (at_itself name))
 
     in_rest : (a : Name) → In a rest → In a queue_then
     in_rest a k = subst (λ (ns : List Name). In a ns) (sym more) (in_front a rest (newly classes seen name) k)
@@ -91,14 +93,14 @@ module _ (classes : List (Name × Class)) (root : Name) where
 
     newly_in : is_among seen name ≡ false → newly classes seen name ≡ above_named classes name
     unfolding newly
-    newly_in fresh = cond_false (is_among seen name) [] (above_named classes name) fresh
+    newly_in fresh = cond-false (is_among seen name) [] (above_named classes name) fresh
 
     newly_none : is_among seen name ≡ true → newly classes seen name ≡ []
     unfolding newly
-    newly_none old = cond_true (is_among seen name) [] (above_named classes name) old
+    newly_none old = cond-true (is_among seen name) [] (above_named classes name) old
 
     in_new : (a : Name) → In a (newly classes seen name) → In a (above_named classes name)
-    in_new a k = elim (split (is_among seen name)) [
+    in_new a k = elim (cases_Bool (is_among seen name)) [
       | inl old ↦ absurd (subst (λ (ns : List Name). In a ns) (newly_none old) k)
       | inr fresh ↦ subst (λ (ns : List Name). In a ns) (newly_in fresh) k
     ]
@@ -109,15 +111,15 @@ module _ (classes : List (Name × Class)) (root : Name) where
       reached_then a (inr k) = beyond (search.reached name (subst (λ (ns : List Name). In name ns) (sym split_at) (in_back name rest (name ∷ []) (inl refl)))) (from_named classes name a (in_new a k))
 
       of_name : (a : Name) → In a (above_named classes name) → In a queue_then ⊎ IsTrue (is_among seen_then a)
-      of_name a k = elim (split (is_among seen name)) [
+      of_name a k = elim (cases_Bool (is_among seen name)) [
         | inl old ↦ moved a (search.closed name a old k)
         | inr fresh ↦ inl (subst (λ (ns : List Name). In a ns) (sym more) (in_back a rest (newly classes seen name) (subst (λ (ns : List Name). In a ns) (sym (newly_in fresh)) k)))
       ]
 
       closed_then : (n a : Name) → IsTrue (is_among seen_then n) → In a (above_named classes n) → In a queue_then ⊎ IsTrue (is_among seen_then a)
-      closed_then n a h k = elim (split (is_at (name_order name) n)) [
-        | inl same ↦ of_name a (subst (λ (x : Name). In a (above_named classes x)) (sym (eq_names name n same)) k)
-        | inr elsewhere ↦ (let old : is_among seen n ≡ true = sym (adds n ∙ cond_false (is_at (name_order name) n) true (is_among seen n) elsewhere) ∙ h in moved a (search.closed n a old k))
+      closed_then n a h k = elim (cases_Bool (is_at (name_order name) n)) [
+        | inl same ↦ of_name a (subst (λ (x : Name). In a (above_named classes x)) (sym (tied_equal name n same)) k)
+        | inr elsewhere ↦ (let old : is_among seen n ≡ true = sym (adds n ∙ cond-false (is_at (name_order name) n) true (is_among seen n) elsewhere) ∙ h in moved a (search.closed n a old k))
       ]
 
       pub search_goes_on : Searching seen_then queue_then
@@ -125,7 +127,7 @@ module _ (classes : List (Name × Class)) (root : Name) where
         reached = λ a k. reached_then a (in_either a rest (newly classes seen name) (subst (λ (ns : List Name). In a ns) more k));
         closed = closed_then;
         first = λ a k. moved a (search.first a k);
-        away = adds root ∙ (cond_false (is_at (name_order name) root) true (is_among seen root) other ∙ search.away);
+        away = adds root ∙ (cond-false (is_at (name_order name) root) true (is_among seen root) other ∙ search.away);
       }
 
 -- how much is directly above the classes that were not seen
@@ -154,13 +156,13 @@ module _ (seen seen_then : List Name) (name : Name) (adds : (q : Name) → is_am
   weighs_found : (es : List (Name × Class)) (class : Class) → named es name ≡ Some class → is_among seen name ≡ false → weight es seen_then + length (directly_above class) ≤ weight es seen
   unfolding named
   weighs_found [] class is fresh = absurd cc
-  weighs_found (e ∷ es) class is fresh = elim (split (is_at (name_order name) e.0)) [
+  weighs_found (e ∷ es) class is fresh = elim (cases_Bool (is_at (name_order name) e.0)) [
     | inl same ↦ (
-        let k : name ≡ e.0 = eq_names name e.0 same in
+        let k : name ≡ e.0 = tied_equal name e.0 same in
         let both : Some e.1 ≡ Some class = sym (lookup_head (is_at (name_order name)) e es same) ∙ is in
         let class_is : e.1 ≡ class = cc in
         let long : length (directly_above e.1) ≡ length (directly_above class) = ap (λ (c : Class). length (directly_above c)) class_is in
-        let seen_e : is_among seen_then e.0 ≡ true = adds e.0 ∙ cond_true (is_at (name_order name) e.0) true (is_among seen e.0) same in
+        let seen_e : is_among seen_then e.0 ≡ true = adds e.0 ∙ cond-true (is_at (name_order name) e.0) true (is_among seen e.0) same in
         let fresh_e : is_among seen e.0 ≡ false = subst (λ (n : Name). is_among seen n ≡ false) k fresh in
         let one : cond (is_among seen_then e.0) 0 (length (directly_above e.1)) ≡ 0 = none_left (is_among seen_then e.0) (length (directly_above e.1)) seen_e in
         let two : cond (is_among seen e.0) 0 (length (directly_above e.1)) ≡ length (directly_above e.1) = all_left (is_among seen e.0) (length (directly_above e.1)) fresh_e in
@@ -175,13 +177,13 @@ module _ (seen seen_then : List Name) (name : Name) (adds : (q : Name) → is_am
 
   weighs_new : (classes : List (Name × Class)) → weight classes seen_then + length (newly classes seen name) ≤ weight classes seen
   unfolding newly above_named
-  weighs_new classes = elim (split (is_among seen name)) [
+  weighs_new classes = elim (cases_Bool (is_among seen name)) [
     | inl old ↦ (
-        let none : length (newly classes seen name) ≡ 0 = ap (λ (ns : List Name). length ns) (cond_true (is_among seen name) [] (above_named classes name) old) in
+        let none : length (newly classes seen name) ≡ 0 = ap (λ (ns : List Name). length ns) (cond-true (is_among seen name) [] (above_named classes name) old) in
         let less : weight classes seen_then ≤ weight classes seen = weighs_less classes in
         omega (arith, none, less))
     | inr fresh ↦ (
-        let same : length (newly classes seen name) ≡ length (above_named classes name) = ap (λ (ns : List Name). length ns) (cond_false (is_among seen name) [] (above_named classes name) fresh) in
+        let same : length (newly classes seen name) ≡ length (above_named classes name) = ap (λ (ns : List Name). length ns) (cond-false (is_among seen name) [] (above_named classes name) fresh) in
         let less : weight classes seen_then + length (above_named classes name) ≤ weight classes seen = by_class (named classes name) refl fresh in
         omega (arith, same, less))
   ]

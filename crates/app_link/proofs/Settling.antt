@@ -10,12 +10,16 @@ use Rattle.app_machine.specs.Lookups.{directly_above}
 use Rattle.app_link.specs.Hierarchy.{firsts}
 use Rattle.app_link.specs.Orders.{named, has_name}
 use Rattle.app_link.specs.Settled.{Entries, Outers, Settled, Turn, is_settled, all_settled, one_settled, is_ready, gives, given_to, listed}
-use Rattle.app_link.proofs.Lookups.{eq_names, at_itself, either_holds, holds_if, and_first, and_second, cond_true, cond_false, split, flat_map_same}
+use Rattle.app_link.proofs.Lookups.{at_itself}
+use Rattle.vet_base.proofs.Bools.{implied, implies_if}
+use Rattle.std.proofs.lemmas.Bool.{and_parts, cond-true, cond-false, cases_Bool}
+use Rattle.vet_base.proofs.Members.{flat_map_agree}
+use Rattle.vet_base.proofs.Texts.{tied_equal}
 
 in_all : (classes : Entries) (outers : Outers) (names : List Name) (above : Name) → all_settled classes outers names ≡ true → In above names → is_settled classes outers above ≡ true
 in_all classes outers [] above h k = absurd k
-in_all classes outers (x ∷ xs) above h (inl e) = ap (is_settled classes outers) e ∙ and_first (is_settled classes outers x) (all_settled classes outers xs) h
-in_all classes outers (x ∷ xs) above h (inr k) = in_all classes outers xs above (and_second (is_settled classes outers x) (all_settled classes outers xs) h) k
+in_all classes outers (x ∷ xs) above h (inl e) = ap (is_settled classes outers) e ∙ (and_parts (is_settled classes outers x) (all_settled classes outers xs) h).0
+in_all classes outers (x ∷ xs) above h (inr k) = in_all classes outers xs above ((and_parts (is_settled classes outers x) (all_settled classes outers xs) h).1) k
 
 in_above : (classes : Entries) (outers : Outers) (superclass : Option Name) (names : List Name) (above : Name) → one_settled classes outers superclass ≡ true → all_settled classes outers names ≡ true
     → In above (option_to_list superclass ++ names) → is_settled classes outers above ≡ true
@@ -27,23 +31,23 @@ in_above classes outers (Some s) names above one all (inr k) = in_all classes ou
 pub ready_above : (classes : Entries) (outers : Outers) (class : Class) (above : Name) → is_ready classes outers class ≡ true → In above (directly_above class) → is_settled classes outers above ≡ true
 unfolding is_ready
 ready_above classes outers class above ready k =
-    let one : one_settled classes outers class.superclass ≡ true = and_first (one_settled classes outers class.superclass) (all_settled classes outers class.interfaces) ready in
-    let all : all_settled classes outers class.interfaces ≡ true = and_second (one_settled classes outers class.superclass) (all_settled classes outers class.interfaces) ready in
+    let one : one_settled classes outers class.superclass ≡ true = (and_parts (one_settled classes outers class.superclass) (all_settled classes outers class.interfaces) ready).0 in
+    let all : all_settled classes outers class.interfaces ≡ true = (and_parts (one_settled classes outers class.superclass) (all_settled classes outers class.interfaces) ready).1 in
     in_above classes outers class.superclass class.interfaces above one all k
 
 pub known_settled : (classes : Entries) (outers : Outers) (above : Name) → is_settled classes outers above ≡ true → IsTrue (has_name classes above) → IsTrue (has_name outers above)
 unfolding is_settled
-known_settled classes outers above is known = either_holds (has_name classes above) (has_name outers above) is known
+known_settled classes outers above is known = implied (has_name classes above) (has_name outers above) is known
 
 pub settled_if : (classes : Entries) (outers : Outers) (above : Name) → (IsTrue (has_name classes above) → IsTrue (has_name outers above)) → is_settled classes outers above ≡ true
 unfolding is_settled
-settled_if classes outers above f = holds_if (has_name classes above) (has_name outers above) f
+settled_if classes outers above f = implies_if (has_name classes above) (has_name outers above) f
 
 gives_same : (classes : Entries) (old new : Outers) (above : Name) → (IsTrue (has_name classes above) → named new above ≡ named old above) → gives classes new above ≡ gives classes old above
 unfolding gives
-gives_same classes old new above same = elim (split (has_name classes above)) [
+gives_same classes old new above same = elim (cases_Bool (has_name classes above)) [
   | inl known ↦ ap (λ o. cond (has_name classes above) (listed o) (above ∷ [])) (same known)
-  | inr unknown ↦ cond_false (has_name classes above) (listed (named new above)) (above ∷ []) unknown ∙ sym (cond_false (has_name classes above) (listed (named old above)) (above ∷ []) unknown)
+  | inr unknown ↦ cond-false (has_name classes above) (listed (named new above)) (above ∷ []) unknown ∙ sym (cond-false (has_name classes above) (listed (named old above)) (above ∷ []) unknown)
 ]
 
 module _ (classes : Entries) (old new : Outers) (name : Name) (class : Class)
@@ -54,11 +58,11 @@ module _ (classes : Entries) (old new : Outers) (name : Name) (class : Class)
   here q = is_at (name_order name) q
 
   elsewhere : (q : Name) → here q ≡ false → named new q ≡ named old q
-  elsewhere q other = updates q ∙ cond_false (here q) (Some (given_to classes old class)) (named old q) other
+  elsewhere q other = updates q ∙ cond-false (here q) (Some (given_to classes old class)) (named old q) other
 
   away : (q : Name) → IsTrue (has_name old q) → here q ≡ false
-  away q had = elim (split (here q)) [
-    | inl same ↦ (let e : name ≡ q = eq_names name q same in let none : has_name old q ≡ false = subst (λ (n : Name). has_name old n ≡ false) e fresh in absurd cc)
+  away q had = elim (cases_Bool (here q)) [
+    | inl same ↦ (let e : name ≡ q = tied_equal name q same in let none : has_name old q ≡ false = subst (λ (n : Name). has_name old n ≡ false) e fresh in absurd cc)
     | inr other ↦ other
   ]
 
@@ -69,10 +73,10 @@ module _ (classes : Entries) (old new : Outers) (name : Name) (class : Class)
   has_still q had = ap (λ (o : Option (List Name)). is_some o) (stays q had) ∙ had
 
   now_there : (q : Name) → here q ≡ true → named new q ≡ Some (given_to classes old class)
-  now_there q same = updates q ∙ cond_true (here q) (Some (given_to classes old class)) (named old q) same
+  now_there q same = updates q ∙ cond-true (here q) (Some (given_to classes old class)) (named old q) same
 
   given_same : (c : Class) → ((above : Name) → In above (directly_above c) → IsTrue (has_name classes above) → IsTrue (has_name old above)) → given_to classes new c ≡ given_to classes old c
-  given_same c all = ap firsts (flat_map_same (gives classes new) (gives classes old) (directly_above c) (λ x k. gives_same classes old new x (λ known. stays x (all x k known))))
+  given_same c all = ap firsts (flat_map_agree (gives classes new) (gives classes old) (directly_above c) (λ x k. gives_same classes old new x (λ known. stays x (all x k known))))
 
   ready_has : (above : Name) → In above (directly_above class) → IsTrue (has_name classes above) → IsTrue (has_name old above)
   ready_has above k known = known_settled classes old above (ready_above classes old class above ready k) known
@@ -81,13 +85,13 @@ module _ (classes : Entries) (old new : Outers) (name : Name) (class : Class)
   new_rank q = cond (here q) before.limit (before.rank q)
 
   rank_here : (q : Name) → here q ≡ true → new_rank q ≡ before.limit
-  rank_here q same = cond_true (here q) before.limit (before.rank q) same
+  rank_here q same = cond-true (here q) before.limit (before.rank q) same
 
   rank_elsewhere : (q : Name) → here q ≡ false → new_rank q ≡ before.rank q
-  rank_elsewhere q other = cond_false (here q) before.limit (before.rank q) other
+  rank_elsewhere q other = cond-false (here q) before.limit (before.rank q) other
 
   new_below : (q : Name) → new_rank q < before.limit + 1
-  new_below q = elim (split (here q)) [
+  new_below q = elim (cases_Bool (here q)) [
     | inl same ↦ (let e : new_rank q ≡ before.limit = rank_here q same in omega (arith, e))
     | inr other ↦ (let e : new_rank q ≡ before.rank q = rank_elsewhere q other in let lt : before.rank q < before.limit = before.below q in omega (arith, e, lt))
   ]
@@ -97,13 +101,13 @@ module _ (classes : Entries) (old new : Outers) (name : Name) (class : Class)
 
   is_class : (q : Name) (c : Class) → here q ≡ true → named classes q ≡ Some c → class ≡ c
   is_class q c same is =
-      let e : name ≡ q = eq_names name q same in
+      let e : name ≡ q = tied_equal name q same in
       let one : named classes q ≡ Some class = subst (λ (n : Name). named classes n ≡ Some class) e there in
       let both : Some class ≡ Some c = sym one ∙ is in
       cc
 
   new_above : (q above : Name) (c : Class) → named classes q ≡ Some c → IsTrue (has_name new q) → In above (directly_above c) → IsTrue (has_name classes above) → IsTrue (has_name new above) × (new_rank above < new_rank q)
-  new_above q above c is had k known = elim (split (here q)) [
+  new_above q above c is had k known = elim (cases_Bool (here q)) [
     | inl same ↦ (
         let k' : In above (directly_above class) = subst (λ (d : Class). In above (directly_above d)) (sym (is_class q c same is)) k in
         let had' : IsTrue (has_name old above) = ready_has above k' known in
@@ -119,7 +123,7 @@ module _ (classes : Entries) (old new : Outers) (name : Name) (class : Class)
   ]
 
   new_lists : (q : Name) (c : Class) → named classes q ≡ Some c → IsTrue (has_name new q) → named new q ≡ Some (given_to classes new c)
-  new_lists q c is had = elim (split (here q)) [
+  new_lists q c is had = elim (cases_Bool (here q)) [
     | inl same ↦ (
         let e : Some (given_to classes old class) ≡ Some (given_to classes new class) = ap (λ (ns : List Name). Some ns) (sym (given_same class ready_has)) in
         let f : Some (given_to classes new class) ≡ Some (given_to classes new c) = ap (λ (d : Class). Some (given_to classes new d)) (is_class q c same is) in

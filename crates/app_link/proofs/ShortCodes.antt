@@ -8,11 +8,7 @@ use Rattle.dex_reader.specs.declared.dex.RawCode.{RawCode}
 use Rattle.dex_reader.specs.Sound.{SoundDex, IsSoundClass, IsSoundBody, IfCode, rows_of}
 use Rattle.app_link.specs.declared.members.Place.{Place}
 use Rattle.app_link.specs.Code.{ShortCode, ShortCodes, code_at, bodies_of}
-
-got : {A : Type 0} (P : A → Type 0) (xs : List A) (i : ℕ) (x : A) → All P xs → slice_get xs i ≡ Some x → P x
-got P [] i x all e = absurd cc
-got P (y ∷ ys) zero x all e = let same : y ≡ x = cc in subst P same (all 0 y (omega arith))
-got P (y ∷ ys) (suc i) x all e = got P ys i x (λ k d lt. all (suc k) d (omega arith)) e
+use Rattle.vet_base.proofs.Lists.{All-slice_get}
 
 bodies_sound : (dex : Dex) (def : ClassDef) (is_virtual : Bool) → IsSoundClass (rows_of dex) def → All (IsSoundBody (rows_of dex)) (bodies_of def is_virtual)
 bodies_sound dex def true sound = sound.virtuals
@@ -35,16 +31,16 @@ module _ (dexes : List Dex) (all : All SoundDex dexes) (place : Place) (file : D
   from_class : (dex : Dex) (o : Option ClassDef) → ((d : ClassDef) → o ≡ Some d → IsSoundClass (rows_of dex) d)
       → elim o as (λ (o : Option ClassDef). Option (Dex × RawCode)) [ None ↦ None | Some def ↦ elim (slice_get (bodies_of def place.is_virtual) place.body) [ None ↦ None | Some body ↦ elim body.code [ None ↦ None | Some c ↦ Some (dex, c) ] ] ] ≡ Some (file, code) → ShortCode code
   from_class dex None sound e = absurd cc
-  from_class dex (Some def) sound e = from_body dex (slice_get (bodies_of def place.is_virtual) place.body) (λ b is. got (IsSoundBody (rows_of dex)) (bodies_of def place.is_virtual) place.body b (bodies_sound dex def place.is_virtual (sound def refl)) is) e
+  from_class dex (Some def) sound e = from_body dex (slice_get (bodies_of def place.is_virtual) place.body) (λ b is. All-slice_get (IsSoundBody (rows_of dex)) (bodies_of def place.is_virtual) place.body b (bodies_sound dex def place.is_virtual (sound def refl)) is) e
 
   from_dex : (o : Option Dex) → ((d : Dex) → o ≡ Some d → SoundDex d)
       → elim o as (λ (o : Option Dex). Option (Dex × RawCode)) [ None ↦ None | Some dex ↦ elim (slice_get dex.classes place.class) [ None ↦ None | Some def ↦ elim (slice_get (bodies_of def place.is_virtual) place.body) [ None ↦ None | Some body ↦ elim body.code [ None ↦ None | Some c ↦ Some (dex, c) ] ] ] ] ≡ Some (file, code) → ShortCode code
   from_dex None sound e = absurd cc
-  from_dex (Some dex) sound e = from_class dex (slice_get dex.classes place.class) (λ d is. got (IsSoundClass (rows_of dex)) dex.classes place.class d (sound dex refl).classes is) e
+  from_dex (Some dex) sound e = from_class dex (slice_get dex.classes place.class) (λ d is. All-slice_get (IsSoundClass (rows_of dex)) dex.classes place.class d (sound dex refl).classes is) e
 
   at_place : code_at dexes place ≡ Some (file, code) → ShortCode code
   unfolding code_at
-  at_place e = from_dex (slice_get dexes place.dex) (λ d is. got SoundDex dexes place.dex d all is) e
+  at_place e = from_dex (slice_get dexes place.dex) (λ d is. All-slice_get SoundDex dexes place.dex d all is) e
 
 pub short_codes : (dexes : List Dex) → All SoundDex dexes → ShortCodes dexes
 short_codes dexes all = record { short = λ place dex code e. at_place dexes all place dex code e }

@@ -1,6 +1,7 @@
 -- The app with its statics and methods is sound.
 use Rattle.std.proofs.Common.{◌≡◌, ℕ, ◌<◌, ◌≤◌, List, [], ◌∷◌, map, length, refl, sym, ap, subst, ◌∙◌, arith, inl, inr}
 use Rattle.dex_reader.specs.declared.dex.Dex.{Dex}
+use Rattle.dex_code.specs.CodeLaws.{CodeLaws}
 use Rattle.app_machine.specs.declared.app.App.{App}
 use Rattle.app_machine.specs.declared.app.Key.{Key}
 use Rattle.app_machine.specs.declared.app.Key.TheVariants.{Elem, Field}
@@ -42,7 +43,7 @@ module _ (app : App) (fields : Fields) (dexes : List Dex) (statics : List Triple
   lifted_from (c ∷ cs) m (inl e) = (c, inl refl, e)
   lifted_from (c ∷ cs) m (inr k) = let found = lifted_from cs m k in (found.0, inr found.1, found.2)
 
-module _ (app : App) (fields : Fields) (dexes : List Dex) (statics : List Triple) (methods : List Method) (coded : List Coded)
+module _ (laws : CodeLaws) (app : App) (fields : Fields) (dexes : List Dex) (statics : List Triple) (methods : List Method) (coded : List Coded)
     (sound : SoundApp app) (are : AreStatics app fields dexes coded statics) (made : methods ≡ all_methods app fields statics dexes coded) where
   abbrev done : App
   done = record app { statics = statics; methods = methods }
@@ -57,7 +58,7 @@ module _ (app : App) (fields : Fields) (dexes : List Dex) (statics : List Triple
   body : (m : Method) (c : Coded) → In c coded → m ≡ lifted app fields statics dexes c → IsTested dexes c → m.registers ≤ 65535 → SoundMethod done m
   body m c k e tested narrow =
       let few : (lifted app fields statics dexes c).registers ≤ 65535 = subst (λ (x : Method). x.registers ≤ 65535) e narrow in
-      subst (SoundMethod done) (sym e) (sound_method app fields statics methods dexes coded (some_keys app.keys sound.fields sound.keys) are c k tested few)
+      subst (SoundMethod done) (sym e) (sound_method laws app fields statics methods dexes coded (some_keys app.keys sound.fields sound.keys) are c k tested few)
 
   bodies : Tested dexes coded → Narrow methods → (m : Method) → In m methods → SoundMethod done m
   unfolding all_methods
@@ -101,13 +102,13 @@ module _ (app : App) (fields : Fields) (dexes : List Dex) (statics : List Triple
       }
 
 -- the app with lists of statics and methods that were made from those that were read is sound
-pub finished_sound : (app : App) (fields : Fields) (dexes : List Dex) (coded read read_again : List Coded) (units : ℕ) (listed named statics : List Triple) (made methods : List Method)
+pub finished_sound : (laws : CodeLaws) (app : App) (fields : Fields) (dexes : List Dex) (coded read read_again : List Coded) (units : ℕ) (listed named statics : List Triple) (made methods : List Method)
     → SoundApp app → SoFar (coded, units) → Tested dexes coded → units ≤ 33554432 → length coded < 4294967296
     → read ≡ coded → AreStatics app fields dexes read listed → named ≡ listed → statics ≡ listed
     → read_again ≡ coded → made ≡ all_methods app fields named dexes read_again → Narrow made → methods ≡ made
     → SoundApp (record app { statics = statics; methods = methods })
-finished_sound app fields dexes coded read read_again units listed named statics made methods sound so_far tested few short is_read are is_named is_put is_read_again are_made narrow are_put =
+finished_sound laws app fields dexes coded read read_again units listed named statics made methods sound so_far tested few short is_read are is_named is_put is_read_again are_made narrow are_put =
     let all : AreStatics app fields dexes coded statics = subst (AreStatics app fields dexes coded) (sym is_put) (subst (λ (cs : List Coded). AreStatics app fields dexes cs listed) is_read are) in
     let these : named ≡ statics = is_named ∙ sym is_put in
     let whole : methods ≡ all_methods app fields statics dexes coded = are_put ∙ (are_made ∙ (ap (λ (ss : List Triple). all_methods app fields ss dexes read_again) these ∙ ap (all_methods app fields statics dexes) is_read_again)) in
-    done_sound app fields dexes statics methods coded sound all whole units so_far few short tested (subst Narrow (sym are_put) narrow)
+    done_sound laws app fields dexes statics methods coded sound all whole units so_far few short tested (subst Narrow (sym are_put) narrow)

@@ -8,7 +8,6 @@ use Rattle.vet_base.specs.Script.{Value, ◌>>=◌, run}
 use Rattle.dex_reader.specs.declared.dex.Dex.{Dex}
 use Rattle.dex_reader.specs.declared.dex.ClassDef.{ClassDef}
 use Rattle.dex_reader.specs.declared.dex.Body.{Body}
-use Rattle.dex_code.proofs.Runs.{first_gave, passed}
 use Rattle.app_machine.specs.declared.papers.Manifest.{Manifest}
 use Rattle.vet_base.specs.Members.{In}
 use Rattle.app_machine.specs.Names.{Name, descriptor_of}
@@ -17,13 +16,14 @@ use Rattle.app_link.specs.declared.members.Listed.{Listed}
 use Rattle.app_link.specs.declared.members.Place.{Place}
 use Rattle.app_link.specs.Texts.{Triple, type_of}
 use Rattle.app_link.specs.Orders.{triple_order, has_triple, with_triple}
-use Rattle.app_link.specs.MemberRows.{Fields, Methods, method_named, listed_of, second, one_method, some_methods, some_fields, class_members, dex_members, all_members}
+use Rattle.app_link.specs.MemberRows.{Fields, Methods, method_named, listed_of, second, place_at, first_of, one_method, nth_method, some_methods, some_fields, class_members, dex_members, all_members}
 use Rattle.app_link.specs.Classes.{all_classes}
 use Rattle.app_link.specs.Components.{all_components}
 use Rattle.app_link.specs.Gathered.{Gathered, gathering}
 use Rattle.app_link.specs.Described.{Described}
-use Rattle.app_link.proofs.Keeps.{same_value, through_keeps}
 use Rattle.app_link.proofs.Places.{tied_triples_equal}
+use Rattle.vet_base.proofs.Runs.{value_is, test_ok, bind_ok}
+use Rattle.vet_base.proofs.Throughs.{through_keeps}
 
 abbrev Told : Triple → Listed → Type 0
 Told triple listed = triple.2 ≡ descriptor_of listed.proto
@@ -41,20 +41,19 @@ told_more (d ∷ ds) k x one all e j = by_order (triple_order k d.0) refl (told_
     by_order Greater o later (inl same) = all e (inl same)
     by_order Greater o later (inr i) = later i
 
-one_told : (dex : Dex) (class : Name) (at : ℕ × ℕ) (is_virtual : Bool) (i : ℕ) (body : Body) (s t : Methods) → run (one_method dex class at is_virtual i body s) ≡ Ok t → Described s → Described t
+one_told : (dex : Dex) (class : Name) (place : Place) (body : Body) (s t : Methods) → run (one_method dex class place body s) ≡ Ok t → Described s → Described t
 unfolding one_method with_triple method_named listed_of
-one_told dex class at is_virtual i body s t e told =
+one_told dex class place body s t e told =
     let name : Triple = method_named dex class body in
-    let place : Place = record { dex = at.0; class = at.1; is_virtual = is_virtual; body = i } in
     let made : Methods = with_triple s name (listed_of dex place body) in
-    let new = passed (not (has_triple s name)) (second name) (Value made) t e in
-    let same : made ≡ t = same_value {F = Fault} made t new.1 in
+    let new = test_ok (not (has_triple s name)) (second name) (Value made) t e in
+    let same : made ≡ t = value_is {F = Fault} made t new.1 in
     let is : Described made = record { each = told_more s name (listed_of dex place body) refl told.each } in
     subst Described same is
 
-bodies_told : (dex : Dex) (class : Name) (at : ℕ × ℕ) (is_virtual : Bool) (bodies : List Body) (s t : Methods) → run (some_methods dex class at is_virtual bodies s) ≡ Ok t → Described s → Described t
+bodies_told : (dex : Dex) (class : Name) (first : Place) (bodies : List Body) (s t : Methods) → run (some_methods dex class first bodies s) ≡ Ok t → Described s → Described t
 unfolding some_methods
-bodies_told dex class at is_virtual bodies s t e told = through_keeps Described (one_method dex class at is_virtual) (one_told dex class at is_virtual) 0 bodies s t e told
+bodies_told dex class first bodies s t e told = through_keeps Described (nth_method dex class first) (λ i body. one_told dex class (place_at first i) body) 0 bodies s t e told
 
 abbrev Members : Type 0
 Members = Fields × Methods
@@ -63,13 +62,13 @@ class_told : (d : ℕ) (dex : Dex) (c : ℕ) (def : ClassDef) (s t : Members) �
 unfolding class_members
 class_told d dex c def s t e told =
     let class : Name = type_of dex def.class in
-    let statics = first_gave (some_fields dex class true def.statics s.0) (λ statics. some_fields dex class false def.instances statics >>= (λ fields. some_methods dex class (d, c) false def.directs s.1 >>= (λ directs. some_methods dex class (d, c) true def.virtuals directs >>= (λ methods. Value (fields, methods))))) t e in
-    let fields = first_gave (some_fields dex class false def.instances statics.0) (λ fields. some_methods dex class (d, c) false def.directs s.1 >>= (λ directs. some_methods dex class (d, c) true def.virtuals directs >>= (λ methods. Value (fields, methods)))) t statics.2 in
-    let directs = first_gave (some_methods dex class (d, c) false def.directs s.1) (λ directs. some_methods dex class (d, c) true def.virtuals directs >>= (λ methods. Value (fields.0, methods))) t fields.2 in
-    let methods = first_gave (some_methods dex class (d, c) true def.virtuals directs.0) (λ methods. Value (fields.0, methods)) t directs.2 in
-    let same : (fields.0, methods.0) ≡ t = same_value {F = Fault} (fields.0, methods.0) t methods.2 in
-    let one : Described directs.0 = bodies_told dex class (d, c) false def.directs s.1 directs.0 directs.1 told in
-    let two : Described methods.0 = bodies_told dex class (d, c) true def.virtuals directs.0 methods.0 methods.1 one in
+    let statics = bind_ok (some_fields dex class true def.statics s.0) (λ statics. some_fields dex class false def.instances statics >>= (λ fields. some_methods dex class (first_of d c false) def.directs s.1 >>= (λ directs. some_methods dex class (first_of d c true) def.virtuals directs >>= (λ methods. Value (fields, methods))))) t e in
+    let fields = bind_ok (some_fields dex class false def.instances statics.0) (λ fields. some_methods dex class (first_of d c false) def.directs s.1 >>= (λ directs. some_methods dex class (first_of d c true) def.virtuals directs >>= (λ methods. Value (fields, methods)))) t statics.2 in
+    let directs = bind_ok (some_methods dex class (first_of d c false) def.directs s.1) (λ directs. some_methods dex class (first_of d c true) def.virtuals directs >>= (λ methods. Value (fields.0, methods))) t fields.2 in
+    let methods = bind_ok (some_methods dex class (first_of d c true) def.virtuals directs.0) (λ methods. Value (fields.0, methods)) t directs.2 in
+    let same : (fields.0, methods.0) ≡ t = value_is {F = Fault} (fields.0, methods.0) t methods.2 in
+    let one : Described directs.0 = bodies_told dex class (first_of d c false) def.directs s.1 directs.0 directs.1 told in
+    let two : Described methods.0 = bodies_told dex class (first_of d c true) def.virtuals directs.0 methods.0 methods.1 one in
     subst (λ (m : Members). Described m.1) {x = (fields.0, methods.0)} same two
 
 dex_told : (d : ℕ) (dex : Dex) (s t : Members) → run (dex_members d dex s) ≡ Ok t → Described s.1 → Described t.1
@@ -84,9 +83,9 @@ members_told dexes t e = through_keeps (λ (m : Members). Described m.1) dex_mem
 pub gathered_described : (dexes : List Dex) (manifest : Manifest) (g : Gathered) → run (gathering dexes manifest) ≡ Ok g → Described g.methods
 unfolding gathering
 gathered_described dexes manifest g e =
-    let classes = first_gave (all_classes dexes) (λ classes. all_members dexes >>= (λ members. all_components classes manifest >>= (λ components. Value (record { classes = classes; fields = members.0; methods = members.1; components = components })))) g e in
-    let members = first_gave (all_members dexes) (λ members. all_components classes.0 manifest >>= (λ components. Value (record { classes = classes.0; fields = members.0; methods = members.1; components = components }))) g classes.2 in
-    let components = first_gave (all_components classes.0 manifest) (λ components. Value (record { classes = classes.0; fields = members.0.0; methods = members.0.1; components = components })) g members.2 in
+    let classes = bind_ok (all_classes dexes) (λ classes. all_members dexes >>= (λ members. all_components classes manifest >>= (λ components. Value (record { classes = classes; fields = members.0; methods = members.1; components = components })))) g e in
+    let members = bind_ok (all_members dexes) (λ members. all_components classes.0 manifest >>= (λ components. Value (record { classes = classes.0; fields = members.0; methods = members.1; components = components }))) g classes.2 in
+    let components = bind_ok (all_components classes.0 manifest) (λ components. Value (record { classes = classes.0; fields = members.0.0; methods = members.0.1; components = components })) g members.2 in
     let made : Gathered = record { classes = classes.0; fields = members.0.0; methods = members.0.1; components = components.0 } in
-    let same : made ≡ g = same_value {F = Fault} made g components.2 in
+    let same : made ≡ g = value_is {F = Fault} made g components.2 in
     subst (λ (x : Gathered). Described x.methods) {x = made} same (members_told dexes members.0 members.1)

@@ -4,7 +4,6 @@ use Rattle.std.specs.Prelude.{flat_map, slice_get}
 use Rattle.dex_reader.specs.declared.dex.Dex.{Dex}
 use Rattle.dex_code.specs.Lines.{Line}
 use Rattle.app_machine.specs.declared.app.App.{App}
-use Rattle.app_model.proofs.Elements.{no_more}
 use Rattle.app_link.specs.declared.coded.Coded.{Coded}
 use Rattle.app_link.specs.Texts.{Triple, field_of}
 use Rattle.app_link.specs.MemberRows.{Fields}
@@ -14,6 +13,7 @@ use Rattle.app_link.specs.StaticsInOrder.{StaticsInOrder}
 use Rattle.app_link.specs.Methods.{InOrder}
 use Rattle.app_link.specs.SoFar.{SoFar, lines_in}
 use Rattle.app_link.proofs.Inserted.{ascend_apart}
+use Rattle.vet_base.proofs.Apart.{no_more}
 
 module _ (app : App) (fields : Fields) where
   in_line : (dex : Dex) (line : Line) → length (static_in_line app fields dex line) ≤ 1

@@ -12,7 +12,7 @@ use Rattle.app_machine.specs.declared.method.Step.{Step}
 use Rattle.app_link.specs.Texts.{Triple}
 use Rattle.app_link.specs.MemberRows.{Fields}
 use Rattle.app_link.specs.Lift.{step_if, steps_of}
-use Rattle.app_link.proofs.Throughs.{front}
+use Rattle.vet_base.proofs.Lists.{drop_read}
 
 module _ (app : App) (fields : Fields) (statics : List Triple) (dex : Dex) (tries : List RawTry) (lines : List Line) where
   -- these steps, and then those of the lines from i on, make the whole
@@ -26,7 +26,7 @@ module _ (app : App) (fields : Fields) (statics : List Triple) (dex : Dex) (trie
       → Lifts (i + 1) (steps ++ step_if app fields statics dex lines line (drop (i + 1) lines) catches)
   unfolding steps_of
   steps_go_on i line catches steps lt item covers so_far =
-      let k : drop i lines ≡ line ∷ drop (i + 1) lines = front lines i line lt item in
+      let k : drop i lines ≡ line ∷ drop (i + 1) lines = drop_read lines i line lt item in
       let h : steps ++ steps_of app fields statics dex tries lines (line ∷ drop (i + 1) lines) ≡ steps_of app fields statics dex tries lines lines = ap (λ (ls : List Line). steps ++ steps_of app fields statics dex tries lines ls) (sym k) ∙ so_far.is in
       let here : List Step = step_if app fields statics dex lines line (drop (i + 1) lines) (catches_of tries line.0) in
       record { is = rw covers (append_assoc steps here (steps_of app fields statics dex tries lines (drop (i + 1) lines)) ∙ h) }

@@ -1,15 +1,15 @@
 -- Control goes from a step of a method to steps of it; the steps stand by ascending pc.
-use Rattle.std.proofs.Common.{◌≡◌, ℕ, ◌<◌, Bool, true, false, cond, List, [], ◌∷◌, ◌++◌, map, nat_lt, ◌==◌, Less, Equal, Greater, nat_cmp, refl, ap, subst, ◌∙◌, arith, ◌⊎◌, inl, inr}
+use Rattle.std.proofs.Common.{◌≡◌, ℕ, ◌<◌, Bool, true, false, cond, List, [], ◌∷◌, ◌++◌, map, append_assoc, Less, Equal, Greater, nat_cmp, refl, sym, ap, subst, ◌∙◌, ◌⊎◌, inl, inr}
 use Rattle.std.proofs.lemmas.Bool.Decides.{nat_tests}
 use Rattle.dex_reader.specs.declared.dex.Dex.{Dex}
 use Rattle.dex_reader.specs.declared.dex.RawTry.{RawTry}
+use Rattle.dex_reader.specs.declared.dex.RawCode.{RawCode}
+use Rattle.dex_code.specs.declared.decoder.Decoded.{Decoded}
+use Rattle.dex_code.specs.CodeLaws.{start_if, starts_of, AreSound}
 use Rattle.dex_code.specs.Insns.{is_payload}
 use Rattle.dex_code.specs.Lines.{Line}
 use Rattle.dex_code.specs.Find.{AllBehind, Ascend}
-use Rattle.dex_code.specs.Flow.{Flows, AllFlow}
 use Rattle.dex_code.specs.Next.{catches_of}
-use Rattle.dex_code.specs.Tries.{AllTriesStand}
-use Rattle.dex_code.proofs.Starts.{start_if, starts_of, further, next_there, catches_there}
 use Rattle.app_machine.specs.declared.app.App.{App}
 use Rattle.app_machine.specs.declared.method.Step.{Step}
 use Rattle.vet_base.specs.Members.{In}
@@ -17,6 +17,8 @@ use Rattle.vet_base.specs.Ascending.{Ascends}
 use Rattle.app_link.specs.Texts.{Triple}
 use Rattle.app_link.specs.MemberRows.{Fields}
 use Rattle.app_link.specs.Lift.{step_of, step_if, steps_of}
+use Rattle.vet_base.proofs.Orders.{less_cmp}
+use Rattle.vet_base.proofs.Members.{in_back, in_if}
 
 abbrev pub pcs : List Step → List ℕ
 pcs steps = map (λ (s : Step). s.pc) steps
@@ -42,20 +44,10 @@ rise_if : (b : Bool) (step : Step) (steps : List Step) → AllAfter step.pc step
 rise_if true step steps all h = h
 rise_if false step steps all h = (all, h)
 
-less_number : (a b : ℕ) → a < b → nat_lt a b ≡ true
-less_number a b h = grind (arith, nat_tests)
-
-less_cmp : (a b : ℕ) → a < b → nat_cmp a b ≡ Less
-less_cmp a b h = ap (λ (t : Bool). cond t Less (cond (a == b) Equal Greater)) (less_number a b h)
-
 ascend_rising : (ss : List Step) → Rise ss → Ascends (λ (a b : Step). nat_cmp a.pc b.pc) ss
 ascend_rising [] h = tt
 ascend_rising (x ∷ []) h = tt
 ascend_rising (x ∷ y ∷ ys) h = (less_cmp x.pc y.pc h.0.0, ascend_rising (y ∷ ys) h.1)
-
-in_if : {A : Type 0} (b : Bool) (x y : A) (ys : List A) → In x (cond b [] (y ∷ []) ++ ys) → (x ≡ y) ⊎ In x ys
-in_if true x y ys k = inr k
-in_if false x y ys k = k
 
 module _ (app : App) (fields : Fields) (statics : List Triple) (dex : Dex) (tries : List RawTry) (lines : List Line) where
   -- the step of a line under the handlers that cover it
@@ -85,27 +77,32 @@ module _ (app : App) (fields : Fields) (statics : List Triple) (dex : Dex) (trie
 
   -- the line that a step stems from
   pub record Stems (step : Step) : Type 0 where
+    pub front : List Line
     pub line : Line
     pub rest : List Line
     pub is : step ≡ covered_step line rest
-    pub of_lines : In line lines
-    pub flows : Flows lines line rest
-    pub behind : (n : ℕ) → In n (starts_of rest) → In n (starts_of lines)
+    pub stands : lines ≡ front ++ line ∷ rest
 
-  pub stem_of : (rest : List Line) → AllFlow lines rest → ((l : Line) → In l rest → In l lines) → ((n : ℕ) → In n (starts_of rest) → In n (starts_of lines)) → (step : Step) → In step (others rest) → Stems step
+  pub stem_of : (front rest : List Line) → lines ≡ front ++ rest → (step : Step) → In step (others rest) → Stems step
   unfolding steps_of step_if
-  stem_of [] flow inside behind step k = absurd k
-  stem_of (line ∷ rest) flow inside behind step k =
-      let later : (n : ℕ) → In n (starts_of rest) → In n (starts_of lines) = λ n j. behind n (further (is_payload line.1) line.0 n (starts_of rest) j) in
+  stem_of front [] whole step k = absurd k
+  stem_of front (line ∷ rest) whole step k =
       elim (in_if (is_payload line.1) step (covered_step line rest) (others rest) k) [
-        | inl e ↦ record { line = line; rest = rest; is = e; of_lines = inside line (inl refl); flows = flow.0; behind = later }
-        | inr j ↦ stem_of rest flow.1 (λ l i. inside l (inr i)) later step j
+        | inl e ↦ record { front = front; line = line; rest = rest; is = e; stands = whole }
+        | inr j ↦ stem_of (front ++ line ∷ []) rest (whole ∙ sym (append_assoc front (line ∷ []) rest)) step j
       ]
 
-  pub step_goes_on : (step : Step) → Stems step → (pc : ℕ) → In pc step.next → In pc (starts_of lines)
-  unfolding step_of
-  step_goes_on step stem pc k = next_there lines stem.rest stem.line pc stem.flows.targets stem.behind (subst (λ (s : Step). In pc s.next) stem.is k)
+  pub line_of : (step : Step) (stem : Stems step) → In stem.line lines
+  line_of step stem = subst (λ (ls : List Line). In stem.line ls) (sym stem.stands) (in_back stem.line stem.front (stem.line ∷ stem.rest) (inl refl))
 
-  pub step_catches : (size : ℕ) → AllTriesStand size lines tries → (step : Step) → Stems step → (pc : ℕ) → In pc step.catches → In pc (starts_of lines)
+module _ (app : App) (fields : Fields) (statics : List Triple) (dex : Dex) (code : RawCode) (decoded : Decoded) (sound : AreSound code decoded) where
+  abbrev pub Stem : Step → Type 0
+  Stem step = Stems app fields statics dex decoded.tries decoded.lines step
+
+  pub step_goes_on : (step : Step) → Stem step → (pc : ℕ) → In pc step.next → In pc (starts_of decoded.lines)
   unfolding step_of
-  step_catches size all step stem pc k = catches_there lines size tries stem.line.0 pc all (subst (λ (s : Step). In pc s.catches) stem.is k)
+  step_goes_on step stem pc k = sound.next stem.front stem.line stem.rest stem.stands pc (subst (λ (s : Step). In pc s.next) stem.is k)
+
+  pub step_catches : (step : Step) → Stem step → (pc : ℕ) → In pc step.catches → In pc (starts_of decoded.lines)
+  unfolding step_of
+  step_catches step stem pc k = sound.catches stem.line.0 pc (subst (λ (s : Step). In pc s.catches) stem.is k)

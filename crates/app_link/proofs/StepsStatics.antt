@@ -5,12 +5,12 @@ use Rattle.dex_reader.specs.declared.dex.Dex.{Dex}
 use Rattle.dex_code.specs.Lines.{Line}
 use Rattle.app_machine.specs.declared.app.App.{App}
 use Rattle.vet_base.specs.Members.{In}
-use Rattle.app_model.proofs.Elements.{in_flat}
 use Rattle.app_link.specs.declared.coded.Coded.{Coded}
 use Rattle.app_link.specs.Texts.{Triple, field_of}
 use Rattle.app_link.specs.MemberRows.{Fields}
 use Rattle.app_link.specs.Statics.{resolved}
 use Rattle.app_link.specs.StaticList.{AreStatics, static_index, static_in_line, statics_in_method, statics_named}
+use Rattle.vet_base.proofs.Members.{in_flat}
 
 some_in : (xs : List Triple) (x : Triple) → In x xs → 0 < length xs
 some_in [] x k = absurd k

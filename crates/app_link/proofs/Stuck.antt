@@ -9,6 +9,8 @@ use Rattle.app_link.specs.Circle.{LeastAmong}
 use Rattle.app_link.specs.Hierarchy.{Above, directly, beyond, NoCircle, IsLeastCircle}
 use Rattle.app_link.specs.Orders.{has_name}
 use Rattle.app_link.specs.Settled.{Entries, Outers, Settled, Covers, AreStuck, AllSettled, is_settled, all_settled, one_settled, is_ready}
+use Rattle.std.proofs.lemmas.Bool.{and_cases}
+use Rattle.vet_base.proofs.Bools.{implies_fails}
 
 -- what has something above it is a class
 pub starts : (classes : Entries) (name above : Name) → Above classes name above → IsTrue (has_name classes name)
@@ -66,20 +68,16 @@ record Waits (classes : Entries) (outers : Outers) (names : List Name) : Type 0 
   there : In above names
   unsettled : is_settled classes outers above ≡ false
 
-not_both : (a b : Bool) → (a && b) ≡ false → (a ≡ false) ⊎ (b ≡ false)
-not_both true b e = inr e
-not_both false b e = inl refl
-
 waits_among : (classes : Entries) (outers : Outers) (names : List Name) → all_settled classes outers names ≡ false → Waits classes outers names
 waits_among classes outers [] e = absurd cc
-waits_among classes outers (x ∷ xs) e = elim (not_both (is_settled classes outers x) (all_settled classes outers xs) e) [
+waits_among classes outers (x ∷ xs) e = elim (and_cases (is_settled classes outers x) (all_settled classes outers xs) e) [
   | inl here ↦ record { above = x; there = inl refl; unsettled = here }
   | inr others ↦ (let w = waits_among classes outers xs others in record { above = w.above; there = inr w.there; unsettled = w.unsettled })
 ]
 
 waits_above : (classes : Entries) (outers : Outers) (superclass : Option Name) (names : List Name) → (one_settled classes outers superclass && all_settled classes outers names) ≡ false → Waits classes outers (option_to_list superclass ++ names)
 waits_above classes outers None names e = waits_among classes outers names e
-waits_above classes outers (Some s) names e = elim (not_both (is_settled classes outers s) (all_settled classes outers names) e) [
+waits_above classes outers (Some s) names e = elim (and_cases (is_settled classes outers s) (all_settled classes outers names) e) [
   | inl here ↦ record { above = s; there = inl refl; unsettled = here }
   | inr others ↦ (let w = waits_among classes outers names others in record { above = w.above; there = inr w.there; unsettled = w.unsettled })
 ]
@@ -88,13 +86,9 @@ waits_for : (classes : Entries) (outers : Outers) (class : Class) → is_ready c
 unfolding is_ready
 waits_for classes outers class unready = waits_above classes outers class.superclass class.interfaces unready
 
-not_either : (a b : Bool) → (not a || b) ≡ false → (a ≡ true) × (b ≡ false)
-not_either true b e = (refl, e)
-not_either false b e = absurd cc
-
 unsettled_is : (classes : Entries) (outers : Outers) (name : Name) → is_settled classes outers name ≡ false → (has_name classes name ≡ true) × (has_name outers name ≡ false)
 unfolding is_settled
-unsettled_is classes outers name e = not_either (has_name classes name) (has_name outers name) e
+unsettled_is classes outers name e = implies_fails (has_name classes name) (has_name outers name) e
 
 module _ (classes : Entries) (outers : Outers) (left : List Name) (covers : Covers classes outers left) (stuck : AreStuck classes outers left) where
   next : (x : Name) → In x left → (t : Name) × In t left × Above classes x t

@@ -1,7 +1,7 @@
 -- The classes of the files, each once, by name.
 -- Android documentation, Dalvik Executable format: "class_def_item", "class_data_item".
-use Rattle.std.specs.Prelude.{ℕ, Bool, not, ◌&&◌, List, [], ◌++◌, map, filter, is_none, option_map}
-use Rattle.vet_base.specs.Script.{Script, Value, ◌>>=◌, test}
+use Rattle.std.specs.Prelude.{Bool, not, ◌&&◌, List, [], ◌++◌, map, filter, is_none, option_map}
+use Rattle.vet_base.specs.Script.{Script, Value, ◌>>=◌, test, each}
 use Rattle.dex_reader.specs.declared.dex.Dex.{Dex}
 use Rattle.dex_reader.specs.declared.dex.ClassDef.{ClassDef}
 use Rattle.dex_reader.specs.declared.dex.Body.{Body}
@@ -13,7 +13,6 @@ use Rattle.app_link.specs.declared.fault.Fault.TheVariants.{TwoClasses}
 use Rattle.app_link.specs.Texts.{text_of, type_of, types_of, proto_of, method_row}
 use Rattle.app_link.specs.Flags.{is_native, is_interface}
 use Rattle.app_link.specs.Orders.{has_name, with_name}
-use Rattle.app_link.specs.Through.{through}
 
 -- a method with neither code nor the native flag
 unfoldable pub is_bare : Body → Bool
@@ -37,14 +36,14 @@ class_of dex def = record {
 }
 
 -- one more class, whose name is new
-unfoldable pub class_row : Dex → ℕ → ClassDef → List (Name × Class) → Script Fault (List (Name × Class))
-class_row dex i def classes = do
+unfoldable pub class_row : Dex → ClassDef → List (Name × Class) → Script Fault (List (Name × Class))
+class_row dex def classes = do
   _ ← test (not (has_name classes (type_of dex def.class))) (TwoClasses (type_of dex def.class))
   Value (with_name classes (type_of dex def.class) (class_of dex def))
 
-unfoldable pub dex_classes : ℕ → Dex → List (Name × Class) → Script Fault (List (Name × Class))
-dex_classes i dex classes = through (class_row dex) 0 dex.classes classes
+unfoldable pub dex_classes : Dex → List (Name × Class) → Script Fault (List (Name × Class))
+dex_classes dex classes = each (class_row dex) dex.classes classes
 
 -- all classes, in file order
 unfoldable pub all_classes : List Dex → Script Fault (List (Name × Class))
-all_classes dexes = through dex_classes 0 dexes []
+all_classes dexes = each dex_classes dexes []

@@ -1,7 +1,7 @@
 -- The code of the methods: decoded, with as many arguments as each descriptor takes, and as many registers as each call's
 -- reference takes.
 use Rattle.std.specs.Prelude.{◌≡◌, ◌<◌, ℕ, ◌+◌, ◌==◌, min, Bool, true, false, List, [], ◌∷◌, ◌++◌, length, Option, Some, None, slice_get, if◌then◌else◌}
-use Rattle.vet_base.specs.Script.{Script, Value, Test, ◌>>=◌, test}
+use Rattle.vet_base.specs.Script.{Script, Value, Test, ◌>>=◌, test, each}
 use Rattle.dex_reader.specs.declared.dex.Dex.{Dex}
 use Rattle.dex_reader.specs.declared.dex.ClassDef.{ClassDef}
 use Rattle.dex_reader.specs.declared.dex.Body.{Body}
@@ -26,7 +26,6 @@ use Rattle.app_link.specs.declared.members.Place.{Place}
 use Rattle.app_link.specs.declared.members.Listed.{Listed}
 use Rattle.app_link.specs.declared.coded.Coded.{Coded}
 use Rattle.app_link.specs.Texts.{Triple, proto_of, method_row}
-use Rattle.app_link.specs.Through.{through}
 
 -- the same script with its faults seen by f
 abbrev pub blamed : {F G A : Type 0} → (F → G) → Script F A → Script G A
@@ -80,11 +79,11 @@ call_takes dex kind count needed = true
 unfoldable pub call_fits : Dex → Insn → Bool
 call_fits dex insn = call_takes dex (call_kind_of (kind_of insn)) (length (arguments_of insn)) (naming_of insn)
 
-unfoldable pub call_row : Dex → MethodRef → ℕ → Line → Unit {0} → Script Fault (Unit {0})
-call_row dex at i line s = test (call_fits dex line.1) (faults.Code at (Register line.0))
+unfoldable pub call_row : Dex → MethodRef → Line → Unit {0} → Script Fault (Unit {0})
+call_row dex at line s = test (call_fits dex line.1) (faults.Code at (Register line.0))
 
 unfoldable pub calls_fit : Dex → MethodRef → List Line → Script Fault (Unit {0})
-calls_fit dex at lines = through (call_row dex at) 0 lines tt
+calls_fit dex at lines = each (call_row dex at) lines tt
 
 -- a method as the files list it
 unfoldable pub reference : Triple → Listed → MethodRef
@@ -119,8 +118,8 @@ one_code at listed (Some found) coding = do
   Value (coding.0 ++ with_code at listed listed.place.dex found.1 decoded ∷ [], more_units coding.1 (length found.1.units))
 
 -- one more method, native or with code; the bare ones are passed by
-unfoldable pub code_row : List Dex → ℕ → Triple × Listed → Coding → Script Fault Coding
-code_row dexes i entry coding = if entry.1.is_native then Value (coding.0 ++ native_coded (reference entry.0 entry.1) entry.1 ∷ [], coding.1) else one_code (reference entry.0 entry.1) entry.1 (code_at dexes entry.1.place) coding
+unfoldable pub code_row : List Dex → Triple × Listed → Coding → Script Fault Coding
+code_row dexes entry coding = if entry.1.is_native then Value (coding.0 ++ native_coded (reference entry.0 entry.1) entry.1 ∷ [], coding.1) else one_code (reference entry.0 entry.1) entry.1 (code_at dexes entry.1.place) coding
 
 unfoldable pub all_codes : List Dex → List (Triple × Listed) → Script Fault Coding
-all_codes dexes methods = through (code_row dexes) 0 methods ([], 0)
+all_codes dexes methods = each (code_row dexes) methods ([], 0)

@@ -1,6 +1,6 @@
 -- The components of the manifest: the application first, where there is one, and then activities, services and receivers.
-use Rattle.std.specs.Prelude.{ℕ, List, [], ◌∷◌, ◌++◌, map, Option, Some, None, filter_map, option_to_list}
-use Rattle.vet_base.specs.Script.{Script, Value, ◌>>=◌, test}
+use Rattle.std.specs.Prelude.{List, [], ◌∷◌, ◌++◌, map, Option, Some, None, filter_map, option_to_list}
+use Rattle.vet_base.specs.Script.{Script, Value, ◌>>=◌, test, each}
 use Rattle.app_machine.specs.declared.app.Class.{Class}
 use Rattle.app_machine.specs.declared.component.Kind.{Kind}
 use Rattle.app_machine.specs.declared.component.Kind.TheVariants as kinds
@@ -12,7 +12,6 @@ use Rattle.app_machine.specs.Names.{Name}
 use Rattle.app_link.specs.declared.fault.Fault.{Fault}
 use Rattle.app_link.specs.declared.fault.Fault.TheVariants.{NoClass}
 use Rattle.app_link.specs.Orders.{has_name}
-use Rattle.app_link.specs.Through.{through}
 
 abbrev pub kind_of : Word → Option Kind
 kind_of words.Activity = Some kinds.Activity
@@ -26,11 +25,11 @@ one_component classes kind name components = do
   _ ← test (has_name classes name) (NoClass name)
   Value (components ++ record { kind = kind; class = name } ∷ [])
 
-unfoldable pub component_row : List (Name × Class) → ℕ → Word × Name → List Component → Script Fault (List Component)
-component_row classes i row components = elim (kind_of row.0) [ None ↦ Value components | Some kind ↦ one_component classes kind row.1 components ]
+unfoldable pub component_row : List (Name × Class) → Word × Name → List Component → Script Fault (List Component)
+component_row classes row components = elim (kind_of row.0) [ None ↦ Value components | Some kind ↦ one_component classes kind row.1 components ]
 
 unfoldable pub component_rows : List (Name × Class) → List (Word × Name) → List Component → Script Fault (List Component)
-component_rows classes rows components = through (component_row classes) 0 rows components
+component_rows classes rows components = each (component_row classes) rows components
 
 unfoldable pub application_row : List (Name × Class) → Option Name → Script Fault (List Component)
 application_row classes None = Value []

@@ -26,4 +26,3 @@ pub mod Statics
 pub mod StaticsInOrder
 pub mod Tested
 pub mod Texts
-pub mod Through

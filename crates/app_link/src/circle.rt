@@ -9,20 +9,20 @@ ghost use Rattle.app_link.specs.Circle.{LeastAmong, above_named, comes_first, ne
 ghost use Rattle.app_link.specs.Hierarchy.{Above, is_among};
 
 use crate::classes::{Classes, class_named};
-use crate::statics::add_copies;
+use crate::texts::add_copies;
 use app_model::Class;
 use std::alloc::Global;
 use std::collections::BTreeSet;
 use vet_base::{Memory, Name};
 
 /// The classes and interfaces directly above a class.
-fn add_above(alloc: Global, class: &Class, names: &mut Vec<Name>) -> Result<(), Memory>
+fn add_above(class: &Class, names: &mut Vec<Name>) -> Result<(), Memory>
     ensures { OnOk result (names.new.items ≡ names.old.items ++ directly_above class.now) }
 {
     if let Some(superclass) = &class.superclass {
-        names.push(superclass.copy(alloc)?)?;
+        names.push(superclass.copy()?)?;
     }
-    add_copies(alloc, names, class.interfaces.as_slice())
+    add_copies(names, class.interfaces.as_slice())
 }
 
 fn put_seen(seen: &mut BTreeSet<Name>, name: Name) -> Result<(), Memory>
@@ -35,7 +35,6 @@ fn put_seen(seen: &mut BTreeSet<Name>, name: Name) -> Result<(), Memory>
 /// Visits a name: what is directly above it comes behind the queue.
 #[tactic(auto, unfolding(crate::specs::Circle::newly, crate::specs::Circle::above_named))]
 fn visit(
-    alloc: Global,
     classes: &Classes,
     name: Name,
     seen: &mut BTreeSet<Name>,
@@ -46,7 +45,7 @@ fn visit(
 {
     if !seen.contains(&name) {
         if let Some(class) = class_named(classes, &name) {
-            add_above(alloc, class, queue)?;
+            add_above(class, queue)?;
         }
     }
     put_seen(seen, name)
@@ -59,7 +58,7 @@ fn names_above(alloc: Global, classes: &Classes, name: &Name) -> Result<Vec<Name
 {
     let mut names = Vec::new(alloc);
     if let Some(class) = class_named(classes, name) {
-        add_above(alloc, class, &mut names)?;
+        add_above(class, &mut names)?;
     }
     Ok(names)
 }
@@ -81,7 +80,7 @@ fn is_above_itself(alloc: Global, classes: &Classes, root: &Name) -> Result<bool
         if is_same(&name, root) {
             return Ok(true);
         }
-        visit(alloc, classes, name, &mut seen, &mut queue)?;
+        visit(classes, name, &mut seen, &mut queue)?;
     }
     Ok(false)
 }
@@ -110,7 +109,7 @@ fn better_of(
         return Ok(best);
     }
     if is_above_itself(alloc, classes, name)? {
-        return Ok(Some(name.copy(alloc)?));
+        return Ok(Some(name.copy()?));
     }
     Ok(best)
 }

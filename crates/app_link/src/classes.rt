@@ -13,7 +13,7 @@ use app_model::{Class, Proto};
 use dex_reader::{Body, ClassDef, Dex};
 use std::alloc::Global;
 use std::collections::BTreeMap;
-use vet_base::{Memory, Name, Seq, Stop};
+use vet_base::{Memory, Name, Seq, Shared, Stop};
 
 pub type Classes = BTreeMap<Name, Class>;
 
@@ -51,7 +51,7 @@ fn bare_at(alloc: Global, dex: &Dex, body: &Body) -> Result<(Name, Proto), Memor
     ensures { IfOk result (λ b. b ≡ bare_row dex.now body.now) }
 {
     let row = method_row_at(dex, body.index);
-    let name = Name::from_bytes(alloc, text_at(dex, row.name))?;
+    let name = text_at(alloc, dex, row.name)?;
     let proto = proto_at(alloc, dex, row.proto)?;
     Ok((name, proto))
 }
@@ -77,9 +77,9 @@ fn add_bare(
 fn class_at(alloc: Global, dex: &Dex, def: &ClassDef) -> Result<Class, Memory>
     ensures { IfOk result (λ c. c ≡ class_of dex.now def.now) }
 {
-    let name = Name::from_bytes(alloc, type_at(dex, def.class))?;
+    let name = type_at(alloc, dex, def.class)?;
     let superclass = match def.superclass {
-        Some(above) => Some(Name::from_bytes(alloc, type_at(dex, above))?),
+        Some(above) => Some(type_at(alloc, dex, above)?),
         None => None,
     };
     let interfaces = types_at(alloc, dex, def.interfaces.as_slice())?;
@@ -91,22 +91,16 @@ fn class_at(alloc: Global, dex: &Dex, def: &ClassDef) -> Result<Class, Memory>
         superclass,
         interfaces,
         is_interface: says_interface(def.flags),
-        outer: Seq::new(alloc),
+        outer: Shared::new(),
         bare: Seq::from_vec(bare),
     })
 }
 
 #[tactic(auto, unfolding(crate::specs::Classes::class_row), using(vet_base::proofs::Scripts::run_bind))]
-fn add_class(
-    alloc: Global,
-    dex: &Dex,
-    _i: usize,
-    def: &ClassDef,
-    classes: Classes,
-) -> Result<Classes, Halt>
-    ensures { Gives (λ m. m.entries) result (class_row dex.now _i def.now classes.entries) }
+fn add_class(alloc: Global, dex: &Dex, def: &ClassDef, classes: Classes) -> Result<Classes, Halt>
+    ensures { Gives (λ m. m.entries) result (class_row dex.now def.now classes.entries) }
 {
-    let name = Name::from_bytes(alloc, type_at(dex, def.class))?;
+    let name = type_at(alloc, dex, def.class)?;
     if holds_name(&classes, &name) {
         return Err(Stop::Fault(Fault::TwoClasses(name)));
     }
@@ -114,24 +108,24 @@ fn add_class(
     Ok(with_class(classes, name, class)?)
 }
 
-#[tactic(auto, unfolding(crate::specs::Classes::dex_classes), using(crate::proofs::Throughs::through_begins, crate::proofs::Throughs::through_goes_on, crate::proofs::Throughs::through_fails, crate::proofs::Throughs::through_is_done))]
-fn add_classes(alloc: Global, _d: usize, dex: &Dex, mut classes: Classes) -> Result<Classes, Halt>
-    ensures { Gives (λ m. m.entries) result (dex_classes _d dex.now classes.entries) }
+#[tactic(auto, unfolding(crate::specs::Classes::dex_classes), using(vet_base::proofs::Eaches::each_begins, vet_base::proofs::Eaches::each_goes_on, vet_base::proofs::Eaches::each_fails, vet_base::proofs::Eaches::each_is_done))]
+fn add_classes(alloc: Global, dex: &Dex, mut classes: Classes) -> Result<Classes, Halt>
+    ensures { Gives (λ m. m.entries) result (dex_classes dex.now classes.entries) }
 {
-    for (i, def) in dex.classes.as_slice().iter().enumerate() {
-        classes = add_class(alloc, dex, i, def, classes)?;
+    for def in dex.classes.as_slice() {
+        classes = add_class(alloc, dex, def, classes)?;
     }
     Ok(classes)
 }
 
 /// The classes of all files.
-#[tactic(auto, unfolding(crate::specs::Classes::all_classes), using(crate::proofs::Throughs::through_begins, crate::proofs::Throughs::through_goes_on, crate::proofs::Throughs::through_fails, crate::proofs::Throughs::through_is_done))]
+#[tactic(auto, unfolding(crate::specs::Classes::all_classes), using(vet_base::proofs::Eaches::each_begins, vet_base::proofs::Eaches::each_goes_on, vet_base::proofs::Eaches::each_fails, vet_base::proofs::Eaches::each_is_done))]
 pub fn classes_of(alloc: Global, dexes: &[Dex]) -> Result<Classes, Halt>
     ensures { Gives (λ m. m.entries) result (all_classes dexes.now) }
 {
     let mut classes = BTreeMap::new(alloc);
-    for (d, dex) in dexes.iter().enumerate() {
-        classes = add_classes(alloc, d, dex, classes)?;
+    for dex in dexes {
+        classes = add_classes(alloc, dex, classes)?;
     }
     Ok(classes)
 }

@@ -5,7 +5,7 @@ ghost use Rattle.std.specs.List.Sorted.{IsStrictlySortedBy};
 ghost use Rattle.std.specs.Map.{keys_of};
 ghost use Rattle.vet_base.specs.Script.{Gives};
 ghost use Rattle.dex_code.specs.Code.{decoding};
-ghost use Rattle.app_machine.specs.Names.{is_wide, widths};
+ghost use Rattle.app_machine.specs.Names.{widths};
 ghost use Rattle.app_machine.specs.Sound.{taken};
 ghost use Rattle.app_link.specs.Code.{ShortCode, ShortCodes, all_codes, blamed, bodies_of, call_fits, call_row, calls_fit, code_at, code_row, counts_of, one_code, reference, tested};
 ghost use Rattle.app_link.specs.Described.{Described};
@@ -16,9 +16,9 @@ ghost use Rattle.app_link.specs.declared.fault.Fault.TheVariants as faults;
 
 use crate::fault::{Fault, Halt};
 use crate::members::{Listed, Methods, Place, Triple};
-use crate::texts::{method_row_at, proto_at};
-use app_model::{CallKind, MethodRef, Proto};
-use dex_code::{CodeFault, Counts, Decoded, Insn, Naming, decode};
+use crate::texts::{method_row_at, proto_at, proto_copied};
+use app_model::{CallKind, MethodRef, Proto, is_wide};
+use dex_code::{CodeFault, Counts, Decoded, Insn, Naming, code_laws, decode};
 use dex_reader::{Body, ClassDef, Dex, RawCode};
 use std::alloc::Global;
 use vet_base::{Memory, Name, Seq, Stop};
@@ -85,20 +85,13 @@ fn find_code<'a>(dexes: &'a [Dex], place: &Place) -> Option<(&'a Dex, &'a RawCod
     }
 }
 
-#[tactic(auto, unfolding(app_machine::specs::Names::is_wide))]
-fn is_wide_type(kind: &Name) -> bool
-    ensures { result ≡ is_wide kind.now }
-{
-    kind.as_bytes() == b"J".as_slice() || kind.as_bytes() == b"D".as_slice()
-}
-
 /// Whether parameters of these types take just so many registers.
 fn take_registers(params: &[Name], count: usize) -> bool
     ensures { result ≡ (widths params.now == count) }
 {
     let mut left = count;
     for kind in params {
-        let width = if is_wide_type(kind) { 2 } else { 1 };
+        let width = if is_wide(kind) { 2 } else { 1 };
         if left < width {
             return false;
         }
@@ -133,62 +126,44 @@ fn fits_call(alloc: Global, dex: &Dex, insn: &Insn) -> Result<bool, Memory>
     }
 }
 
-pub fn names_copied(alloc: Global, names: &[Name]) -> Result<Seq<Name>, Memory>
-    ensures { IfOk result (λ ns. ns ≡ names.now) }
-{
-    let mut copies = Vec::new(alloc);
-    for name in names {
-        copies.push(name.copy(alloc)?)?;
-    }
-    Ok(Seq::from_vec(copies))
-}
-
-pub fn reference_copied(alloc: Global, at: &MethodRef) -> Result<MethodRef, Memory>
+pub fn reference_copied(at: &MethodRef) -> Result<MethodRef, Memory>
     ensures { IfOk result (λ m. m ≡ at.now) }
 {
-    let class = at.class.copy(alloc)?;
-    let name = at.name.copy(alloc)?;
-    let params = names_copied(alloc, at.proto.params.as_slice())?;
-    let ret = at.proto.ret.copy(alloc)?;
-    let proto = Proto { params, ret };
-    Ok(MethodRef { class, name, proto })
+    Ok(MethodRef {
+        class: at.class.copy()?,
+        name: at.name.copy()?,
+        proto: proto_copied(&at.proto)?,
+    })
 }
 
 #[tactic(auto, unfolding(crate::specs::Code::reference))]
-fn reference_of(alloc: Global, triple: &Triple, listed: &Listed) -> Result<MethodRef, Memory>
+fn reference_of(triple: &Triple, listed: &Listed) -> Result<MethodRef, Memory>
     ensures { IfOk result (λ m. m ≡ reference triple.now listed.now) }
 {
-    let class = triple.0.copy(alloc)?;
-    let name = triple.1.copy(alloc)?;
-    let params = names_copied(alloc, listed.proto.params.as_slice())?;
-    let ret = listed.proto.ret.copy(alloc)?;
-    let proto = Proto { params, ret };
-    Ok(MethodRef { class, name, proto })
+    Ok(MethodRef {
+        class: triple.0.copy()?,
+        name: triple.1.copy()?,
+        proto: proto_copied(&listed.proto)?,
+    })
 }
 
 #[tactic(auto, unfolding(crate::specs::Code::call_row))]
-fn check_call(
-    alloc: Global,
-    dex: &Dex,
-    at: &MethodRef,
-    _i: usize,
-    line: &(u32, Insn),
-) -> Result<(), Halt>
-    ensures { Gives (λ x. x) result (call_row dex.now at.now _i line.now tt) }
+fn check_call(alloc: Global, dex: &Dex, at: &MethodRef, line: &(u32, Insn)) -> Result<(), Halt>
+    ensures { Gives (λ x. x) result (call_row dex.now at.now line.now tt) }
 {
     if !fits_call(alloc, dex, &line.1)? {
-        let at = reference_copied(alloc, at)?;
+        let at = reference_copied(at)?;
         return Err(Stop::Fault(Fault::Code(at, CodeFault::Register(line.0))));
     }
     Ok(())
 }
 
-#[tactic(auto, unfolding(crate::specs::Code::calls_fit), using(crate::proofs::Throughs::through_begins, crate::proofs::Throughs::through_goes_on, crate::proofs::Throughs::through_fails, crate::proofs::Throughs::through_is_done))]
+#[tactic(auto, unfolding(crate::specs::Code::calls_fit), using(vet_base::proofs::Eaches::each_begins, vet_base::proofs::Eaches::each_goes_on, vet_base::proofs::Eaches::each_fails, vet_base::proofs::Eaches::each_is_done))]
 fn check_calls(alloc: Global, dex: &Dex, at: &MethodRef, lines: &[(u32, Insn)]) -> Result<(), Halt>
     ensures { Gives (λ x. x) result (calls_fit dex.now at.now lines.now) }
 {
-    for (i, line) in lines.iter().enumerate() {
-        check_call(alloc, dex, at, i, line)?;
+    for line in lines {
+        check_call(alloc, dex, at, line)?;
     }
     Ok(())
 }
@@ -200,11 +175,12 @@ fn decoded_of(alloc: Global, dex: &Dex, code: &RawCode, at: &MethodRef) -> Resul
     requires tries { length code.now.tries < 2 ^ 32 }
     ensures { Gives (λ d. d) result (blamed (faults.Code at.now) (decoding code.now (counts_of dex.now))) }
 {
+    code_laws();
     match decode(alloc, code, &counts_at(dex)) {
         Ok(decoded) => Ok(decoded),
         Err(CodeFault::Memory) => Err(Stop::Memory),
         Err(fault) => {
-            let at = reference_copied(alloc, at)?;
+            let at = reference_copied(at)?;
             Err(Stop::Fault(Fault::Code(at, fault)))
         }
     }
@@ -224,7 +200,7 @@ fn test_code(
 {
     let decoded = decoded_of(alloc, dex, code, at)?;
     if !takes(is_static, &at.proto, code.ins as usize) {
-        let at = reference_copied(alloc, at)?;
+        let at = reference_copied(at)?;
         return Err(Stop::Fault(Fault::Code(at, CodeFault::Register(0))));
     }
     check_calls(alloc, dex, at, decoded.lines.as_slice())?;
@@ -263,15 +239,14 @@ fn add_code(
 fn add_row(
     alloc: Global,
     dexes: &[Dex],
-    _i: usize,
     entry: &(Triple, Listed),
     mut coding: Coding,
 ) -> Result<Coding, Halt>
     requires { ShortCodes dexes.now }
-    ensures { Gives (λ c. (c.methods.items, c.units)) result (code_row dexes.now _i entry.now (coding.methods.items, coding.units)) }
+    ensures { Gives (λ c. (c.methods.items, c.units)) result (code_row dexes.now entry.now (coding.methods.items, coding.units)) }
 {
     let listed = &entry.1;
-    let at = reference_of(alloc, &entry.0, listed)?;
+    let at = reference_of(&entry.0, listed)?;
     if listed.is_native {
         coding.methods.push(Coded {
             at,
@@ -293,7 +268,7 @@ fn add_row(
     }
 }
 
-#[tactic(auto, unfolding(crate::specs::Code::all_codes), using(crate::proofs::Throughs::through_begins, crate::proofs::Throughs::through_goes_on, crate::proofs::Throughs::through_fails, crate::proofs::Throughs::through_is_done))]
+#[tactic(auto, unfolding(crate::specs::Code::all_codes), using(vet_base::proofs::Eaches::each_begins, vet_base::proofs::Eaches::each_goes_on, vet_base::proofs::Eaches::each_fails, vet_base::proofs::Eaches::each_is_done))]
 fn add_rows(alloc: Global, dexes: &[Dex], entries: &[(Triple, Listed)]) -> Result<Coding, Halt>
     requires { ShortCodes dexes.now }
     ensures { Gives (λ c. (c.methods.items, c.units)) result (all_codes dexes.now entries.now) }
@@ -302,8 +277,8 @@ fn add_rows(alloc: Global, dexes: &[Dex], entries: &[(Triple, Listed)]) -> Resul
         methods: Vec::new(alloc),
         units: 0,
     };
-    for (i, entry) in entries.iter().enumerate() {
-        coding = add_row(alloc, dexes, i, entry, coding)?;
+    for entry in entries {
+        coding = add_row(alloc, dexes, entry, coding)?;
     }
     Ok(coding)
 }
@@ -324,6 +299,7 @@ pub fn codes_of(alloc: Global, dexes: &[Dex], methods: Methods) -> Result<Coding
     ensures tested { IfOk result (λ c. Tested dexes.now c.methods.items) }
     ensures few { IfOk result (λ c. length c.methods.items ≤ length methods.entries) }
 {
+    code_laws();
     let entries = listed(alloc, methods)?;
     let coding = add_rows(alloc, dexes, &entries)?;
     Ok(coding)

@@ -24,7 +24,6 @@ fn kind_at(word: Word) -> Option<Kind>
 
 #[tactic(auto, unfolding(crate::specs::Components::one_component), using(vet_base::proofs::Scripts::run_bind))]
 fn add_component(
-    alloc: Global,
     classes: &Classes,
     kind: Kind,
     name: &Name,
@@ -32,7 +31,7 @@ fn add_component(
 ) -> Result<Vec<Component>, Halt>
     ensures { Gives (λ v. v.items) result (one_component classes.now.entries kind name.now components.items) }
 {
-    let class = name.copy(alloc)?;
+    let class = name.copy()?;
     if !holds_name(classes, name) {
         return Err(Stop::Fault(Fault::NoClass(class)));
     }
@@ -42,16 +41,14 @@ fn add_component(
 
 #[tactic(auto, unfolding(crate::specs::Components::component_row))]
 fn add_row(
-    alloc: Global,
     classes: &Classes,
-    _i: usize,
     row: &(Word, Name),
     components: Vec<Component>,
 ) -> Result<Vec<Component>, Halt>
-    ensures { Gives (λ v. v.items) result (component_row classes.now.entries _i row.now components.items) }
+    ensures { Gives (λ v. v.items) result (component_row classes.now.entries row.now components.items) }
 {
     match kind_at(row.0) {
-        Some(kind) => add_component(alloc, classes, kind, &row.1, components),
+        Some(kind) => add_component(classes, kind, &row.1, components),
         None => Ok(components),
     }
 }
@@ -65,22 +62,21 @@ fn application(
     ensures { Gives (λ v. v.items) result (application_row classes.now.entries name.now) }
 {
     match name {
-        Some(name) => add_component(alloc, classes, Kind::Application, name, Vec::new(alloc)),
+        Some(name) => add_component(classes, Kind::Application, name, Vec::new(alloc)),
         None => Ok(Vec::new(alloc)),
     }
 }
 
-#[tactic(auto, unfolding(crate::specs::Components::component_rows), using(crate::proofs::Throughs::through_begins, crate::proofs::Throughs::through_goes_on, crate::proofs::Throughs::through_fails, crate::proofs::Throughs::through_is_done))]
+#[tactic(auto, unfolding(crate::specs::Components::component_rows), using(vet_base::proofs::Eaches::each_begins, vet_base::proofs::Eaches::each_goes_on, vet_base::proofs::Eaches::each_fails, vet_base::proofs::Eaches::each_is_done))]
 fn add_rows(
-    alloc: Global,
     classes: &Classes,
     rows: &[(Word, Name)],
     mut components: Vec<Component>,
 ) -> Result<Vec<Component>, Halt>
     ensures { Gives (λ v. v.items) result (component_rows classes.now.entries rows.now components.items) }
 {
-    for (i, row) in rows.iter().enumerate() {
-        components = add_row(alloc, classes, i, row, components)?;
+    for row in rows {
+        components = add_row(classes, row, components)?;
     }
     Ok(components)
 }
@@ -95,7 +91,7 @@ pub fn components_of(
     ensures { Gives (λ v. v.items) result (all_components classes.now.entries manifest.now) }
 {
     let first = application(alloc, classes, &manifest.application)?;
-    add_rows(alloc, classes, manifest.components.as_slice(), first)
+    add_rows(classes, manifest.components.as_slice(), first)
 }
 
 #[tactic(auto, unfolding(crate::specs::Components::provider_of))]
@@ -116,7 +112,7 @@ pub fn providers_of(alloc: Global, manifest: &Manifest) -> Result<Seq<Name>, Mem
     let mut names = Vec::new(alloc);
     for row in manifest.components.as_slice() {
         if let Some(name) = provider_at(row) {
-            names.push(name.copy(alloc)?)?;
+            names.push(name.copy()?)?;
         }
     }
     Ok(Seq::from_vec(names))

@@ -15,14 +15,16 @@ ghost use Rattle.app_link.specs.SoFar.{SoFar};
 ghost use Rattle.app_link.specs.Tested.{Tested};
 
 use crate::classes::Classes;
-use crate::coded::{Coding, names_copied};
+use crate::coded::Coding;
 use crate::components::providers_of;
 use crate::keys::keys_of;
 use crate::members::Fields;
 use crate::methods::methods_of;
 use crate::outer::{Outers, with_outers};
 use crate::static_list::statics_of;
+use crate::texts::names_copied;
 use app_model::{App, Class, Component, Layouts, Manifest};
+use dex_code::code_laws;
 use dex_reader::Dex;
 use std::alloc::Global;
 use vet_base::{Memory, Seq};
@@ -52,6 +54,13 @@ fn fields_in_order(fields: &Fields) -> usize
     fields.len()
 }
 
+/// What the app has beside its DEX files.
+#[derive(Clone, Copy)]
+pub struct Papers<'a> {
+    pub manifest: &'a Manifest,
+    pub layouts: &'a Layouts,
+}
+
 /// The app without its statics and methods.
 pub fn frame_of(
     alloc: Global,
@@ -59,29 +68,28 @@ pub fn frame_of(
     outers: &Outers,
     fields: &Fields,
     components: Vec<Component>,
-    manifest: &Manifest,
-    layouts: &Layouts,
+    papers: &Papers<'_>,
 ) -> Result<App, Memory>
     requires settled { AllSettled classes.entries outers.now.entries }
     requires few_classes { length classes.entries < 2 ^ 32 }
     requires few_fields { length fields.now.entries < 4294967295 }
     requires fit { Fit classes.entries components.items }
     requires few_components { length components.items < 2 ^ 32 }
-    requires few_clicks { length layouts.now.clicks < 2 ^ 32 }
-    requires few_providers { length (providers_of manifest.now) < 2 ^ 32 }
-    requires few_layout_classes { length layouts.now.classes < 2 ^ 32 }
+    requires few_clicks { length papers.now.layouts.now.clicks < 2 ^ 32 }
+    requires few_providers { length (providers_of papers.now.manifest.now) < 2 ^ 32 }
+    requires few_layout_classes { length papers.now.layouts.now.classes < 2 ^ 32 }
     ensures frame { IfOk result (λ app. IsFrame classes.entries fields.now.entries app) }
     ensures components { IfOk result (λ app. app.components ≡ components.items) }
-    ensures clicks { IfOk result (λ app. app.clicks ≡ layouts.now.clicks) }
-    ensures providers { IfOk result (λ app. app.providers ≡ providers_of manifest.now) }
-    ensures layout_classes { IfOk result (λ app. app.layout_classes ≡ layouts.now.classes) }
+    ensures clicks { IfOk result (λ app. app.clicks ≡ papers.now.layouts.now.clicks) }
+    ensures providers { IfOk result (λ app. app.providers ≡ providers_of papers.now.manifest.now) }
+    ensures layout_classes { IfOk result (λ app. app.layout_classes ≡ papers.now.layouts.now.classes) }
 {
     let _fields = fields_in_order(fields);
     let list = filled_classes(alloc, classes, outers)?;
     let keys = keys_of(alloc, fields)?;
-    let clicks = names_copied(alloc, layouts.clicks.as_slice())?;
-    let providers = providers_of(alloc, manifest)?;
-    let layout_classes = names_copied(alloc, layouts.classes.as_slice())?;
+    let clicks = names_copied(alloc, papers.layouts.clicks.as_slice())?;
+    let providers = providers_of(alloc, papers.manifest)?;
+    let layout_classes = names_copied(alloc, papers.layouts.classes.as_slice())?;
     Ok(App {
         classes: Seq::from_vec(list),
         methods: Seq::new(alloc),
@@ -113,6 +121,7 @@ pub fn finished(
     ensures methods { IfOk result (λ a. a.methods ≡ all_methods app fields.now.entries a.statics dexes.now coding.now.methods.items) }
     ensures others { IfOk result (λ a. a ≡ record app { statics = a.statics; methods = a.methods }) }
 {
+    code_laws();
     let statics = statics_of(alloc, &app, fields, dexes, &coding.methods)?;
     let methods = methods_of(alloc, &app, fields, &statics, dexes, &coding.methods)?;
     app.statics = Seq::from_vec(statics);

@@ -16,7 +16,7 @@ use crate::outer::{Outers, outer_at};
 use app_model::Class;
 use std::alloc::Global;
 use std::collections::{BTreeMap, BTreeSet};
-use vet_base::{Memory, Name, Seq, Stop};
+use vet_base::{Memory, Name, Shared, Stop};
 
 /// The class or interface of that number directly above: the superclass first.
 fn above_at(class: &Class, k: usize) -> Option<&Name> {
@@ -36,8 +36,8 @@ fn add_in_order(
     order: &mut Vec<Name>,
 ) -> Result<(), Memory> {
     let mut open: Vec<(Name, usize)> = Vec::new(alloc);
-    if seen.insert(root.copy(alloc)?)? {
-        open.push((root.copy(alloc)?, 0))?;
+    if seen.insert(root.copy()?)? {
+        open.push((root.copy()?, 0))?;
     }
     for _ in 0..u64::MAX {
         let Some((name, k)) = open.pop() else {
@@ -46,9 +46,9 @@ fn add_in_order(
         if let Some(class) = classes.get(&name) {
             match above_at(class, k) {
                 Some(above) => {
-                    let above = above.copy(alloc)?;
+                    let above = above.copy()?;
                     open.push((name, k.saturating_add(1)))?;
-                    if holds_name(classes, &above) && seen.insert(above.copy(alloc)?)? {
+                    if holds_name(classes, &above) && seen.insert(above.copy()?)? {
                         open.push((above, 0))?;
                     }
                 }
@@ -108,7 +108,7 @@ fn may_settle(classes: &Classes, outers: &Outers, class: &Class) -> bool
 }
 
 #[tactic(auto, unfolding(crate::specs::Orders::named))]
-fn put_outer(mut outers: Outers, name: Name, outer: Seq<Name>) -> Result<Outers, Memory>
+fn put_outer(mut outers: Outers, name: Name, outer: Shared<Name>) -> Result<Outers, Memory>
     ensures { IfOk result (λ m. (q : Name) → named m.entries q ≡ cond (is_at (name_order name) q) (Some outer) (named outers.entries q)) }
 {
     outers.insert(name, outer)?;
@@ -136,7 +136,7 @@ fn settle(
         return Ok((outers, true));
     }
     let outer = outer_at(alloc, classes, &outers, class)?;
-    let outers = put_outer(outers, name.copy(alloc)?, outer)?;
+    let outers = put_outer(outers, name.copy()?, outer)?;
     Ok((outers, false))
 }
 
@@ -154,16 +154,11 @@ fn settle_along(alloc: Global, classes: &Classes, order: &[Name]) -> Result<Oute
 }
 
 /// The names that are left, with this one where it waits.
-fn left_with(
-    alloc: Global,
-    mut left: Vec<Name>,
-    name: &Name,
-    waits: bool,
-) -> Result<Vec<Name>, Memory>
+fn left_with(mut left: Vec<Name>, name: &Name, waits: bool) -> Result<Vec<Name>, Memory>
     ensures { IfOk result (λ v. v.items ≡ cond waits (left.items ++ name.now ∷ []) left.items) }
 {
     if waits {
-        left.push(name.copy(alloc)?)?;
+        left.push(name.copy()?)?;
     }
     Ok(left)
 }
@@ -187,7 +182,7 @@ fn settle_round(
     for name in names {
         let (more, waits) = settle(alloc, classes, outers, name)?;
         outers = more;
-        left = left_with(alloc, left, name, waits)?;
+        left = left_with(left, name, waits)?;
     }
     Ok((outers, left))
 }
@@ -217,7 +212,7 @@ fn names_of(alloc: Global, classes: &Classes) -> Result<Vec<Name>, Memory>
 {
     let mut names = Vec::new(alloc);
     for name in classes.keys() {
-        names.push(name.copy(alloc)?)?;
+        names.push(name.copy()?)?;
     }
     Ok(names)
 }

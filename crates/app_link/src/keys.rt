@@ -9,18 +9,13 @@ use std::alloc::Global;
 use vet_base::{Memory, Seq};
 
 #[tactic(auto, unfolding(crate::specs::Keys::key_if))]
-fn add_key(
-    alloc: Global,
-    keys: &mut Vec<Key>,
-    field: &Triple,
-    is_static: bool,
-) -> Result<(), Memory>
+fn add_key(keys: &mut Vec<Key>, field: &Triple, is_static: bool) -> Result<(), Memory>
     ensures { OnOk result (keys.new.items ≡ keys.old.items ++ key_if (field.now, is_static)) }
 {
     if !is_static {
-        let class = field.0.copy(alloc)?;
-        let name = field.1.copy(alloc)?;
-        let kind = field.2.copy(alloc)?;
+        let class = field.0.copy()?;
+        let name = field.1.copy()?;
+        let kind = field.2.copy()?;
         keys.push(Key::Field(class, name, kind))?;
     }
     Ok(())
@@ -34,7 +29,7 @@ pub fn keys_of(alloc: Global, fields: &Fields) -> Result<Seq<Key>, Memory>
     let mut keys = Vec::new(alloc);
     keys.push(Key::Elem)?;
     for (field, is_static) in fields {
-        add_key(alloc, &mut keys, field, *is_static)?;
+        add_key(&mut keys, field, *is_static)?;
     }
     Ok(Seq::from_vec(keys))
 }

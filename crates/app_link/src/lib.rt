@@ -17,6 +17,7 @@ mod members;
 mod methods;
 mod naming;
 mod outer;
+mod scope;
 mod static_list;
 mod statics;
 mod texts;

@@ -1,6 +1,6 @@
 //! The steps of a method.
 
-ghost use Rattle.std.specs.Prelude.{◌≡◌, ◌++◌, IfOk, OnOk};
+ghost use Rattle.std.specs.Prelude.{◌≡◌, ◌++◌, IfOk, OnOk, option_to_list};
 ghost use Rattle.dex_code.specs.Acts.{act_of, naming_of};
 ghost use Rattle.dex_code.specs.Find.{Ascend};
 ghost use Rattle.app_machine.specs.Sound.{SoundApp};
@@ -8,77 +8,74 @@ ghost use Rattle.app_link.specs.Lift.{step_if, step_of, steps_of};
 ghost use Rattle.app_link.specs.Named.{named_of};
 ghost use Rattle.app_link.specs.StaticsInOrder.{StaticsInOrder};
 
-use crate::members::{Fields, Triple};
 use crate::naming::named_at;
-use app_model::{Act, App, Step};
+use crate::scope::Scope;
+use app_model::{Act, Step};
 use dex_code::{Insn, act_for, catches_of_lines, next_of_line};
-use dex_reader::{Dex, RawTry};
+use dex_reader::RawTry;
 use std::alloc::Global;
-use vet_base::{Memory, Seq};
+use vet_base::{Memory, Seq, Shared};
 
 /// What the instruction does, in the app.
 #[tactic(auto, using(crate::proofs::Named::suited))]
-fn act_at(
-    alloc: Global,
-    app: &App,
-    fields: &Fields,
-    statics: &[Triple],
-    dex: &Dex,
-    insn: &Insn,
-) -> Result<Act, Memory>
-    requires app { SoundApp app.now }
-    requires statics { StaticsInOrder statics.now }
-    ensures { IfOk result (λ act. act ≡ act_of insn.now (named_of app.now fields.now.entries statics.now dex.now (naming_of insn.now))) }
+fn act_at(alloc: Global, scope: &Scope<'_>, insn: &Insn) -> Result<Act, Memory>
+    requires app { SoundApp scope.now.app.now }
+    requires statics { StaticsInOrder scope.now.statics.now }
+    ensures { IfOk result (λ act. act ≡ act_of insn.now (named_of scope.now.app.now scope.now.fields.now.entries scope.now.statics.now scope.now.dex.now (naming_of insn.now))) }
 {
-    let named = named_at(alloc, app, fields, statics, dex, insn.naming())?;
+    let named = named_at(alloc, scope, insn.naming())?;
     act_for(alloc, insn, named)
 }
 
+/// The step of a line before the rest of the lines, under the handlers that cover it.
 #[tactic(auto, unfolding(crate::specs::Lift::step_of))]
 fn step_at(
     alloc: Global,
-    app: &App,
-    fields: &Fields,
-    statics: &[Triple],
-    dex: &Dex,
+    scope: &Scope<'_>,
     lines: &[(u32, Insn)],
     line: &(u32, Insn),
     rest: &[(u32, Insn)],
-    catches: Seq<u32>,
+    catches: Shared<u32>,
 ) -> Result<Step, Memory>
-    requires app { SoundApp app.now }
-    requires statics { StaticsInOrder statics.now }
+    requires app { SoundApp scope.now.app.now }
+    requires statics { StaticsInOrder scope.now.statics.now }
     requires lines { Ascend lines.now }
-    ensures { IfOk result (λ s. s ≡ step_of app.now fields.now.entries statics.now dex.now lines.now line.now rest.now catches) }
+    ensures { IfOk result (λ s. s ≡ step_of scope.now.app.now scope.now.fields.now.entries scope.now.statics.now scope.now.dex.now lines.now line.now rest.now catches) }
 {
     Ok(Step {
         pc: line.0,
-        act: act_at(alloc, app, fields, statics, dex, &line.1)?,
+        act: act_at(alloc, scope, &line.1)?,
         next: Seq::from_vec(next_of_line(alloc, lines, line, rest)?),
         catches,
     })
 }
 
+/// The same where the line is an instruction; none for a payload.
 #[tactic(auto, unfolding(crate::specs::Lift::step_if))]
-fn add_step(
+fn step_of_line(
     alloc: Global,
-    app: &App,
-    fields: &Fields,
-    statics: &[Triple],
-    dex: &Dex,
+    scope: &Scope<'_>,
     lines: &[(u32, Insn)],
     line: &(u32, Insn),
     rest: &[(u32, Insn)],
-    catches: Seq<u32>,
-    steps: &mut Vec<Step>,
-) -> Result<(), Memory>
-    requires app { SoundApp app.now }
-    requires statics { StaticsInOrder statics.now }
+    catches: Shared<u32>,
+) -> Result<Option<Step>, Memory>
+    requires app { SoundApp scope.now.app.now }
+    requires statics { StaticsInOrder scope.now.statics.now }
     requires lines { Ascend lines.now }
-    ensures { OnOk result (steps.new.items ≡ steps.old.items ++ step_if app.now fields.now.entries statics.now dex.now lines.now line.now rest.now catches) }
+    ensures { IfOk result (λ o. option_to_list o ≡ step_if scope.now.app.now scope.now.fields.now.entries scope.now.statics.now scope.now.dex.now lines.now line.now rest.now catches) }
 {
-    if !line.1.is_payload() {
-        steps.push(step_at(alloc, app, fields, statics, dex, lines, line, rest, catches)?)?;
+    if line.1.is_payload() {
+        return Ok(None);
+    }
+    Ok(Some(step_at(alloc, scope, lines, line, rest, catches)?))
+}
+
+fn add_step(steps: &mut Vec<Step>, step: Option<Step>) -> Result<(), Memory>
+    ensures { OnOk result (steps.new.items ≡ steps.old.items ++ option_to_list step) }
+{
+    if let Some(step) = step {
+        steps.push(step)?;
     }
     Ok(())
 }
@@ -86,17 +83,14 @@ fn add_step(
 /// The steps of the lines of a method: one for each instruction.
 pub fn steps_at(
     alloc: Global,
-    app: &App,
-    fields: &Fields,
-    statics: &[Triple],
-    dex: &Dex,
+    scope: &Scope<'_>,
     tries: &[RawTry],
     lines: &[(u32, Insn)],
 ) -> Result<Seq<Step>, Memory>
-    requires app { SoundApp app.now }
-    requires statics { StaticsInOrder statics.now }
+    requires app { SoundApp scope.now.app.now }
+    requires statics { StaticsInOrder scope.now.statics.now }
     requires lines { Ascend lines.now }
-    ensures { IfOk result (λ steps. steps ≡ steps_of app.now fields.now.entries statics.now dex.now tries.now lines.now lines.now) }
+    ensures { IfOk result (λ steps. steps ≡ steps_of scope.now.app.now scope.now.fields.now.entries scope.now.statics.now scope.now.dex.now tries.now lines.now lines.now) }
 {
     let mut steps = Vec::new(alloc);
     for (i, catches) in catches_of_lines(alloc, tries, lines)?
@@ -104,9 +98,8 @@ pub fn steps_at(
         .enumerate()
     {
         let rest = &lines[i + 1..];
-        add_step(
-            alloc, app, fields, statics, dex, lines, &lines[i], rest, catches, &mut steps,
-        )?;
+        let step = step_of_line(alloc, scope, lines, &lines[i], rest, catches)?;
+        add_step(&mut steps, step)?;
     }
     Ok(Seq::from_vec(steps))
 }

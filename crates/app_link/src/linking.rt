@@ -15,12 +15,12 @@ ghost use Rattle.app_link.specs.Tested.{Tested};
 
 use crate::coded::{Coding, codes_of};
 use crate::fault::{Fault, Halt, Limit};
-use crate::finish::{finished, frame_of};
+use crate::finish::{Papers, finished, frame_of};
 use crate::gathered::{Parts, gather};
 use crate::hierarchy::outers_of;
 use crate::members::Methods;
 use app_model::{App, Layouts, Manifest, MethodRef};
-use dex_code::CodeFault;
+use dex_code::{CodeFault, code_laws};
 use dex_reader::Dex;
 use std::alloc::Global;
 use vet_base::{Name, Stop};
@@ -77,6 +77,7 @@ fn coding_of(alloc: Global, dexes: &[Dex], methods: Methods) -> Result<Coding, H
     ensures tested { IfOk result (λ c. Tested dexes.now c.methods.items) }
     ensures few { IfOk result (λ c. length c.methods.items ≤ length methods.entries) }
 {
+    code_laws();
     let coding = codes_of(alloc, dexes, methods)?;
     Ok(coding)
 }
@@ -102,6 +103,7 @@ fn linked(alloc: Global, dexes: &[Dex], manifest: &Manifest, layouts: &Layouts) 
     ensures sound { IfOk result SoundApp }
     ensures fault { IfErr result (λ halt. StopsAtFirst dexes.now manifest.now halt) }
 {
+    code_laws();
     let parts = gather(alloc, dexes, manifest)?;
     let outers = outers_of(alloc, &parts.classes)?;
     let (class_count, method_count, field_count) = counts_of(&parts);
@@ -113,9 +115,8 @@ fn linked(alloc: Global, dexes: &[Dex], manifest: &Manifest, layouts: &Layouts) 
     } = parts;
     let coding = coding_of(alloc, dexes, methods)?;
     check_limits(class_count, method_count, field_count, coding.units)?;
-    let frame = frame_of(
-        alloc, classes, &outers, &fields, components, manifest, layouts,
-    )?;
+    let papers = Papers { manifest, layouts };
+    let frame = frame_of(alloc, classes, &outers, &fields, components, &papers)?;
     let app = finished(alloc, dexes, &fields, frame, &coding)?;
     Ok(app)
 }
@@ -176,6 +177,7 @@ pub fn link(
     // Files that are an app have no fault.
     ensures law { OneAnswer dexes.now manifest.now layouts.now }
 {
+    code_laws();
     match linked(alloc, dexes, manifest, layouts) {
         Ok(app) => Ok(app),
         Err(Stop::Memory) => Err(LinkFault::Memory),

@@ -3,8 +3,9 @@
 ghost use Rattle.std.specs.Prelude.{◌≡◌, IfOk, ◌++◌};
 ghost use Rattle.vet_base.specs.Script.{Gives};
 ghost use Rattle.app_machine.specs.Names.{descriptor_of, joined};
-ghost use Rattle.app_link.specs.MemberRows.{all_members, class_members, dex_members, field_named, listed_of, method_named, one_field, one_method, some_fields, some_methods};
+ghost use Rattle.app_link.specs.MemberRows.{all_members, class_members, dex_members, field_named, first_of, listed_of, method_named, one_field, one_method, some_fields, some_methods};
 ghost use Rattle.app_link.specs.Orders.{has_triple, with_triple};
+ghost use Rattle.app_link.specs.Texts.{method_row, proto_of};
 
 use crate::fault::{Fault, Halt};
 use crate::flags::{says_native, says_static};
@@ -95,7 +96,7 @@ pub fn descriptor(alloc: Global, proto: &Proto) -> Result<Name, Memory>
     add_names(&mut bytes, proto.params.as_slice())?;
     bytes.extend_from_slice(b")")?;
     add_name(&mut bytes, &proto.ret)?;
-    Ok(Name::new(bytes))
+    Name::new(alloc, bytes)
 }
 
 #[tactic(auto, unfolding(crate::specs::MemberRows::field_named))]
@@ -103,27 +104,34 @@ fn name_field(alloc: Global, dex: &Dex, class: &Name, member: &Member) -> Result
     ensures { IfOk result (λ t. t ≡ field_named dex.now class.now member.now) }
 {
     let row = field_row_at(dex, member.index);
-    let class = class.copy(alloc)?;
-    let name = Name::from_bytes(alloc, text_at(dex, row.name))?;
-    let kind = Name::from_bytes(alloc, type_at(dex, row.kind))?;
+    let class = class.copy()?;
+    let name = text_at(alloc, dex, row.name)?;
+    let kind = type_at(alloc, dex, row.kind)?;
     Ok((class, name, kind))
 }
 
+/// A method by its class, its name and the text of its prototype's descriptor.
 #[tactic(auto, unfolding(crate::specs::MemberRows::method_named))]
-fn name_method(alloc: Global, dex: &Dex, class: &Name, body: &Body) -> Result<Triple, Memory>
+fn name_method(
+    alloc: Global,
+    dex: &Dex,
+    class: &Name,
+    body: &Body,
+    proto: &Proto,
+) -> Result<Triple, Memory>
+    requires { proto.now ≡ proto_of dex.now (method_row dex.now body.now.index).proto }
     ensures { IfOk result (λ t. t ≡ method_named dex.now class.now body.now) }
 {
-    let row = method_row_at(dex, body.index);
-    let class = class.copy(alloc)?;
-    let name = Name::from_bytes(alloc, text_at(dex, row.name))?;
-    let proto = proto_at(alloc, dex, row.proto)?;
-    let descriptor = descriptor(alloc, &proto)?;
+    let class = class.copy()?;
+    let name = text_at(alloc, dex, method_row_at(dex, body.index).name)?;
+    let descriptor = descriptor(alloc, proto)?;
     Ok((class, name, descriptor))
 }
 
 #[tactic(auto, unfolding(crate::specs::MemberRows::listed_of))]
 fn list_method(alloc: Global, dex: &Dex, place: Place, body: &Body) -> Result<Listed, Memory>
-    ensures { IfOk result (λ l. l ≡ listed_of dex.now place body.now) }
+    ensures value { IfOk result (λ l. l ≡ listed_of dex.now place body.now) }
+    ensures proto { IfOk result (λ l. l.proto ≡ proto_of dex.now (method_row dex.now body.now.index).proto) }
 {
     let row = method_row_at(dex, body.index);
     let proto = proto_at(alloc, dex, row.proto)?;
@@ -142,11 +150,10 @@ fn add_field(
     dex: &Dex,
     class: &Name,
     is_static: bool,
-    _i: usize,
     member: &Member,
     fields: Fields,
 ) -> Result<Fields, Halt>
-    ensures { Gives (λ m. m.entries) result (one_field dex.now class.now is_static _i member.now fields.entries) }
+    ensures { Gives (λ m. m.entries) result (one_field dex.now class.now is_static member.now fields.entries) }
 {
     let triple = name_field(alloc, dex, class, member)?;
     if holds_triple(&fields, &triple) {
@@ -156,7 +163,7 @@ fn add_field(
     Ok(with_entry(fields, triple, is_static)?)
 }
 
-#[tactic(auto, unfolding(crate::specs::MemberRows::some_fields), using(crate::proofs::Throughs::through_begins, crate::proofs::Throughs::through_goes_on_at, crate::proofs::Throughs::through_fails_at, crate::proofs::Throughs::through_is_done))]
+#[tactic(auto, unfolding(crate::specs::MemberRows::some_fields), using(vet_base::proofs::Eaches::each_begins, vet_base::proofs::Eaches::each_goes_on_at, vet_base::proofs::Eaches::each_fails_at, vet_base::proofs::Eaches::each_is_done))]
 fn add_fields(
     alloc: Global,
     dex: &Dex,
@@ -167,8 +174,8 @@ fn add_fields(
 ) -> Result<Fields, Halt>
     ensures { Gives (λ m. m.entries) result (some_fields dex.now class.now is_static members.now fields.entries) }
 {
-    for (i, member) in members.iter().enumerate() {
-        fields = add_field(alloc, dex, class, is_static, i, member, fields)?;
+    for member in members {
+        fields = add_field(alloc, dex, class, is_static, member, fields)?;
     }
     Ok(fields)
 }
@@ -178,45 +185,49 @@ fn add_method(
     alloc: Global,
     dex: &Dex,
     class: &Name,
-    at: (usize, usize),
-    is_virtual: bool,
-    i: usize,
+    place: Place,
     body: &Body,
     methods: Methods,
 ) -> Result<Methods, Halt>
-    ensures { Gives (λ m. m.entries) result (one_method dex.now class.now at is_virtual i body.now methods.entries) }
+    ensures { Gives (λ m. m.entries) result (one_method dex.now class.now place body.now methods.entries) }
 {
-    let triple = name_method(alloc, dex, class, body)?;
+    let listed = list_method(alloc, dex, place, body)?;
+    let triple = name_method(alloc, dex, class, body, &listed.proto)?;
     if holds_triple(&methods, &triple) {
         let (class, name, _) = triple;
         return Err(Stop::Fault(Fault::TwoMembers(class, name)));
     }
-    let place = Place {
-        dex: at.0,
-        class: at.1,
-        is_virtual,
-        body: i,
-    };
-    let listed = list_method(alloc, dex, place, body)?;
     Ok(with_entry(methods, triple, listed)?)
 }
 
-#[tactic(auto, unfolding(crate::specs::MemberRows::some_methods), using(crate::proofs::Throughs::through_begins, crate::proofs::Throughs::through_goes_on, crate::proofs::Throughs::through_fails, crate::proofs::Throughs::through_is_done))]
+#[tactic(auto, unfolding(crate::specs::MemberRows::some_methods), using(vet_base::proofs::Throughs::through_begins, vet_base::proofs::Throughs::through_goes_on, vet_base::proofs::Throughs::through_fails, vet_base::proofs::Throughs::through_is_done))]
 fn add_methods(
     alloc: Global,
     dex: &Dex,
     class: &Name,
-    at: (usize, usize),
-    is_virtual: bool,
+    first: Place,
     bodies: &[Body],
     mut methods: Methods,
 ) -> Result<Methods, Halt>
-    ensures { Gives (λ m. m.entries) result (some_methods dex.now class.now at is_virtual bodies.now methods.entries) }
+    ensures { Gives (λ m. m.entries) result (some_methods dex.now class.now first bodies.now methods.entries) }
 {
     for (i, body) in bodies.iter().enumerate() {
-        methods = add_method(alloc, dex, class, at, is_virtual, i, body, methods)?;
+        let place = Place { body: i, ..first };
+        methods = add_method(alloc, dex, class, place, body, methods)?;
     }
     Ok(methods)
+}
+
+/// The first place of a list of methods.
+fn first_place(dex: usize, class: usize, is_virtual: bool) -> Place
+    ensures { result ≡ first_of dex class is_virtual }
+{
+    Place {
+        dex,
+        class,
+        is_virtual,
+        body: 0,
+    }
 }
 
 #[tactic(auto, unfolding(crate::specs::MemberRows::class_members), using(vet_base::proofs::Scripts::run_bind))]
@@ -231,32 +242,17 @@ fn add_class_members(
     ensures { Gives (λ m. (m.fields.entries, m.methods.entries)) result (class_members d dex.now c def.now (members.fields.entries, members.methods.entries)) }
 {
     let Members { fields, methods } = members;
-    let class = Name::from_bytes(alloc, type_at(dex, def.class))?;
+    let class = type_at(alloc, dex, def.class)?;
     let fields = add_fields(alloc, dex, &class, true, def.statics.as_slice(), fields)?;
     let fields = add_fields(alloc, dex, &class, false, def.instances.as_slice(), fields)?;
-    let at = (d, c);
-    let methods = add_methods(
-        alloc,
-        dex,
-        &class,
-        at,
-        false,
-        def.directs.as_slice(),
-        methods,
-    )?;
-    let methods = add_methods(
-        alloc,
-        dex,
-        &class,
-        at,
-        true,
-        def.virtuals.as_slice(),
-        methods,
-    )?;
+    let first = first_place(d, c, false);
+    let methods = add_methods(alloc, dex, &class, first, def.directs.as_slice(), methods)?;
+    let first = first_place(d, c, true);
+    let methods = add_methods(alloc, dex, &class, first, def.virtuals.as_slice(), methods)?;
     Ok(Members { fields, methods })
 }
 
-#[tactic(auto, unfolding(crate::specs::MemberRows::dex_members), using(crate::proofs::Throughs::through_begins, crate::proofs::Throughs::through_goes_on, crate::proofs::Throughs::through_fails, crate::proofs::Throughs::through_is_done))]
+#[tactic(auto, unfolding(crate::specs::MemberRows::dex_members), using(vet_base::proofs::Throughs::through_begins, vet_base::proofs::Throughs::through_goes_on, vet_base::proofs::Throughs::through_fails, vet_base::proofs::Throughs::through_is_done))]
 fn add_dex_members(
     alloc: Global,
     d: usize,
@@ -272,7 +268,7 @@ fn add_dex_members(
 }
 
 /// The members of all files.
-#[tactic(auto, unfolding(crate::specs::MemberRows::all_members), using(crate::proofs::Throughs::through_begins, crate::proofs::Throughs::through_goes_on, crate::proofs::Throughs::through_fails, crate::proofs::Throughs::through_is_done))]
+#[tactic(auto, unfolding(crate::specs::MemberRows::all_members), using(vet_base::proofs::Throughs::through_begins, vet_base::proofs::Throughs::through_goes_on, vet_base::proofs::Throughs::through_fails, vet_base::proofs::Throughs::through_is_done))]
 pub fn members_of(alloc: Global, dexes: &[Dex]) -> Result<Members, Halt>
     ensures { Gives (λ m. (m.fields.entries, m.methods.entries)) result (all_members dexes.now) }
 {

@@ -9,6 +9,7 @@ ghost use Rattle.app_link.specs.StaticsInOrder.{StaticsInOrder};
 use crate::coded::{Coded, reference_copied};
 use crate::lift::steps_at;
 use crate::members::{Fields, Triple};
+use crate::scope::Scope;
 use app_model::{App, Method, Step};
 use dex_reader::Dex;
 use std::alloc::Global;
@@ -29,15 +30,16 @@ fn steps_of_method(
     ensures { IfOk result (λ steps. steps ≡ steps_in app.now fields.now.entries statics.now dexes.now coded.now) }
 {
     match dexes.get(coded.dex) {
-        Some(dex) => steps_at(
-            alloc,
-            app,
-            fields,
-            statics,
-            dex,
-            coded.decoded.tries.as_slice(),
-            coded.decoded.lines.as_slice(),
-        ),
+        Some(dex) => {
+            let scope = Scope {
+                app,
+                fields,
+                statics,
+                dex,
+            };
+            let (tries, lines) = (&coded.decoded.tries, &coded.decoded.lines);
+            steps_at(alloc, &scope, tries.as_slice(), lines.as_slice())
+        }
         None => Ok(Seq::new(alloc)),
     }
 }
@@ -60,7 +62,7 @@ fn method_at(
 {
     let steps = steps_of_method(alloc, app, fields, statics, dexes, coded)?;
     Ok(Method {
-        at: reference_copied(alloc, &coded.at)?,
+        at: reference_copied(&coded.at)?,
         is_static: coded.is_static,
         is_native: coded.is_native,
         registers: u32::from(coded.registers),

@@ -4,22 +4,15 @@ ghost use Rattle.std.specs.Prelude.{◌≡◌, IfOk};
 ghost use Rattle.app_machine.specs.Sound.{SoundApp};
 ghost use Rattle.app_link.specs.Named.{key_of, named_of};
 ghost use Rattle.app_link.specs.StaticsInOrder.{StaticsInOrder};
-ghost use Rattle.app_link.specs.Texts.{type_of};
 
-use crate::members::{Fields, Triple};
+use crate::scope::Scope;
 use crate::statics::number_at;
 use crate::texts::{field_at, method_at, type_at};
 use app_model::{App, instance_key};
 use dex_code::{Named, Naming};
 use dex_reader::Dex;
 use std::alloc::Global;
-use vet_base::{KeyId, Memory, Name};
-
-fn type_name(alloc: Global, dex: &Dex, i: u32) -> Result<Name, Memory>
-    ensures { IfOk result (λ n. n ≡ type_of dex.now i) }
-{
-    Name::from_bytes(alloc, type_at(dex, i))
-}
+use vet_base::{KeyId, Memory};
 
 /// The key of the instance field of that index.
 #[tactic(auto, unfolding(crate::specs::Named::key_of))]
@@ -31,25 +24,18 @@ fn key_at(alloc: Global, app: &App, dex: &Dex, i: u32) -> Result<KeyId, Memory>
     Ok(instance_key(app, &class, &name, &kind))
 }
 
-/// What an instruction names, where this is what it needs. The statics that it may name are among these.
+/// What an instruction names, where this is what it needs.
 #[tactic(auto, unfolding(crate::specs::Named::named_of))]
-pub fn named_at(
-    alloc: Global,
-    app: &App,
-    fields: &Fields,
-    statics: &[Triple],
-    dex: &Dex,
-    naming: Naming,
-) -> Result<Named, Memory>
-    requires app { SoundApp app.now }
-    requires statics { StaticsInOrder statics.now }
-    ensures { IfOk result (λ named. named ≡ named_of app.now fields.now.entries statics.now dex.now naming) }
+pub fn named_at(alloc: Global, scope: &Scope<'_>, naming: Naming) -> Result<Named, Memory>
+    requires app { SoundApp scope.now.app.now }
+    requires statics { StaticsInOrder scope.now.statics.now }
+    ensures { IfOk result (λ named. named ≡ named_of scope.now.app.now scope.now.fields.now.entries scope.now.statics.now scope.now.dex.now naming) }
 {
     Ok(match naming {
         Naming::Nothing => Named::Nothing,
-        Naming::Class(i) => Named::Class(type_name(alloc, dex, i)?),
-        Naming::Method(i) => Named::Method(method_at(alloc, dex, i)?),
-        Naming::InstanceField(i) => Named::Key(key_at(alloc, app, dex, i)?),
-        Naming::StaticField(i) => { Named::Static(number_at(alloc, app, fields, statics, dex, i)?) }
+        Naming::Class(i) => Named::Class(type_at(alloc, scope.dex, i)?),
+        Naming::Method(i) => Named::Method(method_at(alloc, scope.dex, i)?),
+        Naming::InstanceField(i) => Named::Key(key_at(alloc, scope.app, scope.dex, i)?),
+        Naming::StaticField(i) => Named::Static(number_at(alloc, scope, i)?),
     })
 }

@@ -1,10 +1,9 @@
 //! The fields that references to static fields stand for, and their numbers.
 
 ghost use Rattle.std.specs.Prelude.{◌≡◌, ◌++◌, IfOk, OnOk, filter_map, flat_map, fold, unwrap_or};
-ghost use Rattle.std.specs.Option.{option_copied};
 ghost use Rattle.vet_base.specs.Members.{first_given};
 ghost use Rattle.app_machine.specs.Lookups.{class_named, up};
-ghost use Rattle.app_machine.specs.Sound.{SoundApp, name_order};
+ghost use Rattle.app_machine.specs.Sound.{SoundApp};
 ghost use Rattle.app_link.specs.Orders.{named_triple};
 ghost use Rattle.app_link.specs.Hierarchy.{SameNames, add_once, firsts};
 ghost use Rattle.app_link.specs.Statics.{class_of_static, classes_asked, defines, first_interfaces, interfaces_named, is_true, met, number_among, number_of, own_name, resolved};
@@ -13,25 +12,13 @@ ghost use Rattle.app_link.specs.Texts.{field_of};
 
 use crate::members::{Fields, Triple};
 use crate::outer::add_all;
-use crate::texts::field_at;
-use app_model::{App, Class};
+use crate::scope::Scope;
+use crate::texts::{add_copies, field_at};
+use app_model::{App, Class, class_of};
 use dex_reader::Dex;
 use std::alloc::Global;
 use std::collections::BTreeSet;
 use vet_base::{Memory, Name};
-
-/// The class of the app with this name.
-#[tactic(auto, unfolding(app_machine::specs::Lookups::class_named))]
-fn class_of<'a>(app: &'a App, name: &[u8]) -> Option<&'a Class>
-    requires { SoundApp app.now }
-    ensures { option_copied result ≡ class_named app.now name.now }
-{
-    let classes = app.classes.as_slice();
-    match classes.binary_search_by(|class| class.name.as_bytes().cmp(name)) {
-        Ok(i) => Some(&classes[i]),
-        Err(_) => None,
-    }
-}
 
 #[tactic(auto, unfolding(crate::specs::Orders::named_triple))]
 fn is_static_field(fields: &Fields, triple: &Triple) -> bool
@@ -43,64 +30,41 @@ fn is_static_field(fields: &Fields, triple: &Triple) -> bool
     }
 }
 
-/// Whether the class itself defines a static field of the name and type.
+/// Whether the class itself defines a static field of the name and type of the reference.
 #[tactic(auto, unfolding(crate::specs::Statics::defines))]
-fn has_static(
-    alloc: Global,
-    fields: &Fields,
-    name: &Name,
-    kind: &Name,
-    class: &Class,
-) -> Result<bool, Memory>
-    ensures { IfOk result (λ b. b ≡ defines fields.now.entries name.now kind.now class.now) }
+fn has_static(fields: &Fields, at: &Triple, class: &Class) -> Result<bool, Memory>
+    ensures { IfOk result (λ b. b ≡ defines fields.now.entries at.now.1 at.now.2 class.now) }
 {
-    let triple = (
-        class.name.copy(alloc)?,
-        name.copy(alloc)?,
-        kind.copy(alloc)?,
-    );
+    let triple = (class.name.copy()?, at.1.copy()?, at.2.copy()?);
     Ok(is_static_field(fields, &triple))
 }
 
 /// The name of the class, where it itself defines the static field.
-fn own_class(
-    alloc: Global,
-    fields: &Fields,
-    name: &Name,
-    kind: &Name,
-    class: &Class,
-) -> Result<Option<Name>, Memory>
-    ensures { IfOk result (λ o. o ≡ own_name fields.now.entries name.now kind.now class.now) }
+fn own_class(fields: &Fields, at: &Triple, class: &Class) -> Result<Option<Name>, Memory>
+    ensures { IfOk result (λ o. o ≡ own_name fields.now.entries at.now.1 at.now.2 class.now) }
 {
-    if has_static(alloc, fields, name, kind, class)? {
-        Ok(Some(class.name.copy(alloc)?))
+    if has_static(fields, at, class)? {
+        Ok(Some(class.name.copy()?))
     } else {
         Ok(None)
     }
 }
 
-/// The first class that defines the static field, from one upward along superclasses.
-#[tactic(auto, using(app_model::proofs::Upward::onward_begins, app_model::proofs::Upward::onward_found, app_model::proofs::Upward::onward_next, app_model::proofs::Upward::onward_top, app_model::proofs::Upward::onward_outside, app_model::proofs::Upward::onward_end))]
-fn class_upward(
-    alloc: Global,
-    app: &App,
-    fields: &Fields,
-    class: &[u8],
-    name: &Name,
-    kind: &Name,
-) -> Result<Option<Name>, Memory>
+/// The first class that defines the static field, from that of the reference upward along superclasses.
+#[tactic(auto, using(crate::proofs::Climbing::asks_begin, crate::proofs::Climbing::asks_found, crate::proofs::Climbing::asks_next, crate::proofs::Climbing::asks_top, crate::proofs::Climbing::asks_outside, crate::proofs::Climbing::asks_end))]
+fn class_upward(app: &App, fields: &Fields, at: &Triple) -> Result<Option<Name>, Memory>
     requires { SoundApp app.now }
-    ensures { IfOk result (λ o. o ≡ first_given (own_name fields.now.entries name.now kind.now) (up app.now class.now)) }
+    ensures { IfOk result (λ o. o ≡ first_given (own_name fields.now.entries at.now.1 at.now.2) (up app.now at.now.0)) }
 {
-    let mut at = class;
+    let mut name = at.0.as_bytes();
     for _step in 0..app.classes.len() {
-        match class_of(app, at) {
+        match class_of(app, name) {
             Some(class) => {
-                if let Some(found) = own_class(alloc, fields, name, kind, class)? {
+                if let Some(found) = own_class(fields, at, class)? {
                     return Ok(Some(found));
                 }
                 match &class.superclass {
-                    Some(superclass) => at = superclass.as_bytes(),
+                    Some(superclass) => name = superclass.as_bytes(),
                     None => return Ok(None),
                 }
             }
@@ -108,15 +72,6 @@ fn class_upward(
         }
     }
     Ok(None)
-}
-
-pub fn add_copies(alloc: Global, names: &mut Vec<Name>, more: &[Name]) -> Result<(), Memory>
-    ensures { OnOk result (names.new.items ≡ names.old.items ++ more.now) }
-{
-    for name in more {
-        names.push(name.copy(alloc)?)?;
-    }
-    Ok(())
 }
 
 /// The interfaces of a class and of those above it along superclasses, in the order met.
@@ -130,7 +85,7 @@ fn interfaces_upward(alloc: Global, app: &App, class: &[u8]) -> Result<Vec<Name>
     for _step in 0..app.classes.len() {
         match class_of(app, at) {
             Some(class) => {
-                add_copies(alloc, &mut queue, class.interfaces.as_slice())?;
+                add_copies(&mut queue, class.interfaces.as_slice())?;
                 match &class.superclass {
                     Some(superclass) => at = superclass.as_bytes(),
                     None => return Ok(queue),
@@ -145,7 +100,6 @@ fn interfaces_upward(alloc: Global, app: &App, class: &[u8]) -> Result<Vec<Name>
 /// Puts the interfaces of the app class of that name behind the others, those that are new.
 #[tactic(auto, unfolding(crate::specs::Statics::interfaces_named))]
 fn add_interfaces(
-    alloc: Global,
     app: &App,
     name: &Name,
     seen: &mut BTreeSet<Name>,
@@ -157,7 +111,7 @@ fn add_interfaces(
     ensures same { OnOk result (SameNames seen.new.keys names.new.items) }
 {
     match class_of(app, name.as_bytes()) {
-        Some(class) => add_all(alloc, class.interfaces.as_slice(), seen, names),
+        Some(class) => add_all(class.interfaces.as_slice(), seen, names),
         None => Ok(()),
     }
 }
@@ -174,11 +128,11 @@ fn interfaces_met(alloc: Global, app: &App, class: &[u8]) -> Result<Vec<Name>, M
     let first = interfaces_upward(alloc, app, class)?;
     let mut seen = BTreeSet::new(alloc);
     let mut names = Vec::new(alloc);
-    add_all(alloc, &first, &mut seen, &mut names)?;
+    add_all(&first, &mut seen, &mut names)?;
     let mut i = 0;
     while i < names.len() {
-        let name = names[i].copy(alloc)?;
-        add_interfaces(alloc, app, &name, &mut seen, &mut names)?;
+        let name = names[i].copy()?;
+        add_interfaces(app, &name, &mut seen, &mut names)?;
         i += 1;
     }
     Ok(names)
@@ -187,19 +141,17 @@ fn interfaces_met(alloc: Global, app: &App, class: &[u8]) -> Result<Vec<Name>, M
 /// The first of these interfaces that itself defines the static field.
 #[tactic(auto, using(crate::proofs::Asked::none_asked, crate::proofs::Asked::asked_outside, crate::proofs::Asked::asked_in_vain, crate::proofs::Asked::asked_finds, crate::proofs::Asked::all_asked))]
 fn class_among(
-    alloc: Global,
     app: &App,
     fields: &Fields,
-    name: &Name,
-    kind: &Name,
+    at: &Triple,
     interfaces: &[Name],
 ) -> Result<Option<Name>, Memory>
     requires { SoundApp app.now }
-    ensures { IfOk result (λ o. o ≡ first_given (own_name fields.now.entries name.now kind.now) (filter_map (class_named app.now) interfaces.now)) }
+    ensures { IfOk result (λ o. o ≡ first_given (own_name fields.now.entries at.now.1 at.now.2) (filter_map (class_named app.now) interfaces.now)) }
 {
     for interface in interfaces {
         if let Some(class) = class_of(app, interface.as_bytes()) {
-            if let Some(found) = own_class(alloc, fields, name, kind, class)? {
+            if let Some(found) = own_class(fields, at, class)? {
                 return Ok(Some(found));
             }
         }
@@ -218,18 +170,18 @@ fn class_of_interfaces(
     ensures { IfOk result (λ n. n ≡ unwrap_or (first_given (own_name fields.now.entries at.now.1 at.now.2) (filter_map (class_named app.now) (met app.now at.now.0))) at.now.0) }
 {
     let interfaces = interfaces_met(alloc, app, at.0.as_bytes())?;
-    match class_among(alloc, app, fields, &at.1, &at.2, &interfaces)? {
+    match class_among(app, fields, at, &interfaces)? {
         Some(found) => Ok(found),
-        None => at.0.copy(alloc),
+        None => at.0.copy(),
     }
 }
 
-#[tactic(auto, unfolding(crate::specs::Statics::class_of_static, crate::specs::Statics::classes_asked), using(crate::proofs::Asked::given_first, crate::proofs::Asked::given_behind))]
+#[tactic(auto, unfolding(crate::specs::Statics::class_of_static, crate::specs::Statics::classes_asked), using(vet_base::proofs::Firsts::given_first, vet_base::proofs::Firsts::given_behind))]
 fn class_at(alloc: Global, app: &App, fields: &Fields, at: &Triple) -> Result<Name, Memory>
     requires { SoundApp app.now }
     ensures { IfOk result (λ n. n ≡ class_of_static app.now fields.now.entries at.now) }
 {
-    match class_upward(alloc, app, fields, at.0.as_bytes(), &at.1, &at.2)? {
+    match class_upward(app, fields, at)? {
         Some(class) => Ok(class),
         None => class_of_interfaces(alloc, app, fields, at),
     }
@@ -274,18 +226,11 @@ fn place_among(statics: &[Triple], at: &Triple) -> u32
 
 /// The number of the static that the field of that index stands for.
 #[tactic(auto, unfolding(crate::specs::Statics::number_of))]
-pub fn number_at(
-    alloc: Global,
-    app: &App,
-    fields: &Fields,
-    statics: &[Triple],
-    dex: &Dex,
-    i: u32,
-) -> Result<u32, Memory>
-    requires app { SoundApp app.now }
-    requires statics { StaticsInOrder statics.now }
-    ensures { IfOk result (λ n. n ≡ number_of app.now fields.now.entries statics.now dex.now i) }
+pub fn number_at(alloc: Global, scope: &Scope<'_>, i: u32) -> Result<u32, Memory>
+    requires app { SoundApp scope.now.app.now }
+    requires statics { StaticsInOrder scope.now.statics.now }
+    ensures { IfOk result (λ n. n ≡ number_of scope.now.app.now scope.now.fields.now.entries scope.now.statics.now scope.now.dex.now i) }
 {
-    let at = static_at(alloc, app, fields, dex, i)?;
-    Ok(place_among(statics, &at))
+    let at = static_at(alloc, scope.app, scope.fields, scope.dex, i)?;
+    Ok(place_among(scope.statics, &at))
 }

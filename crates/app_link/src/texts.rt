@@ -1,45 +1,45 @@
-//! What the indices of a DEX file name.
+//! What the indices of a DEX file name. Names share the bytes of the file's own table.
 
-ghost use Rattle.std.specs.Prelude.{◌≡◌, IfOk};
+ghost use Rattle.std.specs.Prelude.{◌≡◌, ◌++◌, IfOk, OnOk};
 ghost use Rattle.app_link.specs.Texts.{field_of, field_row, method_of, method_row, proto_of, text_of, type_of, types_of};
 
 use app_model::{MethodRef, Proto};
 use dex_reader::{Dex, FieldId, MethodRow};
 use std::alloc::Global;
-use vet_base::{Memory, Name, Seq};
+use vet_base::{Memory, Name, Seq, Shared};
 
 /// The string of that index, and an empty one where there is none.
 #[tactic(auto, unfolding(crate::specs::Texts::text_of))]
-pub fn text_at(dex: &Dex, i: u32) -> &[u8]
-    ensures { result.now ≡ text_of dex.now i }
+pub fn text_at(alloc: Global, dex: &Dex, i: u32) -> Result<Name, Memory>
+    ensures { IfOk result (λ n. n ≡ text_of dex.now i) }
 {
     match dex.strings.get(i as usize) {
-        Some(text) => text.as_bytes(),
-        None => &[],
+        Some(text) => text.copy(),
+        None => Name::new(alloc, Vec::new(alloc)),
     }
 }
 
 /// The descriptor of the type of that index, and an empty one where there is none.
 #[tactic(auto, unfolding(crate::specs::Texts::type_of))]
-pub fn type_at(dex: &Dex, i: u32) -> &[u8]
-    ensures { result.now ≡ type_of dex.now i }
+pub fn type_at(alloc: Global, dex: &Dex, i: u32) -> Result<Name, Memory>
+    ensures { IfOk result (λ n. n ≡ type_of dex.now i) }
 {
     match dex.types.get(i as usize) {
-        Some(text) => text_at(dex, *text),
-        None => &[],
+        Some(text) => text_at(alloc, dex, *text),
+        None => Name::new(alloc, Vec::new(alloc)),
     }
 }
 
 /// The descriptors of types.
 #[tactic(auto, unfolding(crate::specs::Texts::types_of))]
-pub fn types_at(alloc: Global, dex: &Dex, types: &[u32]) -> Result<Seq<Name>, Memory>
+pub fn types_at(alloc: Global, dex: &Dex, types: &[u32]) -> Result<Shared<Name>, Memory>
     ensures { IfOk result (λ names. names ≡ types_of dex.now types.now) }
 {
     let mut names = Vec::new(alloc);
     for i in types {
-        names.push(Name::from_bytes(alloc, type_at(dex, *i))?)?;
+        names.push(type_at(alloc, dex, *i)?)?;
     }
-    Ok(Seq::from_vec(names))
+    Shared::from_vec(alloc, names)
 }
 
 #[tactic(auto, unfolding(crate::specs::Texts::proto_of))]
@@ -49,12 +49,12 @@ pub fn proto_at(alloc: Global, dex: &Dex, i: u32) -> Result<Proto, Memory>
     match dex.protos.get(i as usize) {
         Some(row) => {
             let params = types_at(alloc, dex, row.params.as_slice())?;
-            let ret = Name::from_bytes(alloc, type_at(dex, row.ret))?;
+            let ret = type_at(alloc, dex, row.ret)?;
             Ok(Proto { params, ret })
         }
         None => Ok(Proto {
-            params: Seq::new(alloc),
-            ret: Name::new(Vec::new(alloc)),
+            params: Shared::new(),
+            ret: Name::new(alloc, Vec::new(alloc))?,
         }),
     }
 }
@@ -78,9 +78,9 @@ pub fn field_at(alloc: Global, dex: &Dex, i: u32) -> Result<(Name, Name, Name), 
     ensures { IfOk result (λ f. f ≡ field_of dex.now i) }
 {
     let row = field_row_at(dex, i);
-    let class = Name::from_bytes(alloc, type_at(dex, row.class))?;
-    let name = Name::from_bytes(alloc, text_at(dex, row.name))?;
-    let kind = Name::from_bytes(alloc, type_at(dex, row.kind))?;
+    let class = type_at(alloc, dex, row.class)?;
+    let name = text_at(alloc, dex, row.name)?;
+    let kind = type_at(alloc, dex, row.kind)?;
     Ok((class, name, kind))
 }
 
@@ -103,8 +103,36 @@ pub fn method_at(alloc: Global, dex: &Dex, i: u32) -> Result<MethodRef, Memory>
     ensures { IfOk result (λ m. m ≡ method_of dex.now i) }
 {
     let row = method_row_at(dex, i);
-    let class = Name::from_bytes(alloc, type_at(dex, row.class))?;
-    let name = Name::from_bytes(alloc, text_at(dex, row.name))?;
+    let class = type_at(alloc, dex, row.class)?;
+    let name = text_at(alloc, dex, row.name)?;
     let proto = proto_at(alloc, dex, row.proto)?;
     Ok(MethodRef { class, name, proto })
+}
+
+/// The same prototype over the same storage.
+pub fn proto_copied(proto: &Proto) -> Result<Proto, Memory>
+    ensures { IfOk result (λ p. p ≡ proto.now) }
+{
+    Ok(Proto {
+        params: proto.params.copy()?,
+        ret: proto.ret.copy()?,
+    })
+}
+
+/// Puts copies of the names behind the others.
+pub fn add_copies(names: &mut Vec<Name>, more: &[Name]) -> Result<(), Memory>
+    ensures { OnOk result (names.new.items ≡ names.old.items ++ more.now) }
+{
+    for name in more {
+        names.push(name.copy()?)?;
+    }
+    Ok(())
+}
+
+pub fn names_copied(alloc: Global, names: &[Name]) -> Result<Seq<Name>, Memory>
+    ensures { IfOk result (λ ns. ns ≡ names.now) }
+{
+    let mut copies = Vec::new(alloc);
+    add_copies(&mut copies, names)?;
+    Ok(Seq::from_vec(copies))
 }

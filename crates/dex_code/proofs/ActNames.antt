@@ -1,28 +1,15 @@
 -- The key, the static and the registers of a call that an act names are those of the name.
-use Rattle.std.proofs.Common.{◌≡◌, ℕ, ◌<◌, Bool, List, length}
+use Rattle.std.proofs.Common.{ℕ, ◌<◌, Bool, List}
 use Rattle.vet_base.specs.declared.key_id.KeyId.{KeyId}
 use Rattle.dalvik_formats.specs.declared.kind.Kind.{Kind}
 use Rattle.dalvik_formats.specs.declared.kind.Kind.TheVariants as kinds
-use Rattle.app_machine.specs.Lookups.{is_static_call}
-use Rattle.app_machine.specs.Sound.{AllBelow, keys_of, statics_of, TakesItsRegisters, taken}
+use Rattle.app_machine.specs.Sound.{AllBelow, keys_of, statics_of, TakesItsRegisters}
 use Rattle.dex_code.specs.declared.insn.Insn.{Insn}
 use Rattle.dex_code.specs.declared.names.Named.{Named}
 use Rattle.dex_code.specs.declared.names.Named.TheVariants as named
-use Rattle.dex_code.specs.Acts.{arguments_of, operands_of, wide_with, plain_act, class_act, field_act, static_act, call_kind_of, act_of}
+use Rattle.dex_code.specs.Acts.{arguments_of, operands_of, wide_with, plain_act, class_act, field_act, static_act, act_of}
+use Rattle.dex_code.specs.CodeLaws.{NamesKey, NamesStatic, NamesCall}
 use Rattle.dex_code.specs.Insns.{opcode_of, kind_of}
-
--- a key, a static or a call's registers that were named are such
-abbrev pub NamesKey : Named → ℕ → Type 0
-NamesKey (named.Key key) n = key.0 < n
-NamesKey name n = Unit {0}
-
-abbrev pub NamesStatic : Named → ℕ → Type 0
-NamesStatic (named.Static g) n = g < n
-NamesStatic name n = Unit {0}
-
-abbrev pub NamesCall : Insn → Named → Type 0
-NamesCall insn (named.Method at) = length (arguments_of insn) ≡ taken (is_static_call (call_kind_of (kind_of insn))) at.proto
-NamesCall insn name = Unit {0}
 
 module _ (wide : Bool) (r : ℕ × ℕ × ℕ) (n : ℕ) where
   plain_key : (kind : Kind) → 0 < n → AllBelow n (keys_of (plain_act kind wide r))

@@ -72,6 +72,13 @@ pub parted_begins : (first last : ℕ) (shared : List ℕ) (left : List RawTry) 
 unfolding catches_beside covering
 parted_begins first last shared left none none' = record { same = λ pc le le'. rw (none, none') refl }
 
+pub either_order : (more shared : List ℕ) → in_order (more ++ shared) ≡ in_order (shared ++ more)
+either_order more shared = in_order-swap more shared
+
+-- where there is nothing more
+pub none_more : (more shared : List ℕ) → more ≡ [] → in_order shared ≡ shared → in_order (more ++ shared) ≡ shared
+none_more more shared none order = ap (λ xs. in_order (xs ++ shared)) none ∙ order
+
 -- without tries each line has what all share
 pub shared_alone : (shared : List ℕ) (pc : ℕ) → in_order shared ≡ shared → catches_beside shared [] pc ≡ shared
 unfolding catches_beside covering

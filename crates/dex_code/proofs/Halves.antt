@@ -1,6 +1,6 @@
 -- Lines that ascend, halved: both halves ascend, and what one half and then the other add is what all lines add.
 use Rattle.std.proofs.Common.{◌≡◌, ℕ, zero, suc, ◌-◌, ◌<◌, ◌≤◌, List, [], ◌∷◌, ◌++◌, append_assoc, length, map, take, drop, get_or, refl, sym, ap, ◌∙◌, arith}
-use Rattle.std.proofs.lemmas.List.{map-append, take-append-drop}
+use Rattle.std.proofs.lemmas.List.{get_or_default, map-append, take-append-drop}
 use Rattle.std.specs.Borrow.{Bor}
 use Rattle.dex_reader.specs.declared.dex.RawTry.{RawTry}
 use Rattle.dex_code.specs.Lines.{Line}
@@ -8,7 +8,7 @@ use Rattle.dex_code.specs.Find.{AllBehind, Ascend}
 use Rattle.dex_code.specs.Next.{catches_of, in_order}
 use Rattle.dex_code.specs.Handlers.{AddsCatches, catches_beside, IsParted}
 use Rattle.dex_code.proofs.Covering.{more_shared, shared_alone}
-use Rattle.dex_code.proofs.Halving.{no_line, pc_at, rise, any_default}
+use Rattle.dex_code.proofs.Halving.{no_line, pc_at, rise}
 
 behind_take : (k pc : ℕ) (lines : List Line) → AllBehind pc lines → AllBehind pc (take k lines)
 unfolding AllBehind
@@ -39,12 +39,12 @@ shared_by_all shared refs lines order none = rw none (same_map (λ line. shared)
 module _ (lines : List Line) (up : Ascend lines) (d e : Line) where
   not_before : (i : ℕ) → i < length lines → (get_or lines 0 d).0 ≤ pc_at lines i
   not_before i lt =
-      let begins : (get_or lines 0 d).0 ≡ pc_at lines 0 = ap (λ (line : Line). line.0) (any_default lines 0 d no_line (omega arith)) in
+      let begins : (get_or lines 0 d).0 ≡ pc_at lines 0 = ap (λ (line : Line). line.0) (get_or_default lines 0 d no_line (omega arith)) in
       grind (arith, rise lines 0 i up, λ (same : 0 ≡ i). ap (pc_at lines) same)
 
   not_behind : (i : ℕ) → i < length lines → pc_at lines i ≤ (get_or lines (length lines - 1) e).0
   not_behind i lt =
-      let ends : (get_or lines (length lines - 1) e).0 ≡ pc_at lines (length lines - 1) = ap (λ (line : Line). line.0) (any_default lines (length lines - 1) e no_line (omega arith)) in
+      let ends : (get_or lines (length lines - 1) e).0 ≡ pc_at lines (length lines - 1) = ap (λ (line : Line). line.0) (get_or_default lines (length lines - 1) e no_line (omega arith)) in
       grind (arith, rise lines i (length lines - 1) up, λ (same : i ≡ length lines - 1). ap (pc_at lines) same)
 
   module _ (shared : List ℕ) (ts : List RawTry) (more : List ℕ) (left : List RawTry) (parted : IsParted (get_or lines 0 d).0 (get_or lines (length lines - 1) e).0 ts more left) (all : List ℕ) (all_is : all ≡ in_order (more ++ shared)) where

@@ -4,6 +4,7 @@ use Rattle.std.specs.List.Sorted.{IsSearchInRange, IsBinarySearchResult, IsNonDe
 use Rattle.std.specs.Ordering.{nat_cmp, ordering_index}
 use Rattle.std.proofs.lemmas.Cmp.{ranked}
 use Rattle.std.proofs.lemmas.List.Sorted.{IsNonDecreasingBy-from_default}
+use Rattle.std.proofs.lemmas.List.{get_or_default}
 use Rattle.std.proofs.lemmas.Bool.Decides.{nat_tests}
 use Rattle.dex_code.specs.declared.insn.Insn.TheVariants.{F10x}
 use Rattle.dex_code.specs.Lines.{Line}
@@ -48,11 +49,6 @@ present (line ∷ lines) pc (suc at) within same none =
     let rest : found lines pc ≡ Some (get_or lines at no_line).1 = present lines pc at (omega arith) same (λ k lt. none (suc k) (omega arith)) in
     grind (arith, nat_tests)
 
-pub any_default : (lines : List Line) (at : ℕ) (d e : Line) → at < length lines → get_or lines at d ≡ get_or lines at e
-any_default [] at d e within = absurd (omega arith)
-any_default (line ∷ lines) zero d e within = refl
-any_default (line ∷ lines) (suc at) d e within = any_default lines at d e (omega arith)
-
 module _ (lines : List Line) (up : Ascend lines) (pc : ℕ) where
   comparisons_rise : IsNonDecreasingBy (λ line. ordering_index (nat_cmp line.0 pc)) lines
   comparisons_rise = IsNonDecreasingBy-from_default (λ line. ordering_index (nat_cmp line.0 pc)) lines no_line (λ i j le within.
@@ -63,7 +59,7 @@ module _ (lines : List Line) (up : Ascend lines) (pc : ℕ) where
   found_at at within equal =
       let same : pc_at lines at ≡ pc = ranked _ pc _ (sym (equal no_line)) in
       let there = present lines pc at within same (λ k lt e. omega (arith, rise lines k at up lt within, same, e)) in
-      record { within = within; is = λ d. there ∙ ap (λ (l : Line). Some l.1) (any_default lines at no_line d within) }
+      record { within = within; is = λ d. there ∙ ap (λ (l : Line). Some l.1) (get_or_default lines at no_line d within) }
 
   not_found : (at : ℕ) → IsBinarySearchResult (λ line. nat_cmp line.0 pc) lines (Err at) → found lines pc ≡ None
   not_found at parted =

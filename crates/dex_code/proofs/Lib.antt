@@ -3,11 +3,10 @@ pub mod Covering
 pub mod Flows
 pub mod Halves
 pub mod Halving
-pub mod Holds
 pub mod Operands
 pub mod Ordered
 pub mod Payloads
-pub mod Runs
+pub mod SoundLines
 pub mod Standing
 pub mod Starts
 pub mod Whole

@@ -1,5 +1,5 @@
 -- The registers that an act names are the instruction's: what it does stands with a format that has its operands.
-use Rattle.std.proofs.Common.{◌≡◌, ℕ, zero, suc, ◌+◌, ◌<◌, ◌≤◌, ◌%◌, Bool, true, false, cond, ◌&&◌, ◌||◌, List, [], ◌∷◌, ◌++◌, nat_lt, nat_le, ◌==◌, slice_index, slice_index_or, IsTrue, refl, subst, arith, inl, inr}
+use Rattle.std.proofs.Common.{◌≡◌, ℕ, zero, suc, ◌+◌, ◌<◌, ◌≤◌, ◌%◌, Bool, true, false, cond, ◌&&◌, ◌||◌, List, [], ◌∷◌, ◌++◌, nat_lt, nat_le, ◌==◌, slice_index, slice_index_or, IsTrue, refl, subst, arith, inl, inr, sym, ◌∙◌}
 use Rattle.std.specs.List.{list_all}
 use Rattle.std.proofs.lemmas.Bool.Decides.{nat_tests}
 use Rattle.vet_base.specs.declared.key_id.KeyId.{KeyId}
@@ -13,7 +13,6 @@ use Rattle.dalvik_formats.specs.declared.pairs.Pairs.TheVariants as pairs
 use Rattle.dalvik_formats.specs.Layouts.{row_of, layout_of, pairing_of, group_of}
 use Rattle.vet_base.specs.Members.{In}
 use Rattle.app_machine.specs.Sound.{registers_of}
-use Rattle.app_model.proofs.Elements.{in_either}
 use Rattle.dex_code.specs.declared.insn.Insn.{Insn}
 use Rattle.dex_code.specs.declared.insn.Insn.TheVariants.{F12x, F11n, F11x, F22x, F21t, F21s, F21h, F21c, F23x, F22b, F22t, F22s, F22c, F32x, F31t, F31i, F31c, F35c, F3rc, F51l}
 use Rattle.dex_code.specs.declared.names.Named.{Named}
@@ -23,8 +22,10 @@ use Rattle.dex_code.specs.declared.shape.Shape.TheVariants as shapes
 use Rattle.dex_code.specs.Acts.{operands_of, range_of, arguments_of, begins_wide, wide_with, written, plain_act, class_act, field_act, static_act, act_of}
 use Rattle.dex_code.specs.Insns.{said_with, said_by, shape_of, shape_at, insn_at, opcode_of, kind_of}
 use Rattle.dex_code.specs.Registers.{first_more, second_more, third_more, one_fits, two_fit, three_fit, all_below, registers_fit}
-use Rattle.dex_code.proofs.Holds.{and_both, every, holds_at}
-use Rattle.dex_code.proofs.Standing.{le_from, lt_from}
+use Rattle.vet_base.proofs.Members.{in_either, list_all_in}
+use Rattle.std.proofs.lemmas.Bool.{and_parts, leb-true, ltb-true}
+use Rattle.vet_base.proofs.Lists.{list_all-get_or}
+use Rattle.vet_base.proofs.Bools.{or_skip}
 
 -- how many operands an act of the kind names
 abbrev needed : Kind → ℕ
@@ -104,8 +105,8 @@ told_at : (op : ℕ) (format : Format) → layout_of op ≡ format → needed (g
 unfolding layout_of group_of row_of
 told_at op format is =
     let row : Format × Pairs × Kind = slice_index_or OPCODES op (formats.Unused, pairs.NoPair, kinds.NoInstruction) in
-    let h : IsTrue (row_tells row) = holds_at row_tells OPCODES op (formats.Unused, pairs.NoPair, kinds.NoInstruction) table_tells refl in
-    subst (λ (f : Format). needed row.2 ≤ told_by f) is (le_from (needed row.2) (told_by row.0) h)
+    let h : IsTrue (row_tells row) = list_all-get_or row_tells OPCODES op (formats.Unused, pairs.NoPair, kinds.NoInstruction) table_tells refl in
+    subst (λ (f : Format). needed row.2 ≤ told_by f) is (leb-true (needed row.2) (told_by row.0) h)
 
 format_tells : (u v : ℕ) (format : Format) (units : List ℕ) (pc : ℕ) → layout_of (u % 256) ≡ format → needed (kind_of (said_with u v format units pc)) ≤ told (said_with u v format units pc)
 format_tells u v formats.Unused units pc e = told_at (u % 256) formats.Unused e
@@ -172,23 +173,23 @@ module _ (limit op : ℕ) where
 
   fits_one : (a : ℕ) → IsTrue (one_fits limit op a) → Fits limit 1 wide (a, 0, 0)
   unfolding one_fits
-  fits_one a h = fits_first 1 a 0 0 (lt_from (a + first_more (pairing_of op)) limit h) (λ k. absurd (omega arith)) (λ k. absurd (omega arith))
+  fits_one a h = fits_first 1 a 0 0 (ltb-true (a + first_more (pairing_of op)) limit h) (λ k. absurd (omega arith)) (λ k. absurd (omega arith))
 
   fits_two : (a b : ℕ) → IsTrue (two_fit limit op a b) → Fits limit 2 wide (a, b, 0)
   unfolding two_fit
   fits_two a b h =
-      let both = and_both (nat_lt (a + first_more (pairing_of op)) limit) (nat_lt (b + second_more (pairing_of op)) limit) h in
-      let second : b < limit = with_more b (second_more (pairing_of op)) limit (lt_from (b + second_more (pairing_of op)) limit both.1) in
-      fits_first 2 a b 0 (lt_from (a + first_more (pairing_of op)) limit both.0) (λ k. second) (λ k. absurd (omega arith))
+      let both = and_parts (nat_lt (a + first_more (pairing_of op)) limit) (nat_lt (b + second_more (pairing_of op)) limit) h in
+      let second : b < limit = with_more b (second_more (pairing_of op)) limit (ltb-true (b + second_more (pairing_of op)) limit both.1) in
+      fits_first 2 a b 0 (ltb-true (a + first_more (pairing_of op)) limit both.0) (λ k. second) (λ k. absurd (omega arith))
 
   fits_three : (a b c : ℕ) → IsTrue (three_fit limit op a b c) → Fits limit 3 wide (a, b, c)
   unfolding three_fit
   fits_three a b c h =
-      let all = and_both (nat_lt (a + first_more (pairing_of op)) limit && nat_lt (b + second_more (pairing_of op)) limit) (nat_lt (c + third_more (pairing_of op)) limit) h in
-      let both = and_both (nat_lt (a + first_more (pairing_of op)) limit) (nat_lt (b + second_more (pairing_of op)) limit) all.0 in
-      let second : b < limit = with_more b (second_more (pairing_of op)) limit (lt_from (b + second_more (pairing_of op)) limit both.1) in
-      let third : c < limit = with_more c (third_more (pairing_of op)) limit (lt_from (c + third_more (pairing_of op)) limit all.1) in
-      fits_first 3 a b c (lt_from (a + first_more (pairing_of op)) limit both.0) (λ k. second) (λ k. third)
+      let all = and_parts (nat_lt (a + first_more (pairing_of op)) limit && nat_lt (b + second_more (pairing_of op)) limit) (nat_lt (c + third_more (pairing_of op)) limit) h in
+      let both = and_parts (nat_lt (a + first_more (pairing_of op)) limit) (nat_lt (b + second_more (pairing_of op)) limit) all.0 in
+      let second : b < limit = with_more b (second_more (pairing_of op)) limit (ltb-true (b + second_more (pairing_of op)) limit both.1) in
+      let third : c < limit = with_more c (third_more (pairing_of op)) limit (ltb-true (c + third_more (pairing_of op)) limit all.1) in
+      fits_first 3 a b c (ltb-true (a + first_more (pairing_of op)) limit both.0) (λ k. second) (λ k. third)
 
 operands_fit : (limit : ℕ) (insn : Insn) → IsTrue (registers_fit limit insn) → Fits limit (told insn) (wide_with (opcode_of insn)) (operands_of insn)
 operands_fit limit (F12x op a b) h = fits_two limit op a b h
@@ -217,10 +218,6 @@ range_below first zero x limit h k = absurd k
 range_below first (suc n) x limit h (inl e) = omega (arith, e, h)
 range_below first (suc n) x limit h (inr k) = let more : first + 1 + n ≤ limit = omega (arith, h) in range_below (first + 1) n x limit more k
 
-or_second : (a b : Bool) → a ≡ false → IsTrue (a || b) → IsTrue b
-or_second true b e h = absurd cc
-or_second false b e h = h
-
 some_arguments : (n : ℕ) → (suc n == 0) ≡ false
 some_arguments n = grind (arith, nat_tests)
 
@@ -228,11 +225,11 @@ range_fits : (first n x limit : ℕ) → IsTrue ((n == 0) || nat_le (first + n) 
 unfolding range_of
 range_fits first zero x limit h k = absurd k
 range_fits first (suc n) x limit h k =
-    range_below first (suc n) x limit (le_from (first + suc n) limit (or_second (suc n == 0) (nat_le (first + suc n) limit) (some_arguments n) h)) k
+    range_below first (suc n) x limit (leb-true (first + suc n) limit ((sym (or_skip (suc n == 0) (nat_le (first + suc n) limit) (some_arguments n)) ∙ h))) k
 
 arguments_fit : (limit : ℕ) (insn : Insn) (x : ℕ) → IsTrue (registers_fit limit insn) → In x (arguments_of insn) → x < limit
 unfolding all_below
-arguments_fit limit (F35c op i registers) x h k = lt_from x limit (every (λ (r : ℕ). nat_lt r limit) registers h x k)
+arguments_fit limit (F35c op i registers) x h k = ltb-true x limit (list_all_in (λ (r : ℕ). nat_lt r limit) registers x h k)
 arguments_fit limit (F3rc op i first count) x h k = range_fits first count x limit h k
 arguments_fit limit insn x h k = absurd k
 

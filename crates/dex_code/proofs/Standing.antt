@@ -1,6 +1,6 @@
 -- One sweep over the units gives the lines that stand end to end, and gives them wherever they stand so.
 use Rattle.std.proofs.Common.{◌≡◌, ℕ, zero, suc, ◌+◌, ◌<◌, ◌≤◌, Bool, true, false, Result, Ok, List, [], ◌∷◌, length, refl, sym, ap, subst, ◌∙◌, arith}
-use Rattle.std.specs.Prelude.{IsTrue, nat_lt, nat_le}
+use Rattle.std.specs.Prelude.{nat_lt}
 use Rattle.std.proofs.lemmas.Bool.Decides.{nat_tests}
 use Rattle.dalvik_formats.specs.declared.format.Format.{Format}
 use Rattle.dalvik_formats.specs.declared.format.Format.TheVariants as formats
@@ -15,22 +15,9 @@ use Rattle.dex_code.specs.declared.fault.CodeFault.{CodeFault}
 use Rattle.dex_code.specs.Insns.{shape_at, width_of, width_at, insn_at}
 use Rattle.dex_code.specs.Lines.{Line, line_at, lines_at, IsLine, StandFrom}
 use Rattle.dex_code.specs.Find.{AllBehind, Ascend}
-use Rattle.dex_code.proofs.Runs.{passed, passes, first_gave, ok_parts}
-
-pub le_from : (a b : ℕ) → IsTrue (nat_le a b) → a ≤ b
-le_from a b h = grind (arith, nat_tests)
-
-le_to : (a b : ℕ) → a ≤ b → IsTrue (nat_le a b)
-le_to a b h = grind (arith, nat_tests)
-
-pub lt_from : (a b : ℕ) → nat_lt a b ≡ true → a < b
-lt_from a b h = grind (arith, nat_tests)
-
-lt_to : (a b : ℕ) → a < b → nat_lt a b ≡ true
-lt_to a b h = grind (arith, nat_tests)
-
-lt_not : (a b : ℕ) → b ≤ a → nat_lt a b ≡ false
-lt_not a b h = grind (arith, nat_tests)
+use Rattle.vet_base.proofs.Runs.{test_ok, test_passes, bind_ok}
+use Rattle.vet_base.proofs.Results.{ok_parts}
+use Rattle.std.proofs.lemmas.Bool.{leb-true, le-leb, lt-ltb, le-ltb}
 
 some_units : (format : Format) → 1 ≤ units_of format
 some_units formats.Unused = omega arith
@@ -83,20 +70,20 @@ module _ (code : RawCode) (counts : Counts) where
   line_stands : (pc next : ℕ) (line : Line) → run (line_at code counts pc) ≡ Ok (line, next) → (line.0 ≡ pc) × IsLine code counts line × (next ≡ pc + width_at code.units pc)
   unfolding line_at
   line_stands pc next line e =
-      let a = passed _ _ _ _ e in
-      let b = passed _ _ _ _ a.1 in
-      let c = passed _ _ _ _ b.1 in
-      let d = passed _ _ _ _ c.1 in
+      let a = test_ok _ _ _ _ e in
+      let b = test_ok _ _ _ _ a.1 in
+      let c = test_ok _ _ _ _ b.1 in
+      let d = test_ok _ _ _ _ c.1 in
       let parts = ok_parts (pc, insn_at code.units pc) line (pc + width_at code.units pc) next _ refl d.1 in
       let there : (pc, insn_at code.units pc) ≡ line = parts.0 in
-      let is_line : IsLine code counts (pc, insn_at code.units pc) = record { used = a.0; whole = le_from _ _ b.0; registers = c.0; index = d.0; says = refl } in
+      let is_line : IsLine code counts (pc, insn_at code.units pc) = record { used = a.0; whole = leb-true _ _ b.0; registers = c.0; index = d.0; says = refl } in
       (ap (λ (l : Line). l.0) (sym there), subst (IsLine code counts) there is_line, sym parts.1)
 
   line_runs : (line : Line) → IsLine code counts line → run (line_at code counts line.0) ≡ Ok (line, line.0 + width_at code.units line.0)
   unfolding line_at
   line_runs line is =
       let same : (line.0, insn_at code.units line.0) ≡ line = ap (λ i. (line.0, i)) (sym is.says) in
-      passes _ _ _ is.used ∙ passes _ _ _ (le_to _ _ is.whole) ∙ passes _ _ _ is.registers ∙ passes _ _ _ is.index ∙ ap (λ (l : Line). Ok (l, line.0 + width_at code.units line.0)) same
+      test_passes _ _ _ is.used ∙ test_passes _ _ _ (le-leb _ _ is.whole) ∙ test_passes _ _ _ is.registers ∙ test_passes _ _ _ is.index ∙ ap (λ (l : Line). Ok (l, line.0 + width_at code.units line.0)) same
 
   abbrev Later : ℕ → Type 0
   Later n = (at : ℕ) (lines : List Line) (end : ℕ) → run (from n at) ≡ Ok (lines, end) → at ≤ size → size ≤ at + n → StandFrom code counts at lines
@@ -111,8 +98,8 @@ module _ (code : RawCode) (counts : Counts) where
   stand_with : (n at : ℕ) (lines : List Line) (end : ℕ) → Later n → size ≤ at + suc n
       → run (more_lines n at) ≡ Ok (lines, end) → StandFrom code counts at lines
   stand_with n at lines end later more e =
-      let first = first_gave (line_at code counts at) _ _ e in
-      let others = first_gave (from n first.0.1) _ _ first.2 in
+      let first = bind_ok (line_at code counts at) _ _ e in
+      let others = bind_ok (from n first.0.1) _ _ first.2 in
       let is = line_stands at first.0.1 first.0.0 first.1 in
       let whole : first.0.1 ≤ size = omega (arith, is.0, is.1.whole, is.2, ap (width_at code.units) is.0) in
       let further : at + 1 ≤ first.0.1 = omega (arith, is.2, some_at code.units at) in
@@ -142,13 +129,13 @@ module _ (code : RawCode) (counts : Counts) where
   unfolding sweep
   run_step n at line lines same is others =
       let one : run (line_at code counts at) ≡ Ok (line, at + width_at code.units at) = subst (λ pc. run (line_at code counts pc) ≡ Ok (line, pc + width_at code.units pc)) same (line_runs line is) in
-      let lt : nat_lt at size ≡ true = lt_to at size (omega (arith, is.whole, same, some_at code.units line.0)) in
+      let lt : nat_lt at size ≡ true = lt-ltb at size (omega (arith, is.whole, same, some_at code.units line.0)) in
       rw (lt, run_bind, one, run_bind, others) refl
 
   pub run_from : (n at : ℕ) (lines : List Line) → StandFrom code counts at lines → size ≤ at + n → run (from n at) ≡ Ok (lines, size)
   unfolding sweep
   run_from zero at [] stand more = ap (λ end. Ok ([], end)) stand
-  run_from (suc n) at [] stand more = rw (lt_not at size (omega (arith, stand))) (ap (λ end. Ok ([], end)) stand)
+  run_from (suc n) at [] stand more = rw (le-ltb at size (omega (arith, stand))) (ap (λ end. Ok ([], end)) stand)
   run_from zero at (line ∷ lines) stand more = absurd (omega (arith, stand.0, stand.1.whole, some_at code.units line.0))
   run_from (suc n) at (line ∷ lines) stand more = run_step n at line lines stand.0 stand.1 (run_from n (at + width_at code.units at) lines stand.2 (omega (arith, some_at code.units at)))
 

@@ -1,43 +1,20 @@
 -- Where control goes in code that was tested, instructions start.
-use Rattle.std.proofs.Common.{◌≡◌, ℕ, ◌+◌, ℤ, Bool, true, false, cond, not, ◌&&◌, List, [], ◌∷◌, ◌++◌, map, Option, Some, None, option_to_list, nat_lt, nat_le, ◌==◌, IsTrue, refl, sym, subst, arith, ◌⊎◌, inl, inr}
-use Rattle.std.proofs.lemmas.Bool.Decides.{nat_tests}
+use Rattle.std.proofs.Common.{◌≡◌, ℕ, ◌+◌, ℤ, Bool, true, false, cond, not, ◌&&◌, List, [], ◌∷◌, ◌++◌, map, Option, Some, None, option_to_list, nat_le, ◌==◌, IsTrue, refl, sym, subst, inl, inr}
 use Rattle.dalvik_formats.specs.Layouts.{group_of, may_go_on}
 use Rattle.dex_reader.specs.declared.dex.RawTry.{RawTry}
 use Rattle.vet_base.specs.Members.{In}
-use Rattle.app_model.proofs.Elements.{in_either}
 use Rattle.dex_code.specs.declared.insn.Insn.{Insn}
 use Rattle.dex_code.specs.declared.insn.Insn.TheVariants.{F10t, F20t, F21t, F22t, F30t, F31t}
+use Rattle.dex_code.specs.CodeLaws.{start_if, starts_of}
 use Rattle.dex_code.specs.Units.{target_of}
 use Rattle.dex_code.specs.Insns.{is_payload, kind_of}
 use Rattle.dex_code.specs.Lines.{Line}
 use Rattle.dex_code.specs.Flow.{found, is_start, starts, all_start, distances_in, targets_stand}
 use Rattle.dex_code.specs.Tries.{handlers_start, catch_all_starts, try_stands, AllTriesStand}
-use Rattle.dex_code.specs.Next.{insert_once, in_order, targets_from, targets_of, first_start, following, next_of, covers, addresses, covering, catches_of}
-use Rattle.dex_code.proofs.Holds.{and_both, every, from_map}
-
-in_insert : (x k : ℕ) (xs : List ℕ) → In x (insert_once k xs) → (x ≡ k) ⊎ In x xs
-in_insert x k [] h = h
-in_insert x k (y ∷ ys) h = by_tests (nat_lt k y) (k == y) (in_insert x k ys) h
-  where
-    by_tests : (a b : Bool) → (In x (insert_once k ys) → (x ≡ k) ⊎ In x ys) → In x (cond a (k ∷ y ∷ ys) (cond b (y ∷ ys) (y ∷ insert_once k ys))) → (x ≡ k) ⊎ In x (y ∷ ys)
-    by_tests true b later h = h
-    by_tests false true later h = inr h
-    by_tests false false later (inl e) = inr (inl e)
-    by_tests false false later (inr j) = elim (later j) [ inl e ↦ inl e | inr i ↦ inr (inr i) ]
-
-in_ordered : (x : ℕ) (ns : List ℕ) → In x (in_order ns) → In x ns
-unfolding in_order
-in_ordered x [] h = h
-in_ordered x (n ∷ ns) h = elim (in_insert x n (in_order ns) h) [ inl e ↦ inl e | inr k ↦ inr (in_ordered x ns k) ]
-
-abbrev pub start_if : Bool → ℕ → List ℕ
-start_if true pc = []
-start_if false pc = pc ∷ []
-
--- the pcs of the instructions
-abbrev pub starts_of : List Line → List ℕ
-starts_of [] = []
-starts_of (line ∷ lines) = start_if (is_payload line.1) line.0 ++ starts_of lines
+use Rattle.dex_code.specs.Next.{targets_from, targets_of, first_start, following, next_of, covers, addresses, covering, catches_of}
+use Rattle.dex_code.proofs.Ordered.{from_order}
+use Rattle.vet_base.proofs.Members.{in_either, list_all_in, from_map}
+use Rattle.std.proofs.lemmas.Bool.{and_parts, eqb-true}
 
 here : (b : Bool) (at pc : ℕ) (ns : List ℕ) → IsTrue (not b) → at ≡ pc → In pc (start_if b at ++ ns)
 here true at pc ns h e = absurd cc
@@ -47,11 +24,8 @@ pub further : (b : Bool) (at pc : ℕ) (ns : List ℕ) → In pc ns → In pc (s
 further true at pc ns k = k
 further false at pc ns k = inr k
 
-pub same_number : (a b : ℕ) → (a == b) ≡ true → a ≡ b
-same_number a b e = grind (arith, nat_tests)
-
 by_pc : (b : Bool) (line : Line) (lines : List Line) (pc : ℕ) (rest : Option Insn) → (line.0 == pc) ≡ b → IsTrue (is_start (cond b (Some line.1) rest)) → (IsTrue (is_start rest) → In pc (starts_of lines)) → In pc (starts_of (line ∷ lines))
-by_pc true line lines pc rest e h later = here (is_payload line.1) line.0 pc (starts_of lines) h (same_number line.0 pc e)
+by_pc true line lines pc rest e h later = here (is_payload line.1) line.0 pc (starts_of lines) h (eqb-true line.0 pc e)
 by_pc false line lines pc rest e h later = further (is_payload line.1) line.0 pc (starts_of lines) (later h)
 
 start_there : (lines : List Line) (pc : ℕ) → IsTrue (starts lines pc) → In pc (starts_of lines)
@@ -71,7 +45,7 @@ module _ (lines : List Line) where
   unfolding all_start targets_from
   all_targets at pc distances h k =
       let one = from_map (target_of at) distances pc k in
-      same_start (target_of at one.0) pc (every (λ (d : ℤ). starts lines (target_of at d)) distances h one.0 one.1) one.2
+      same_start (target_of at one.0) pc (list_all_in (λ (d : ℤ). starts lines (target_of at d)) distances one.0 h one.1) one.2
 
   targets_there : (at : ℕ) (insn : Insn) (pc : ℕ) → IsTrue (targets_stand lines at insn) → In pc (targets_of lines at insn) → In pc (starts_of lines)
   targets_there at (F10t op t) pc h k = one_target t pc h k
@@ -99,7 +73,7 @@ module _ (lines : List Line) where
   pub next_there : (rest : List Line) (line : Line) (pc : ℕ) → IsTrue (targets_stand lines line.0 line.1) → ((n : ℕ) → In n (starts_of rest) → In n (starts_of lines)) → In pc (next_of lines line rest) → In pc (starts_of lines)
   unfolding next_of
   next_there rest line pc h behind k =
-      elim (in_either pc (targets_of lines line.0 line.1) (following (kind_of line.1) rest) (in_ordered pc (targets_of lines line.0 line.1 ++ following (kind_of line.1) rest) k)) [
+      elim (in_either pc (targets_of lines line.0 line.1) (following (kind_of line.1) rest) (from_order pc (targets_of lines line.0 line.1 ++ following (kind_of line.1) rest) k)) [
         | inl j ↦ targets_there line.0 line.1 pc h j
         | inr j ↦ behind pc (first_there rest pc (where_it_is (may_go_on (kind_of line.1)) (first_start rest) pc j))
       ]
@@ -108,7 +82,7 @@ module _ (lines : List Line) where
   unfolding handlers_start
   handler_there handlers pc h k =
       let one = from_map (λ (handler : ℕ × ℕ). handler.1) handlers pc k in
-      same_start one.0.1 pc (every (λ (handler : ℕ × ℕ). starts lines handler.1) handlers h one.0 one.1) one.2
+      same_start one.0.1 pc (list_all_in (λ (handler : ℕ × ℕ). starts lines handler.1) handlers one.0 h one.1) one.2
 
   catch_all_there : (address : Option ℕ) (pc : ℕ) → IsTrue (catch_all_starts lines address) → In pc (option_to_list address) → In pc (starts_of lines)
   catch_all_there None pc h k = absurd k
@@ -118,8 +92,8 @@ module _ (lines : List Line) where
     try_there : (t : RawTry) (pc : ℕ) → IsTrue (try_stands size lines t) → In pc (addresses t) → In pc (starts_of lines)
     unfolding try_stands addresses
     try_there t pc h k =
-        let all = and_both (nat_le (t.start + t.count) size && handlers_start lines t.handlers) (catch_all_starts lines t.catch_all) h in
-        let both = and_both (nat_le (t.start + t.count) size) (handlers_start lines t.handlers) all.0 in
+        let all = and_parts (nat_le (t.start + t.count) size && handlers_start lines t.handlers) (catch_all_starts lines t.catch_all) h in
+        let both = and_parts (nat_le (t.start + t.count) size) (handlers_start lines t.handlers) all.0 in
         elim (in_either pc (map (λ (handler : ℕ × ℕ). handler.1) t.handlers) (option_to_list t.catch_all) k) [
           | inl j ↦ handler_there t.handlers pc both.1 j
           | inr j ↦ catch_all_there t.catch_all pc all.1 j
@@ -136,4 +110,4 @@ module _ (lines : List Line) where
     -- by an exception
     pub catches_there : (tries : List RawTry) (at pc : ℕ) → AllTriesStand size lines tries → In pc (catches_of tries at) → In pc (starts_of lines)
     unfolding catches_of
-    catches_there tries at pc all k = covering_there tries at pc all (in_ordered pc (covering tries at) k)
+    catches_there tries at pc all k = covering_there tries at pc all (from_order pc (covering tries at) k)

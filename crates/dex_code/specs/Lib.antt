@@ -1,5 +1,6 @@
 pub mod Acts
 pub mod Code
+pub mod CodeLaws
 pub mod Find
 pub mod Flow
 pub mod Handlers

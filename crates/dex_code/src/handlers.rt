@@ -9,7 +9,7 @@ use crate::insn::Insn;
 use crate::order::put_in_order;
 use dex_reader::RawTry;
 use std::alloc::{AllocError, Global};
-use vet_base::{Memory, Seq};
+use vet_base::{Memory, Shared};
 
 /// Whether a try covers a pc.
 fn is_covered(item: &RawTry, pc: u32) -> bool
@@ -52,30 +52,45 @@ fn push_covering(found: &mut Vec<u32>, tries: &[&RawTry], pc: u32) -> Result<(),
     Ok(())
 }
 
+/// More addresses beside these, in order. Where there are no more, the list is shared.
+#[tactic(auto, using(crate::proofs::Covering::none_more))]
+fn merged(alloc: Global, shared: &Shared<u32>, mut more: Vec<u32>) -> Result<Shared<u32>, Memory>
+    requires { in_order shared.now ≡ shared.now }
+    ensures { IfOk result (λ s. s ≡ in_order (more.items ++ shared.now)) }
+{
+    if more.is_empty() {
+        return shared.copy();
+    }
+    more.extend_from_slice(shared.as_slice())?;
+    put_in_order(&mut more);
+    Shared::from_vec(alloc, more)
+}
+
 /// The handlers of one pc.
-#[tactic(auto, unfolding(crate::specs::Handlers::catches_beside))]
+#[tactic(auto, unfolding(crate::specs::Handlers::catches_beside), using(crate::proofs::Covering::either_order))]
 fn catches_here(
     alloc: Global,
-    shared: &[u32],
+    shared: &Shared<u32>,
     tries: &[&RawTry],
     pc: u32,
-) -> Result<Seq<u32>, AllocError>
+) -> Result<Shared<u32>, Memory>
+    requires { in_order shared.now ≡ shared.now }
     ensures { IfOk result (λ s. s ≡ catches_beside shared.now (map (λ t. t.now) tries.now) pc) }
 {
-    let mut found = shared.to_vec(alloc)?;
-    push_covering(&mut found, tries, pc)?;
-    put_in_order(&mut found);
-    Ok(Seq::from_vec(found))
+    let mut more = Vec::new(alloc);
+    push_covering(&mut more, tries, pc)?;
+    merged(alloc, shared, more)
 }
 
 /// Adds the handlers of each line, one line after the other.
 fn push_each(
     alloc: Global,
-    shared: &[u32],
+    shared: &Shared<u32>,
     tries: &[&RawTry],
     lines: &[(u32, Insn)],
-    found: &mut Vec<Seq<u32>>,
-) -> Result<(), AllocError>
+    found: &mut Vec<Shared<u32>>,
+) -> Result<(), Memory>
+    requires { in_order shared.now ≡ shared.now }
     ensures { OnOk result (AddsCatches shared.now (map (λ t. t.now) tries.now) lines.now found.old.items found.new.items) }
 {
     for line in lines {
@@ -84,17 +99,16 @@ fn push_each(
     Ok(())
 }
 
-/// Adds the same addresses for each line.
+/// Adds the same list for each line.
 fn push_copies(
-    alloc: Global,
-    shared: &[u32],
+    shared: &Shared<u32>,
     lines: &[(u32, Insn)],
-    found: &mut Vec<Seq<u32>>,
-) -> Result<(), AllocError>
+    found: &mut Vec<Shared<u32>>,
+) -> Result<(), Memory>
     ensures { OnOk result (found.new.items ≡ found.old.items ++ map (λ (line : Line). shared.now) lines.now) }
 {
     for _ in lines {
-        found.push(Seq::from_vec(shared.to_vec(alloc)?))?;
+        found.push(shared.copy()?)?;
     }
     Ok(())
 }
@@ -148,41 +162,28 @@ fn parted<'a>(
     Ok((shared, left))
 }
 
-/// More addresses beside these, in order.
-fn merged(shared: &[u32], mut more: Vec<u32>) -> Result<Vec<u32>, AllocError>
-    ensures { IfOk result (λ v. v.items ≡ in_order (more.items ++ shared.now)) }
-{
-    more.extend_from_slice(shared)?;
-    put_in_order(&mut more);
-    Ok(more)
-}
-
 /// Adds the handlers of each line, by halving the lines: what covers a whole part is shared, and only tries that begin
 /// or end within it are looked at again.
 fn fill(
     alloc: Global,
-    shared: &[u32],
+    shared: &Shared<u32>,
     tries: &[&RawTry],
     lines: &[(u32, Insn)],
-    found: &mut Vec<Seq<u32>>,
-) -> Result<(), AllocError>
+    found: &mut Vec<Shared<u32>>,
+) -> Result<(), Memory>
     requires rise { Ascend lines.now }
     requires order { in_order shared.now ≡ shared.now }
     ensures { OnOk result (AddsCatches shared.now (map (λ t. t.now) tries.now) lines.now found.old.items found.new.items) }
 {
     if tries.is_empty() {
-        return push_copies(alloc, shared, lines, found);
+        return push_copies(shared, lines, found);
     }
     if lines.len() < 2 {
         return push_each(alloc, shared, tries, lines, found);
     }
     let (more, left) = parted(alloc, tries, lines[0].0, lines[lines.len() - 1].0)?;
     let (lower, upper) = lines.split_at(lines.len() / 2);
-    if more.is_empty() {
-        fill(alloc, shared, &left, lower, found)?;
-        return fill(alloc, shared, &left, upper, found);
-    }
-    let all = merged(shared, more)?;
+    let all = merged(alloc, shared, more)?;
     fill(alloc, &all, &left, lower, found)?;
     fill(alloc, &all, &left, upper, found)
 }
@@ -194,17 +195,19 @@ fn references(alloc: Global, tries: &[RawTry]) -> Result<Vec<&RawTry>, AllocErro
     tries.iter().collect(alloc)
 }
 
-/// The addresses of the handlers that cover each line, each once, ascending.
+/// The addresses of the handlers that cover each line, each once, ascending. Lines that a try covers together share
+/// their list.
 pub fn catches_of_lines(
     alloc: Global,
     tries: &[RawTry],
     lines: &[(u32, Insn)],
-) -> Result<Vec<Seq<u32>>, Memory>
+) -> Result<Vec<Shared<u32>>, Memory>
     requires { Ascend lines.now }
     ensures { IfOk result (λ v. v.items ≡ map (λ (line : Line). catches_of tries.now line.0) lines.now) }
 {
     let all = references(alloc, tries)?;
+    let none = Shared::new();
     let mut found = Vec::new(alloc);
-    fill(alloc, &[], &all, lines, &mut found)?;
+    fill(alloc, &none, &all, lines, &mut found)?;
     Ok(found)
 }

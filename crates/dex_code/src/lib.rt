@@ -10,6 +10,7 @@ mod flow;
 mod handlers;
 mod insn;
 mod insn_at;
+mod laws;
 mod lines;
 mod names;
 mod next;
@@ -25,6 +26,7 @@ pub use decoder::{Counts, Decoded, decode};
 pub use fault::CodeFault;
 pub use handlers::catches_of_lines;
 pub use insn::Insn;
+pub use laws::code_laws;
 pub use names::{Named, Naming};
 pub use next::next_of_line;
 

@@ -1,8 +1,7 @@
-use Rattle.vet_base.specs.Script.{run}
-use Rattle.app_link.proofs.Throughs.{Through}
-use Rattle.app_link.specs.Through.{through}
+use Rattle.vet_base.specs.Script.{run, each}
+use Rattle.vet_base.proofs.Eaches.{Eaches}
 use Rattle.app_link.specs.Code.{call_row}
 use Rattle.app_link.proofs.coded.check_calls.Given as goal
 
-abbrev pub invariant-loop-i : goal.invariant-loop-i
-invariant-loop-i l = Through l.lines l.i (call_row l.dex l.at) tt (run (through (call_row l.dex l.at) 0 l.lines tt))
+abbrev pub invariant-loop-line : goal.invariant-loop-line
+invariant-loop-line l = Eaches l.lines l.line-index (call_row l.dex l.at) tt (run (each (call_row l.dex l.at) l.lines tt))

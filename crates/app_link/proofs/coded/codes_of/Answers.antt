@@ -3,9 +3,9 @@ use Rattle.app_link.proofs.SoundCoded.{seen_tested, seen_few}
 use Rattle.app_link.proofs.coded.codes_of.Goals as goal
 
 pub returns-clause-tested : goal.returns-clause-tested
-returns-clause-tested c = seen_tested c.args.dexes.now c.args.methods.entries c.in_ok-entries.entries.items c.deref.result.now (c.in_ok-coding.coding.methods.items, c.in_ok-coding.coding.units)
+returns-clause-tested c = seen_tested c.code_laws.ensures c.args.dexes.now c.args.methods.entries c.in_ok-entries.entries.items c.deref.result.now (c.in_ok-coding.coding.methods.items, c.in_ok-coding.coding.units)
     c.deref.ensures.value c.in_ok-entries.ensures.list c.requires.described c.in_ok-entries.ensures.order c.in_ok-coding.ensures
 
 pub returns-clause-few : goal.returns-clause-few
-returns-clause-few c = seen_few c.args.dexes.now c.args.methods.entries c.deref.result.now (c.in_ok-coding.coding.methods.items, c.in_ok-coding.coding.units)
+returns-clause-few c = seen_few c.code_laws.ensures c.args.dexes.now c.args.methods.entries c.deref.result.now (c.in_ok-coding.coding.methods.items, c.in_ok-coding.coding.units)
     (c.deref.ensures.value ∙ c.in_ok-entries.ensures.list) c.requires.described c.in_ok-coding.ensures

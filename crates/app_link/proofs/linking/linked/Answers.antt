@@ -20,7 +20,7 @@ pub finished-requires-clause-sound : goal.finished-requires-clause-sound
 finished-requires-clause-sound c = frame_sound _ _ c.in_ok-frame.frame c.in_ok-frame.ensures.frame
 
 pub returns-clause-app : goal.returns-clause-app
-returns-clause-app c = is_app c.args.dexes.now c.args.manifest.now c.args.layouts.now (record {
+returns-clause-app c = is_app c.code_laws.ensures c.args.dexes.now c.args.manifest.now c.args.layouts.now (record {
   classes = c.in_ok-parts.parts.classes.entries;
   fields = c.in_ok-parts.parts.fields.entries;
   methods = c.in_ok-parts.parts.methods.entries;
@@ -32,7 +32,7 @@ returns-clause-app c = is_app c.args.dexes.now c.args.manifest.now c.args.layout
     c.in_ok-app.ensures.statics c.in_ok-app.ensures.methods
 
 pub returns-clause-only : goal.returns-clause-only
-returns-clause-only c = only_app c.args.dexes.now c.args.manifest.now c.args.layouts.now (record {
+returns-clause-only c = only_app c.code_laws.ensures c.args.dexes.now c.args.manifest.now c.args.layouts.now (record {
   classes = c.in_ok-parts.parts.classes.entries;
   fields = c.in_ok-parts.parts.fields.entries;
   methods = c.in_ok-parts.parts.methods.entries;
