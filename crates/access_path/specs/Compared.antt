@@ -1,10 +1,10 @@
 -- Orders of values, and of the lists that the values are written as.
-use Rattle.std.proofs.Common.{refl, ap, ◌∙◌, append_assoc}
+use Rattle.std.proofs.Common.{ap, ◌∙◌, append_assoc}
 use Rattle.std.specs.Prelude.{◌≡◌, ◌++◌, List}
 use Rattle.std.specs.Ordering.{ordering_then}
 use Rattle.std.specs.Cmp.Lexicographic.{slice_cmp}
 use Rattle.std.specs.declared.cmp.Ordering.{Ordering}
-use Rattle.std.specs.declared.cmp.Ordering.TheVariants.{Less, Equal, Greater}
+use Rattle.vet_base.proofs.Orders.{then_assoc}
 
 -- the first parts decide, and else the second
 abbrev pub then_by : {A B : Type 0} → (A → A → Ordering) → (B → B → Ordering) → A × B → A × B → Ordering
@@ -13,11 +13,6 @@ then_by R S p q = ordering_then (R p.0 q.0) (S p.1 q.1)
 -- Lists that are written one behind the other compare as the values do, the first value first.
 pub record ComparesAs {A E : Type 0} (S : E → E → Ordering) (R : A → A → Ordering) (written : A → List E) : Type 0 where
   pub is : (a b : A) (xs ys : List E) → slice_cmp S (written a ++ xs) (written b ++ ys) ≡ ordering_then (R a b) (slice_cmp S xs ys)
-
-pub then_assoc : (o p q : Ordering) → ordering_then o (ordering_then p q) ≡ ordering_then (ordering_then o p) q
-then_assoc Less p q = refl
-then_assoc Equal p q = refl
-then_assoc Greater p q = refl
 
 pub compares_pair : {A B E : Type 0} {S : E → E → Ordering} {P : A → A → Ordering} {Q : B → B → Ordering} {f : A → List E} {g : B → List E} → ComparesAs S P f → ComparesAs S Q g → ComparesAs S (then_by P Q) (λ (p : A × B). f p.0 ++ g p.1)
 compares_pair {S = S} {P = P} {Q = Q} {f = f} {g = g} first second = record {

@@ -1,11 +1,12 @@
--- The derived order of paths is the stated one, and tells all paths apart.
-use Rattle.std.proofs.Common.{refl, sym, ap, true≢false}
+-- The derived order of paths is the stated one, and tells all paths not_equal.
+use Rattle.std.proofs.Common.{refl, ap}
 use Rattle.std.specs.Prelude.{◌≡◌, ℕ, ◌+◌, Bool, true, false, List, [], ◌∷◌, ◌++◌, length, map}
-use Rattle.std.specs.Ordering.{nat_cmp, ordering_then, is_eq, bool_cmp}
+use Rattle.std.specs.Ordering.{nat_cmp, ordering_then, bool_cmp}
 use Rattle.std.specs.Cmp.Lexicographic.{slice_cmp}
 use Rattle.std.specs.declared.cmp.Ordering.{Ordering}
-use Rattle.std.specs.declared.cmp.Ordering.TheVariants.{Less, Equal, Greater}
+use Rattle.std.specs.declared.cmp.Ordering.TheVariants.{Less, Greater}
 use Rattle.std.proofs.lemmas.Map.Lookups.{CmpEqualImpliesEq, exact_unsigned, exact_pairs}
+use Rattle.vet_base.proofs.Orders.{not_equal}
 use Rattle.vet_base.specs.declared.key_id.KeyId.{KeyId}
 use Rattle.vet_base.specs.contracts.key_id.KeyIdOrd.TheImpl.{ghosts as key_order}
 use Rattle.access_path.specs.declared.keys.Keys.{Keys}
@@ -15,20 +16,14 @@ use Rattle.access_path.specs.Compared.{then_by, ComparesAs, compares_pair}
 use Rattle.access_path.specs.Keys.{keys_in}
 use Rattle.access_path.specs.Order.{path_cmp, numbers_of_path, PathOrder}
 
--- where two values are of different kinds
-pub apart : (o : Ordering) → is_eq o ≡ false → o ≡ Equal → ⊥
-apart Less q e = true≢false (sym (ap is_eq e))
-apart Equal q e = true≢false q
-apart Greater q e = true≢false (sym (ap is_eq e))
-
 pub exact_key : CmpEqualImpliesEq key_order.cmp
 exact_key a b e = ap (λ (n : ℕ). record { 0 = n }) (exact_unsigned a.0 b.0 e)
 
 exact_bool : CmpEqualImpliesEq bool_cmp
 exact_bool true true e = refl
 exact_bool false false e = refl
-exact_bool true false e = absurd (apart Greater refl e)
-exact_bool false true e = absurd (apart Less refl e)
+exact_bool true false e = absurd (not_equal Greater refl e)
+exact_bool false true e = absurd (not_equal Less refl e)
 
 abbrev by_two : KeyId × KeyId → KeyId × KeyId → Ordering
 by_two = then_by key_order.cmp key_order.cmp
@@ -55,7 +50,7 @@ exact_keys (Two a b) (Two k l) e = ap (λ (p : KeyId × KeyId). Two p.0 p.1) (ex
 exact_keys (Three a b c) (Three k l m) e = ap (λ (p : KeyId × (KeyId × KeyId)). Three p.0 p.1.0 p.1.1) (exact_three (a, (b, c)) (k, (l, m)) e)
 exact_keys (Four a b c d) (Four k l m n) e = ap (λ (p : KeyId × (KeyId × (KeyId × KeyId))). Four p.0 p.1.0 p.1.1.0 p.1.1.1) (exact_four (a, (b, (c, d))) (k, (l, (m, n))) e)
 exact_keys (Five a b c d x) (Five k l m n y) e = ap (λ (p : KeyId × (KeyId × (KeyId × (KeyId × KeyId)))). Five p.0 p.1.0 p.1.1.0 p.1.1.1.0 p.1.1.1.1) (exact_pairs key_order.cmp by_four exact_key exact_four (a, (b, (c, (d, x)))) (k, (l, (m, (n, y)))) e)
-exact_keys _ _ e = absurd (apart _ refl e)
+exact_keys _ _ e = absurd (not_equal _ refl e)
 
 exact_path : CmpEqualImpliesEq path_cmp
 exact_path a b e = ap (λ (p : Bool × Keys). record { is_open = p.0; keys = p.1 }) (exact_pairs bool_cmp keys_order.cmp exact_bool exact_keys (a.is_open, a.keys) (b.is_open, b.keys) e)

@@ -6,9 +6,10 @@ use Rattle.std.specs.Cmp.Lexicographic.{slice_cmp}
 use Rattle.std.specs.declared.cmp.Ordering.{Ordering}
 use Rattle.std.proofs.lemmas.Map.Lookups.{CmpEqualImpliesEq, exact_unsigned, exact_pairs}
 use Rattle.vet_base.specs.contracts.key_id.KeyIdOrd.TheImpl.{ghosts as key_order}
+use Rattle.vet_base.proofs.Orders.{not_equal}
 use Rattle.access_path.specs.Compared.{then_by, ComparesAs, compares_pair}
 use Rattle.access_path.specs.Order.{path_cmp}
-use Rattle.access_path.specs.OrderLaws.{apart, exact_key, path_order_is}
+use Rattle.access_path.specs.OrderLaws.{exact_key, path_order_is}
 use Rattle.app_machine.specs.declared.lists.SummaryId.{SummaryId}
 use Rattle.app_machine.specs.declared.lists.SummaryId.TheVariants as use_of
 use Rattle.app_machine.specs.contracts.lists.SummaryIdOrd.TheImpl.{ghosts as use_order}
@@ -46,7 +47,7 @@ exact_ctx (ctx.Handed a) (ctx.Handed b) e = ap ctx.Handed (exact_unsigned a b e)
 exact_ctx (ctx.Init a) (ctx.Init b) e = ap ctx.Init (exact_unsigned a b e)
 exact_ctx (ctx.Call a b) (ctx.Call c d) e = ap (λ (p : ℕ × ℕ). ctx.Call p.0 p.1) (exact_two (a, b) (c, d) e)
 exact_ctx (ctx.Call2 a b x y) (ctx.Call2 c d u v) e = ap (λ (p : ℕ × (ℕ × (ℕ × ℕ))). ctx.Call2 p.0 p.1.0 p.1.1.0 p.1.1.1) (exact_four (a, (b, (x, y))) (c, (d, (u, v))) e)
-exact_ctx _ _ e = absurd (apart _ refl e)
+exact_ctx _ _ e = absurd (not_equal _ refl e)
 
 exact_activation : CmpEqualImpliesEq activation_order.cmp
 exact_activation a b e = ap (λ (p : Ctx × ℕ). record { ctx = p.0; method = p.1 }) (exact_pairs ctx_order.cmp nat_cmp exact_ctx exact_unsigned (a.ctx, a.method) (b.ctx, b.method) e)
@@ -59,12 +60,12 @@ exact_site (At a) (At b) e = ap At (exact_node a b e)
 exact_site (Param a b) (Param c d) e = ap (λ (p : Ctx × ℕ). Param p.0 p.1) (exact_pairs ctx_order.cmp nat_cmp exact_ctx exact_unsigned (a, b) (c, d) e)
 exact_site (Component a) (Component b) e = ap Component (exact_unsigned a b e)
 exact_site (Shared a) (Shared b) e = ap Shared (exact_unsigned a b e)
-exact_site _ _ e = absurd (apart _ refl e)
+exact_site _ _ e = absurd (not_equal _ refl e)
 
 exact_use : CmpEqualImpliesEq use_order.cmp
 exact_use (use_of.Row a) (use_of.Row b) e = ap use_of.Row (exact_unsigned a b e)
 exact_use (use_of.Fallback a) (use_of.Fallback b) e = ap use_of.Fallback (exact_unsigned a b e)
-exact_use _ _ e = absurd (apart _ refl e)
+exact_use _ _ e = absurd (not_equal _ refl e)
 
 -- what is written as a number, and as two or four
 abbrev number : ℕ → List ℕ
@@ -170,4 +171,4 @@ exact_field (field.Component a) (field.Component b) e = ap field.Component (exac
 exact_field (field.State a b) (field.State c d) e = ap (λ (p : ℕ × ℕ). field.State p.0 p.1) (exact_two (a, b) (c, d) e)
 exact_field (field.Cause a) (field.Cause b) e = ap field.Cause (exact_unsigned a b e)
 exact_field (field.Use a) (field.Use b) e = ap field.Use (exact_use a b e)
-exact_field _ _ e = absurd (apart _ refl e)
+exact_field _ _ e = absurd (not_equal _ refl e)

@@ -7,7 +7,8 @@ use Rattle.std.specs.Cmp.Lexicographic.{slice_cmp}
 use Rattle.std.specs.declared.cmp.Ordering.{Ordering}
 use Rattle.std.specs.declared.cmp.Ordering.TheVariants.{Less, Equal, Greater}
 use Rattle.std.proofs.lemmas.Map.Lookups.{CmpEqualImpliesEq, exact_pairs}
-use Rattle.access_path.specs.Compared.{then_by, ComparesAs, then_assoc, compares_pair}
+use Rattle.vet_base.proofs.Orders.{then_assoc}
+use Rattle.access_path.specs.Compared.{then_by, ComparesAs, compares_pair}
 use Rattle.fact_rows.specs.declared.field.Field.{Field}
 use Rattle.fact_rows.specs.Order.{field_cmp, numbers_of_field}
 

@@ -1,19 +1,23 @@
 -- What a search by halves finds in a list that ascends, and what follows for a row and for a stretch.
-use Rattle.std.proofs.Common.{◌≡◌, ℕ, suc, ◌+◌, ◌-◌, ◌<◌, ◌≤◌, ◌↔◌, ◌⊎◌, Bool, true, false, List, [], ◌∷◌, length, get_or, Contains, refl, sym, ap, subst, ◌∙◌, inl, inr, arith, true≢false, length-drop, length-take, get_or-take, get_or-drop}
+use Rattle.std.proofs.Common.{IsTrue, ◌≡◌, ℕ, suc, ◌+◌, ◌-◌, ◌<◌, ◌≤◌, ◌↔◌, ◌⊎◌, Bool, true, false, List, [], ◌∷◌, length, get_or, AllPairs, Contains, refl, sym, ap, subst, ◌∙◌, inl, inr, arith, true≢false, length-drop, length-take, get_or-take, get_or-drop}
 use Rattle.std.specs.List.{insert}
 use Rattle.std.specs.Cmp.{IsTotalOrder}
-use Rattle.std.specs.Ordering.{ordering_reverse}
 use Rattle.std.specs.declared.cmp.Ordering.{Ordering}
 use Rattle.std.specs.declared.cmp.Ordering.TheVariants.{Less, Equal, Greater}
-use Rattle.std.proofs.lemmas.Bool.{cases_lt}
+use Rattle.std.proofs.lemmas.Bool.{cases_lt, false_from_ne_true}
 use Rattle.std.proofs.lemmas.Cmp.{tied_itself}
 use Rattle.std.proofs.lemmas.List.{get_or_default}
 use Rattle.std.proofs.lemmas.List.Edits.{length-insert, get_or-insert_below, get_or-insert_at, get_or-insert_above, get_or-between, length-between}
 use Rattle.std.proofs.lemmas.Map.Lookups.{CmpEqualImpliesEq}
-use Rattle.sorted_table.specs.Ascending.{Ascends, Added}
+use Rattle.vet_base.specs.Ascending.{Ascends}
+use Rattle.vet_base.specs.Members.{In}
+use Rattle.vet_base.proofs.Ascending.{ascends_pairs, ascends_from_pairs}
+use Rattle.vet_base.proofs.Members.{in_iff_contains}
+use Rattle.sorted_table.specs.Adding.{Added}
 use Rattle.sorted_table.specs.Between.{Between}
 use Rattle.sorted_table.specs.Bounds.{IsBound, counts, counted}
 use Rattle.sorted_table.specs.Stretches.{Rises, IsRange}
+use Rattle.vet_base.proofs.Orders.{turned, turned_back}
 
 -- what is below a row that is counted is counted
 abbrev pub Steady : {K : Type 0} → (K → K → Ordering) → (K → Bool) → Type 0
@@ -34,17 +38,16 @@ steady_side inside Greater Greater f g h = h
 pub steady : {K : Type 0} {R : K → K → Ordering} {side : K → Ordering} → Rises R side → (inside : Bool) → Steady R (counted side inside)
 steady {side = side} rises inside x y below h = let r = rises x y below in steady_side inside (side x) (side y) r.0 r.1 h
 
-not_true : (b : Bool) → (b ≡ true → ⊥) → b ≡ false
-not_true true h = absurd (h refl)
-not_true false h = refl
-
 -- in a list that ascends the two ends of a search say all
-pub bound_from_ends : {K : Type 0} {R : K → K → Ordering} (test : K → Bool) → Steady R test → (rows : List K) → Ascends R rows → (n : ℕ) → Between (Is test true) (Is test false) rows n n → IsBound test rows n
-bound_from_ends {K} {R} test steady rows up n b = record { within = b.within; below = below; above = above }
+pub bound_from_ends : {K : Type 0} {R : K → K → Ordering} → IsTotalOrder R → (test : K → Bool) → Steady R test → (rows : List K) → Ascends R rows → (n : ℕ) → Between (Is test true) (Is test false) rows n n → IsBound test rows n
+bound_from_ends {K} {R} total test steady rows up n b = record { within = b.within; below = below; above = above }
   where
+    pairs : AllPairs (λ x y. R x y ≡ Less) rows
+    pairs = ascends_pairs R total rows up
+
     below_at : (m : ℕ) → suc m ≡ n → (k : ℕ) (d : K) → k < n → test (get_or rows k d) ≡ true
     below_at m e k d lt = elim (cases_lt k m) [
-      | inl less ↦ steady (get_or rows k d) (get_or rows m d) (up k m d less (omega (arith, b.within))) (b.below m e d)
+      | inl less ↦ steady (get_or rows k d) (get_or rows m d) (pairs k m d less (omega (arith, b.within))) (b.below m e d)
       | inr more ↦ let same : k ≡ m = omega arith in rw same (b.below m e d)
     ]
 
@@ -53,7 +56,7 @@ bound_from_ends {K} {R} test steady rows up n b = record { within = b.within; be
 
     above : (k : ℕ) (d : K) → n ≤ k → k < length rows → test (get_or rows k d) ≡ false
     above k d le lt = elim (cases_lt n k) [
-      | inl less ↦ not_true (test (get_or rows k d)) (λ yes. true≢false (sym (steady (get_or rows n d) (get_or rows k d) (up n k d less lt) yes) ∙ b.above (omega arith) d))
+      | inl less ↦ false_from_ne_true (test (get_or rows k d)) (λ yes. true≢false (sym (steady (get_or rows n d) (get_or rows k d) (pairs n k d less lt) yes) ∙ b.above (omega arith) d))
       | inr more ↦ let same : k ≡ n = omega arith in rw same (b.above (omega arith) d)
     ]
 
@@ -67,15 +70,9 @@ module _ {K : Type 0} {R : K → K → Ordering} (o : IsTotalOrder R) where
   greater_side Equal h = cc
   greater_side Greater h = refl
 
-  turned : (x y : K) → R x y ≡ Less → R y x ≡ Greater
-  turned x y h = o.antisymm y x ∙ ap ordering_reverse h
-
-  turned_back : (x y : K) → R x y ≡ Greater → R y x ≡ Less
-  turned_back x y h = o.antisymm y x ∙ ap ordering_reverse h
-
   module _ (rows : List K) (up : Ascends R rows) (x : K) (n : ℕ) (b : IsBound (counted (λ y. R y x) true) rows n) where
     -- a row is there where it is the last of those that are not above it
-    pub stands_before : Contains rows x → (0 < n) × (get_or rows (n - 1) x ≡ x)
+    stands_before : Contains rows x → (0 < n) × (get_or rows (n - 1) x ≡ x)
     stands_before (k, lt, is) = elim (cases_lt k n) [
       | inl less ↦ (omega arith, at (n - 1) (omega arith) k lt is less)
       | inr more ↦ absurd (true≢false (sym (ap (counts true) (ap (λ z. R z x) is ∙ tied_itself o x)) ∙ b.above k x more lt))
@@ -83,15 +80,19 @@ module _ {K : Type 0} {R : K → K → Ordering} (o : IsTotalOrder R) where
       where
         at : (m : ℕ) → suc m ≡ n → (k : ℕ) → k < length rows → get_or rows k x ≡ x → k < n → get_or rows m x ≡ x
         at m e k lt is less = elim (cases_lt k m) [
-          | inl lower ↦ absurd (counted_side (R (get_or rows m x) x) (b.below m x (omega arith)) (turned x (get_or rows m x) (subst (λ z. R z (get_or rows m x) ≡ Less) is (up k m x lower (omega (arith, b.within))))))
+          | inl lower ↦ absurd (counted_side (R (get_or rows m x) x) (b.below m x (omega arith)) (turned o x (get_or rows m x) (subst (λ z. R z (get_or rows m x) ≡ Less) is (ascends_pairs R o rows up k m x lower (omega (arith, b.within))))))
           | inr more ↦ let same : m ≡ k = omega arith in rw same is
         ]
 
-    pub stands_there : (0 < n) × (get_or rows (n - 1) x ≡ x) → Contains rows x
+    stands_there : (0 < n) × (get_or rows (n - 1) x ≡ x) → Contains rows x
     stands_there h = (n - 1, omega (arith, h.0, b.within), h.1)
 
-    pub there_iff : ((0 < n) × (get_or rows (n - 1) x ≡ x)) ↔ Contains rows x
-    there_iff = (stands_there, stands_before)
+    there_iff : ((0 < n) × (get_or rows (n - 1) x ≡ x)) ↔ In x rows
+    there_iff = (λ h. (in_iff_contains x rows).1 (stands_there h), λ k. stands_before ((in_iff_contains x rows).0 k))
+
+    -- what a look at that row says of the list that is seen
+    pub has_iff : (now : List K) → rows ≡ now → (found : Bool) → IsTrue found ↔ ((0 < n) × (get_or rows (n - 1) x ≡ x)) → IsTrue found ↔ In x now
+    has_iff now same found ends = subst (λ z. IsTrue found ↔ In x z) same (λ t. there_iff.0 (ends.0 t), λ k. ends.1 (there_iff.1 k))
 
     below_or_same : (y : K) → counts true (R y x) ≡ true → (R y x ≡ Equal → ⊥) → R y x ≡ Less
     below_or_same y h ne = go (R y x) refl
@@ -108,13 +109,16 @@ module _ {K : Type 0} {R : K → K → Ordering} (o : IsTotalOrder R) where
       within = b.within;
       is = refl;
       below = λ k d lt. let less : k < n = omega (arith, length-take n rows) in rw (get_or-take n rows k d less) (below_or_same (get_or rows k d) (b.below k d less) (λ tie. absent (stands_before (k, omega (arith, b.within), get_or_default rows k x d (omega (arith, b.within)) ∙ exact (get_or rows k d) x tie))));
-      above = λ k d lt. rw (get_or-drop n rows k d) (turned_back (get_or rows (n + k) d) x (greater_side (R (get_or rows (n + k) d) x) (b.above (n + k) d (omega arith) (omega (arith, length-drop n rows)))));
+      above = λ k d lt. rw (get_or-drop n rows k d) (turned_back o (get_or rows (n + k) d) x (greater_side (R (get_or rows (n + k) d) x) (b.above (n + k) d (omega arith) (omega (arith, length-drop n rows)))));
     }
 
   -- with the row added the list still ascends
   pub ascends_added : (old new : List K) (x : K) → Ascends R old → Added R old x new → Ascends R new
-  ascends_added old new x up a = rw a.is go
+  ascends_added old new x up a = rw a.is (ascends_from_pairs R ys go)
     where
+      pairs : AllPairs (λ x y. R x y ≡ Less) old
+      pairs = ascends_pairs R o old up
+
       p : ℕ
       p = a.place
 
@@ -138,16 +142,16 @@ module _ {K : Type 0} {R : K → K → Ordering} (o : IsTotalOrder R) where
 
       behind : (i j : ℕ) (d : K) → i < j → p < j → j ≤ length old → R (get_or ys i d) (get_or old (j - 1) d) ≡ Less
       behind i j d lt less within = elim (cases_lt i p) [
-        | inl first ↦ rw (low i d first) (up i (j - 1) d (omega arith) (omega arith))
+        | inl first ↦ rw (low i d first) (pairs i (j - 1) d (omega arith) (omega arith))
         | inr le ↦ elim (cases_lt p i) [
-          | inl last ↦ rw (high i d last) (up (i - 1) (j - 1) d (omega arith) (omega arith))
+          | inl last ↦ rw (high i d last) (pairs (i - 1) (j - 1) d (omega arith) (omega arith))
           | inr same ↦ rw (mid i d (omega arith)) (over (j - 1) d (omega arith) (omega arith))
         ]
       ]
 
-      go : Ascends R ys
+      go : AllPairs (λ x y. R x y ≡ Less) ys
       go i j d lt within = let most : j ≤ length old = omega (arith, length-insert old p x a.within) in elim (cases_lt j p) [
-        | inl first ↦ rw (low i d (omega arith), low j d first) (up i j d lt (omega (arith, a.within)))
+        | inl first ↦ rw (low i d (omega arith), low j d first) (pairs i j d lt (omega (arith, a.within)))
         | inr le ↦ elim (cases_lt p j) [
           | inl last ↦ rw (high j d last) (behind i j d lt last most)
           | inr same ↦ rw (mid j d (omega arith), low i d (omega arith)) (under i d (omega arith))

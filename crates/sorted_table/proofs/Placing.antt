@@ -3,7 +3,9 @@ use Rattle.std.proofs.Common.{◌≡◌, ℕ, zero, suc, ◌+◌, ◌-◌, ◌<�
 use Rattle.std.specs.declared.cmp.Ordering.{Ordering}
 use Rattle.std.proofs.lemmas.Bool.{cases_lt}
 use Rattle.std.proofs.lemmas.List.Concat.{get_or-flat_map}
-use Rattle.sorted_table.specs.Ascending.{Ascends}
+use Rattle.std.specs.Cmp.{IsTotalOrder}
+use Rattle.vet_base.specs.Ascending.{Ascends}
+use Rattle.vet_base.proofs.Ascending.{ascends_pairs, ascends_from_pairs}
 use Rattle.sorted_table.specs.Between.{Between}
 use Rattle.std.specs.Cmp.{nat_cmp_is}
 use Rattle.std.specs.Ordering.{nat_cmp}
@@ -105,8 +107,8 @@ module _ {K : Type 0} (test : K → Bool) (ps : List (Part K)) (filled : Filled 
         by (inl less) = rw (row_of_part ps (m - 1) place e d there less) (c.above place d (le_refl place) less)
         by (inr le) = next (omega (arith, c.within)) (cases_lt 0 m) (cases_lt m (length ps))
 
-    pub seek_bound : {R : K → K → Ordering} → Steady R test → Ascends R (all_rows ps) → IsBound test (all_rows ps) (before ps (m - 1) + place)
-    seek_bound steady up = bound_from_ends test steady (all_rows ps) up (before ps (m - 1) + place) (record {
+    pub seek_bound : {R : K → K → Ordering} → IsTotalOrder R → Steady R test → Ascends R (all_rows ps) → IsBound test (all_rows ps) (before ps (m - 1) + place)
+    seek_bound total steady up = bound_from_ends total test steady (all_rows ps) up (before ps (m - 1) + place) (record {
       order = omega arith;
       within = slot_within ps (m - 1) place e there c.within;
       below = below_slot;
@@ -114,20 +116,20 @@ module _ {K : Type 0} (test : K → Bool) (ps : List (Part K)) (filled : Filled 
     })
 
 -- a part of rows that ascend ascends
-pub part_ascends : {K : Type 0} (R : K → K → Ordering) (ps : List (Part K)) (i : ℕ) (e : Part K) (rows : List K) → i < length ps → rows ≡ rows_of (get_or ps i e) → Ascends R (all_rows ps) → Ascends R rows
-part_ascends R ps i e rows lt same up = subst (Ascends R) (sym same) (λ j k d less within.
+pub part_ascends : {K : Type 0} (R : K → K → Ordering) → IsTotalOrder R → (ps : List (Part K)) (i : ℕ) (e : Part K) (rows : List K) → i < length ps → rows ≡ rows_of (get_or ps i e) → Ascends R (all_rows ps) → Ascends R rows
+part_ascends R total ps i e rows lt same up = let pairs = ascends_pairs R total (all_rows ps) up in subst (Ascends R) (sym same) (ascends_from_pairs R (rows_of (get_or ps i e)) (λ j k d less within.
     subst (λ z. R z (get_or (rows_of (get_or ps i e)) k d) ≡ Less) (row_of_part ps i j e d lt (omega arith))
     (subst (λ z. R (get_or (all_rows ps) (before ps i + j) d) z ≡ Less) (row_of_part ps i k e d lt within)
-    (up (before ps i + j) (before ps i + k) d (omega arith) (omega (arith, before_next ps i e lt, before_within ps (i + 1))))))
+    (pairs (before ps i + j) (before ps i + k) d (omega arith) (omega (arith, before_next ps i e lt, before_within ps (i + 1)))))))
 
 -- what the search over the parts and then in one of them finds
 pub record Sought {K : Type 0} (test : K → Bool) (ps : List (Part K)) (i place : ℕ) : Type 0 where
   pub bound : IsBound test (all_rows ps) (before ps i + place)
   pub entered : 0 < i → 0 < place
 
-pub sought : {K : Type 0} {R : K → K → Ordering} (test : K → Bool) → Steady R test → (ps : List (Part K)) → Filled ps → 0 < length ps → Ascends R (all_rows ps) → (m : ℕ) → Between (BeginsWith test true) (BeginsWith test false) ps m m → (i : ℕ) (e : Part K) (rows : List K) (place : ℕ) → i ≡ m - 1 → rows ≡ rows_of (get_or ps i e) → IsBound test rows place → Sought test ps i place
-sought {K} test steady ps filled some up m b i e rows place at same c =
-    subst (λ z. Sought test ps z place) (sym at) (record { bound = seek_bound test ps filled m b e some place found steady up; entered = entered test ps filled m b e some place found })
+pub sought : {K : Type 0} {R : K → K → Ordering} → IsTotalOrder R → (test : K → Bool) → Steady R test → (ps : List (Part K)) → Filled ps → 0 < length ps → Ascends R (all_rows ps) → (m : ℕ) → Between (BeginsWith test true) (BeginsWith test false) ps m m → (i : ℕ) (e : Part K) (rows : List K) (place : ℕ) → i ≡ m - 1 → rows ≡ rows_of (get_or ps i e) → IsBound test rows place → Sought test ps i place
+sought {K} total test steady ps filled some up m b i e rows place at same c =
+    subst (λ z. Sought test ps z place) (sym at) (record { bound = seek_bound test ps filled m b e some place found total steady up; entered = entered test ps filled m b e some place found })
   where
     found : IsBound test (rows_of (get_or ps (m - 1) e)) place
     found = subst (λ z. IsBound test z place) (same ∙ ap (λ z. rows_of (get_or ps z e)) at) c
@@ -176,9 +178,9 @@ before_less ps filled i (suc j) e lt within =
     ]
 
 pub starts_ascend : {K : Type 0} (ps : List (Part K)) (starts : List ℕ) → IsKept ps starts → Ascends nat_cmp starts
-starts_ascend ps starts kept i j d lt within =
+starts_ascend ps starts kept = ascends_from_pairs nat_cmp starts (λ i j d lt within.
     let there : j < length ps = omega (arith, ap length kept.numbers, length-starts_of 0 ps) in
-    rw (start_is ps starts i d kept (omega arith), start_is ps starts j d kept there) (sym (nat_cmp_is (before ps i) (before ps j) Less (before_less ps kept.filled i j (part_at ps j there) lt there)))
+    rw (start_is ps starts i d kept (omega arith), start_is ps starts j d kept there) (sym (nat_cmp_is (before ps i) (before ps j) Less (before_less ps kept.filled i j (part_at ps j there) lt there))))
 
 module _ (place : ℕ) where
   start_counted : (s : ℕ) → counts true (nat_cmp s place) ≡ true → s ≤ place

@@ -1,4 +1,4 @@
-pub mod Ascending
+pub mod Adding
 pub mod Between
 pub mod Bounds
 pub mod Parts

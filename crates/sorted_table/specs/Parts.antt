@@ -2,7 +2,7 @@
 use Rattle.std.specs.Prelude.{◌≡◌, ℕ, zero, suc, ◌+◌, ◌<◌, ◌≤◌, ◌^◌, Bool, List, [], ◌∷◌, length, take}
 use Rattle.std.specs.List.{All, HoldsAt, flat_map}
 use Rattle.std.specs.declared.cmp.Ordering.{Ordering}
-use Rattle.sorted_table.specs.Ascending.{Ascends}
+use Rattle.vet_base.specs.Ascending.{Ascends}
 use Rattle.sorted_table.specs.declared.part.Part.{Part}
 use Rattle.sorted_table.specs.declared.part.Slot.{Slot}
 use Rattle.sorted_table.specs.declared.part.TheConstants.{FULL}

@@ -1,7 +1,7 @@
 //! How many rows of an ascending list stand before a place of the order.
 ghost use Rattle.std.specs.Prelude.{◌≡◌, ◌-◌, ◌<◌, ◌≤◌, ◌↔◌, IsTrue, length, slice_index_or};
 ghost use Rattle.std.proofs.lemmas.Map.Lookups.{exact_unsigned};
-ghost use Rattle.sorted_table.specs.Ascending.{Ascends};
+ghost use Rattle.vet_base.specs.Ascending.{Ascends};
 ghost use Rattle.sorted_table.specs.Bounds.{IsBound, counts as counts_side, counted};
 
 use crate::{Exact, Stretch};

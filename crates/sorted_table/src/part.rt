@@ -1,7 +1,7 @@
 //! Rows in parts, and how a place in them is found.
 ghost use Rattle.std.specs.Prelude.{◌≡◌, ◌+◌, ◌-◌, ◌<◌, ◌≤◌, ◌^◌, ◌↔◌, true, false, IsTrue, length, slice_index_or};
 ghost use Rattle.std.specs.List.{HoldsAt};
-ghost use Rattle.sorted_table.specs.Ascending.{Ascends};
+ghost use Rattle.vet_base.specs.Ascending.{Ascends};
 ghost use Rattle.sorted_table.specs.Between.{Between};
 ghost use Rattle.sorted_table.specs.Bounds.{IsBound, counted};
 ghost use Rattle.sorted_table.specs.Parts.{rows_of, all_rows, Filled, IsKept, place_of, IsSlot, IsPartOf, BeginsWith};
