@@ -59,9 +59,6 @@ module _ (laws : CodeLaws) (dexes : List Dex) (manifest : Manifest) (layouts : L
       let two : run (within_limits (length gathered.classes) (length gathered.methods) (length gathered.fields) coding.1) ≡ Ok tt = subst (λ (x : Coding). run (within_limits (length gathered.classes) (length gathered.methods) (length gathered.fields) x.1) ≡ Ok tt) c one in
       ok_or_err (run (within_limits (length gathered.classes) (length gathered.methods) (length gathered.fields) coding.1)) tt fault two fails
 
-pub one_answer : (laws : CodeLaws) (dexes : List Dex) (manifest : Manifest) (layouts : Layouts) → OneAnswer dexes manifest layouts
-one_answer laws dexes manifest layouts = record { not_both = λ app fault is f. none laws dexes manifest layouts app is f.found f.first }
-
 module _ (dexes : List Dex) (manifest : Manifest) where
   -- where the hierarchy has a circle, it is not free of them
   no_circle : (one two : Gathered) (name : Name) → run (gathering dexes manifest) ≡ Ok one → run (gathering dexes manifest) ≡ Ok two → IsLeastCircle one.classes name → NoCircle two.classes → ⊥
@@ -98,6 +95,13 @@ module _ (dexes : List Dex) (manifest : Manifest) where
   one_fault f g (of_limits one x a none c h) (of_limits two y b other d k) =
       let same : x ≡ y = one_ok (run (all_codes dexes two.methods)) x y (codes_as one two (Ok x) a b c) d in
       one_err (run (within_limits (length two.classes) (length two.methods) (length two.fields) y.1)) f g (limits_as one two x y (Err f) a b same h) k
+
+-- files that are an app have no fault, and no two faults are the first
+pub one_answer : (laws : CodeLaws) (dexes : List Dex) (manifest : Manifest) (layouts : Layouts) → OneAnswer dexes manifest layouts
+one_answer laws dexes manifest layouts = record {
+  not_both = λ app fault is f. none laws dexes manifest layouts app is f.found f.first;
+  one_fault = λ e f a b. a.shows ∙ (ap shown (one_fault dexes manifest a.found b.found a.first b.first) ∙ sym b.shows);
+}
 
 -- what is told of the first fault is told of no other
 pub told_alone : (dexes : List Dex) (manifest : Manifest) (layouts : Layouts) (fault : Fault) (told f : LinkFault) → FirstFault dexes manifest fault → (told ≡ want_of_memory) ⊎ (told ≡ shown fault) → FirstLinkFault dexes manifest layouts f

@@ -11,6 +11,7 @@ mod flags;
 mod gathered;
 mod hierarchy;
 mod keys;
+mod law;
 mod lift;
 mod linking;
 mod members;
@@ -22,4 +23,5 @@ mod static_list;
 mod statics;
 mod texts;
 
+pub use law::one_app_or_fault;
 pub use linking::{LinkFault, link};

@@ -14,3 +14,4 @@ pub mod Adding
 pub mod FormsSound
 pub mod PositionsSound
 pub mod ListsSound
+pub mod OneForms

@@ -9,6 +9,7 @@ pub mod Lists
 pub mod Manifest
 pub mod Methods
 pub mod Once
+pub mod OneForm
 pub mod Places
 pub mod Positions
 pub mod SameKey

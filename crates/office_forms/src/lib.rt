@@ -10,6 +10,7 @@ mod fault;
 mod fields;
 mod gives;
 mod index;
+mod law;
 mod layouts;
 mod lists;
 mod manifest;
@@ -25,6 +26,7 @@ mod words;
 
 pub use declaration::read_declaration;
 pub use fault::Fault;
+pub use law::one_form_or_fault;
 pub use layouts::read_layouts;
 pub use lists::read_lists;
 pub use manifest::read_manifest;

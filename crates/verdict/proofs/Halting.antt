@@ -34,7 +34,7 @@ use Rattle.verdict.specs.declared.papers.Papers.{Papers}
 use Rattle.verdict.specs.declared.papers.Refusal.{Refusal}
 use Rattle.verdict.specs.declared.parts.Parts.{Parts}
 use Rattle.verdict.specs.Halts.{Halts, HaltsForm, HaltsFault, HaltsLink}
-use Rattle.verdict.specs.OneVerdict.{RefusesOnly}
+use Rattle.verdict.specs.OneVerdict.{LowerLaws, RefusesOnly}
 use Rattle.verdict.specs.Refuses.{HasManifest, HasPapers, AreDex, Refuses, bad_manifest, other_count, bad_layouts, bad_declaration, bad_lists, bad_dex, bad_app}
 use Rattle.verdict.proofs.OneVerdict.{fault_only, unbuilt_only}
 
@@ -42,28 +42,28 @@ use Rattle.verdict.proofs.OneVerdict.{fault_only, unbuilt_only}
 is_this : (parts : Parts) (r this : Refusal) → r ≡ this → RefusesOnly parts this.part this.reason → RefusesOnly parts r.part r.reason
 is_this parts r this same refuses = let P : Refusal → Type 0 = λ x. RefusesOnly parts x.part x.reason in subst P (sym same) refuses
 
-pub of_manifest : (parts : Parts) (e : FormFault) (h : Stop Refusal) → (e ≢ told.Memory → FirstFormFault manifest_form parts.manifest e) → HaltsForm part.Manifest e h → Halts (RefusesOnly parts) h
-of_manifest parts e stops.Memory first halts = tt
-of_manifest parts e (stops.Fault r) first halts = is_this parts r _ halts.1 (fault_only parts part.Manifest (reason.Form e) tt (bad_manifest e (first halts.0)))
+pub of_manifest : (laws : LowerLaws) (parts : Parts) (e : FormFault) (h : Stop Refusal) → (e ≢ told.Memory → FirstFormFault manifest_form parts.manifest e) → HaltsForm part.Manifest e h → Halts (RefusesOnly parts) h
+of_manifest laws parts e stops.Memory first halts = tt
+of_manifest laws parts e (stops.Fault r) first halts = is_this parts r _ halts.1 (fault_only laws parts part.Manifest (reason.Form e) tt (bad_manifest e (first halts.0)))
 
-pub of_count : (parts : Parts) (m : Manifest) (key : List ℕ) → IsForm manifest_form parts.manifest m → m.dex_files ≢ length parts.dex → key ≡ codes "dex_files" → RefusesOnly parts part.Manifest (reason.Form (told.Range key))
-of_count parts m key form other is =
+pub of_count : (laws : LowerLaws) (parts : Parts) (m : Manifest) (key : List ℕ) → IsForm manifest_form parts.manifest m → m.dex_files ≢ length parts.dex → key ≡ codes "dex_files" → RefusesOnly parts part.Manifest (reason.Form (told.Range key))
+of_count laws parts m key form other is =
     let P : List ℕ → Type 0 = λ k. RefusesOnly parts part.Manifest (reason.Form (told.Range k)) in
-    subst P (sym is) (fault_only parts part.Manifest (reason.Form (told.Range (codes "dex_files"))) tt (other_count m form other))
+    subst P (sym is) (fault_only laws parts part.Manifest (reason.Form (told.Range (codes "dex_files"))) tt (other_count m form other))
 
-pub of_layouts : (parts : Parts) (m : Manifest) (e : FormFault) (h : Stop Refusal) → HasManifest parts m → (e ≢ told.Memory → FirstFormFault layouts_form parts.layouts e) → HaltsForm part.Layouts e h → Halts (RefusesOnly parts) h
-of_layouts parts m e stops.Memory manifest first halts = tt
-of_layouts parts m e (stops.Fault r) manifest first halts = is_this parts r _ halts.1 (fault_only parts part.Layouts (reason.Form e) tt (bad_layouts m e manifest (first halts.0)))
+pub of_layouts : (laws : LowerLaws) (parts : Parts) (m : Manifest) (e : FormFault) (h : Stop Refusal) → HasManifest parts m → (e ≢ told.Memory → FirstFormFault layouts_form parts.layouts e) → HaltsForm part.Layouts e h → Halts (RefusesOnly parts) h
+of_layouts laws parts m e stops.Memory manifest first halts = tt
+of_layouts laws parts m e (stops.Fault r) manifest first halts = is_this parts r _ halts.1 (fault_only laws parts part.Layouts (reason.Form e) tt (bad_layouts m e manifest (first halts.0)))
 
-pub of_declaration : (parts : Parts) (m : Manifest) (l : Layouts) (e : FormFault) (h : Stop Refusal) → HasManifest parts m → IsForm layouts_form parts.layouts l
+pub of_declaration : (laws : LowerLaws) (parts : Parts) (m : Manifest) (l : Layouts) (e : FormFault) (h : Stop Refusal) → HasManifest parts m → IsForm layouts_form parts.layouts l
     → (e ≢ told.Memory → FirstFormFault declaration_form parts.declaration e) → HaltsForm part.Declaration e h → Halts (RefusesOnly parts) h
-of_declaration parts m l e stops.Memory manifest layouts first halts = tt
-of_declaration parts m l e (stops.Fault r) manifest layouts first halts = is_this parts r _ halts.1 (fault_only parts part.Declaration (reason.Form e) tt (bad_declaration m l e manifest layouts (first halts.0)))
+of_declaration laws parts m l e stops.Memory manifest layouts first halts = tt
+of_declaration laws parts m l e (stops.Fault r) manifest layouts first halts = is_this parts r _ halts.1 (fault_only laws parts part.Declaration (reason.Form e) tt (bad_declaration m l e manifest layouts (first halts.0)))
 
-pub of_lists : (parts : Parts) (m : Manifest) (l : Layouts) (d : Declaration) (e : FormFault) (h : Stop Refusal) → HasManifest parts m → IsForm layouts_form parts.layouts l → IsForm declaration_form parts.declaration d
+pub of_lists : (laws : LowerLaws) (parts : Parts) (m : Manifest) (l : Layouts) (d : Declaration) (e : FormFault) (h : Stop Refusal) → HasManifest parts m → IsForm layouts_form parts.layouts l → IsForm declaration_form parts.declaration d
     → (e ≢ told.Memory → FirstFormFault lists_form parts.lists e) → HaltsForm part.Lists e h → Halts (RefusesOnly parts) h
-of_lists parts m l d e stops.Memory manifest layouts declaration first halts = tt
-of_lists parts m l d e (stops.Fault r) manifest layouts declaration first halts = is_this parts r _ halts.1 (fault_only parts part.Lists (reason.Form e) tt (bad_lists m l d e manifest layouts declaration (first halts.0)))
+of_lists laws parts m l d e stops.Memory manifest layouts declaration first halts = tt
+of_lists laws parts m l d e (stops.Fault r) manifest layouts declaration first halts = is_this parts r _ halts.1 (fault_only laws parts part.Lists (reason.Form e) tt (bad_lists m l d e manifest layouts declaration (first halts.0)))
 
 -- one DEX file more
 pub one_more : (files : List (List ℕ)) (i : ℕ) (file : List ℕ) (dexes : List Dex) (dex : Dex) → AreDex (take i files) dexes → i < length files → file ≡ get_or files i file → IsDex file dex
@@ -86,20 +86,20 @@ told_of parts papers dexes i file fault has stand there other (inr first) =
     let P : DexFault → Type 0 = λ f. Refuses parts (part.Dex i) (reason.Dex f) in
     subst P (sym first.1) (bad_dex papers i first.0 has (record { before = dexes; stand = stand; file = file; there = there; fails = first.2 }))
 
-pub of_dex : (parts : Parts) (papers : Papers) (dexes : List Dex) (i : ℕ) (file : List ℕ) (fault : DexFault) (h : Stop Refusal) → HasPapers parts papers → AreDex (take i parts.dex) dexes → i < length parts.dex
+pub of_dex : (laws : LowerLaws) (parts : Parts) (papers : Papers) (dexes : List Dex) (i : ℕ) (file : List ℕ) (fault : DexFault) (h : Stop Refusal) → HasPapers parts papers → AreDex (take i parts.dex) dexes → i < length parts.dex
     → file ≡ get_or parts.dex i file → IsToldOf file fault → HaltsFault i fault h → Halts (RefusesOnly parts) h
-of_dex parts papers dexes i file fault stops.Memory has stand lt is told halts = tt
-of_dex parts papers dexes i file fault (stops.Fault r) has stand lt is told halts =
-    is_this parts r _ halts.1 (fault_only parts (part.Dex i) (reason.Dex fault) tt (told_of parts papers dexes i file fault has stand (slice_get_read parts.dex (length parts.dex) i file refl lt is) halts.0 told))
+of_dex laws parts papers dexes i file fault stops.Memory has stand lt is told halts = tt
+of_dex laws parts papers dexes i file fault (stops.Fault r) has stand lt is told halts =
+    is_this parts r _ halts.1 (fault_only laws parts (part.Dex i) (reason.Dex fault) tt (told_of parts papers dexes i file fault has stand (slice_get_read parts.dex (length parts.dex) i file refl lt is) halts.0 told))
 
-pub of_link : (parts : Parts) (papers : Papers) (dexes : List Dex) (fault : LinkFault) (h : Stop Refusal) → HasPapers parts papers → AreDex parts.dex dexes
+pub of_link : (laws : LowerLaws) (parts : Parts) (papers : Papers) (dexes : List Dex) (fault : LinkFault) (h : Stop Refusal) → HasPapers parts papers → AreDex parts.dex dexes
     → (fault ≢ link_fault.Memory → FirstLinkFault dexes papers.manifest papers.layouts fault) → HaltsLink fault h → Halts (RefusesOnly parts) h
-of_link parts papers dexes fault stops.Memory has stand first halts = tt
-of_link parts papers dexes fault (stops.Fault r) has stand first halts = is_this parts r _ halts.1 (fault_only parts part.App (reason.Link fault) tt (bad_app papers dexes fault (record { forms = has; files = stand }) (first halts.0)))
+of_link laws parts papers dexes fault stops.Memory has stand first halts = tt
+of_link laws parts papers dexes fault (stops.Fault r) has stand first halts = is_this parts r _ halts.1 (fault_only laws parts part.App (reason.Link fault) tt (bad_app papers dexes fault (record { forms = has; files = stand }) (first halts.0)))
 
-pub of_unbuilt : (parts : Parts) (papers : Papers) (dexes : List Dex) (app : App) → HasPapers parts papers → AreDex parts.dex dexes → IsApp dexes papers.manifest papers.layouts app → OnlyApp dexes papers.manifest papers.layouts app
+pub of_unbuilt : (laws : LowerLaws) (parts : Parts) (papers : Papers) (dexes : List Dex) (app : App) → HasPapers parts papers → AreDex parts.dex dexes → IsApp dexes papers.manifest papers.layouts app → OnlyApp dexes papers.manifest papers.layouts app
     → is_straight app papers.lists ≡ false → RefusesOnly parts part.App reason.Unbuilt
-of_unbuilt parts papers dexes app has stand is_app only bent = unbuilt_only parts papers dexes app (record { forms = has; files = stand }) only is_app bent
+of_unbuilt laws parts papers dexes app has stand is_app only bent = unbuilt_only laws parts papers dexes app (record { forms = has; files = stand }) only is_app bent
 
 -- the files are no other app where each is the one that was linked
 pub only_linked : (dexes : List Dex) (manifest : Manifest) (layouts : Layouts) (app : App)

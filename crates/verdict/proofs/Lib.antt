@@ -1,7 +1,6 @@
 pub mod Called
 pub mod Found
 pub mod Halting
-pub mod OneForm
 pub mod OneReading
 pub mod OneVerdict
 pub mod Outcomes

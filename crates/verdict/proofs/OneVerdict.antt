@@ -12,14 +12,14 @@ use Rattle.app_machine.specs.declared.papers.Manifest.{Manifest}
 use Rattle.app_machine.specs.declared.papers.Layouts.{Layouts}
 use Rattle.app_machine.specs.declared.papers.Declaration.{Declaration}
 use Rattle.app_link.specs.declared.linking.LinkFault.{LinkFault}
-use Rattle.app_link.specs.FirstLinkFault.{FirstLinkFault, shown as shown_link}
+use Rattle.app_link.specs.FirstLinkFault.{FirstLinkFault}
 use Rattle.app_link.specs.IsApp.{IsApp}
 use Rattle.app_link.specs.OneAnswer.{OnlyApp}
-use Rattle.app_link.proofs.OneAnswer.{one_answer, one_fault}
 use Rattle.office_forms.specs.declared.fault.Fault.{Fault as FormFailure}
 use Rattle.office_forms.specs.declared.told.FormFault.{FormFault}
 use Rattle.office_forms.specs.declared.told.FormFault.TheVariants.{Range}
 use Rattle.office_forms.specs.Form.{IsForm, FirstFormFault}
+use Rattle.office_forms.specs.OneForm.{OneForm}
 use Rattle.office_forms.specs.Manifest.{manifest_form}
 use Rattle.office_forms.specs.Layouts.{layouts_form}
 use Rattle.office_forms.specs.Declaration.{declaration_form}
@@ -33,10 +33,9 @@ use Rattle.verdict.specs.declared.outcome.Reason.{Reason}
 use Rattle.verdict.specs.declared.outcome.Reason.TheVariants as reason
 use Rattle.verdict.specs.declared.papers.Papers.{Papers}
 use Rattle.verdict.specs.declared.parts.Parts.{Parts}
-use Rattle.verdict.specs.OneVerdict.{OnlyOutcome, RefusesOnly}
+use Rattle.verdict.specs.OneVerdict.{LowerLaws, OnlyOutcome, RefusesOnly}
 use Rattle.verdict.specs.Refuses.{HasManifest, HasPapers, AreDex, IsFirstBad, Reads, Refuses, bad_manifest, other_count, bad_layouts, bad_declaration, bad_lists, bad_dex, bad_app, unbuilt}
 use Rattle.verdict.specs.Verdict.{Verdict, refused, judged, outcome_for}
-use Rattle.verdict.proofs.OneForm.{one_form, form_or_fault, one_form_fault}
 use Rattle.verdict.proofs.OneReading.{one_list, all_or_bad, one_bad}
 
 -- a step that stops with the outcome, or goes on with a value
@@ -56,12 +55,12 @@ module _ {A : Type 0} (Good : A → Type 0) (Stops : Outcome → Type 0) (Rest :
 abbrev BadForm : {A : Type 0} → (Members → Script FormFailure A) → List ℕ → Part → Outcome → Type 0
 BadForm form text part o = (e : FormFault) × FirstFormFault form text e × (o ≡ Refused part (reason.Form e))
 
-module _ {A : Type 0} (form : Members → Script FormFailure A) (text : List ℕ) (part : Part) (Rest : A → Outcome → Type 0) where
+module _ {A : Type 0} (form : Members → Script FormFailure A) (text : List ℕ) (part : Part) (Rest : A → Outcome → Type 0) (law : OneForm form text) where
   one_form_step : ((a : A) → IsForm form text a → (o p : Outcome) → Rest a o → Rest a p → o ≡ p) → (o p : Outcome) → Step (IsForm form text) (BadForm form text part) Rest o → Step (IsForm form text) (BadForm form text part) Rest p → o ≡ p
-  one_form_step rest = one_step (IsForm form text) (BadForm form text part) Rest one (λ a o is bad. form_or_fault form text a bad.0 is bad.1) (one_form form text) rest
+  one_form_step rest = one_step (IsForm form text) (BadForm form text part) Rest one (λ a o is bad. law.not_both a bad.0 is bad.1) law.one_form rest
     where
       one : (o p : Outcome) → BadForm form text part o → BadForm form text part p → o ≡ p
-      one o p a b = a.2 ∙ (ap (λ (e : FormFault). Refused part (reason.Form e)) (one_form_fault form text a.0 b.0 a.1 b.1) ∙ sym b.2)
+      one o p a b = a.2 ∙ (ap (λ (e : FormFault). Refused part (reason.Form e)) (law.one_fault a.0 b.0 a.1 b.1) ∙ sym b.2)
 
 -- every reason but `Unbuilt`
 abbrev pub IsFault : Reason → Type 0
@@ -91,7 +90,7 @@ BadLink papers dexes o = (fault : LinkFault) × FirstLinkFault dexes papers.mani
 abbrev AtLink : Papers → List Dex → Outcome → Type 0
 AtLink papers dexes o = Step (IsApp dexes papers.manifest papers.layouts) (BadLink papers dexes) (AtFlow papers) o
 
-module _ (parts : Parts) where
+module _ (laws : LowerLaws) (parts : Parts) where
   abbrev BadFile : Outcome → Type 0
   BadFile o = (i : ℕ) × (fault : Fault) × IsFirstBad parts.dex i fault × (o ≡ Refused (part.Dex i) (reason.Dex (shown fault)))
 
@@ -150,42 +149,39 @@ module _ (parts : Parts) where
   one_flow papers app o p (inr a) (inl b) = let both : true ≡ false = sym a.0 ∙ b.0 in absurd cc
   one_flow papers app o p (inr a) (inr b) = a.1 ∙ sym b.1
 
-  told_once : (dexes : List Dex) (manifest : Manifest) (layouts : Layouts) (e f : LinkFault) → FirstLinkFault dexes manifest layouts e → FirstLinkFault dexes manifest layouts f → e ≡ f
-  told_once dexes manifest layouts e f a b = a.shows ∙ (ap shown_link (one_fault dexes manifest a.found b.found a.first b.first) ∙ sym b.shows)
-
   module _ (one_app : OneApp parts) where
     one_link : (papers : Papers) (dexes : List Dex) → Reads parts papers dexes → (o p : Outcome) → AtLink papers dexes o → AtLink papers dexes p → o ≡ p
     one_link papers dexes reads = one_step (IsApp dexes papers.manifest papers.layouts) (BadLink papers dexes) (AtFlow papers) one
-        (λ app o is bad. (one_answer dexes papers.manifest papers.layouts).not_both app bad.0 is bad.1) (λ a b. one_app papers dexes a b reads) (λ app is. one_flow papers app)
+        (λ app o is bad. (laws.links dexes papers.manifest papers.layouts).not_both app bad.0 is bad.1) (λ a b. one_app papers dexes a b reads) (λ app is. one_flow papers app)
       where
         one : (o p : Outcome) → BadLink papers dexes o → BadLink papers dexes p → o ≡ p
-        one o p a b = a.2 ∙ (ap (λ (e : LinkFault). Refused part.App (reason.Link e)) (told_once dexes papers.manifest papers.layouts a.0 b.0 a.1 b.1) ∙ sym b.2)
+        one o p a b = a.2 ∙ (ap (λ (e : LinkFault). Refused part.App (reason.Link e)) ((laws.links dexes papers.manifest papers.layouts).one_fault a.0 b.0 a.1 b.1) ∙ sym b.2)
 
     one_files : (papers : Papers) → HasPapers parts papers → (o p : Outcome) → AtFiles papers o → AtFiles papers p → o ≡ p
-    one_files papers has = one_step (AreDex parts.dex) BadFile (AtLink papers) one (λ dexes o stand bad. all_or_bad parts.dex dexes bad.0 bad.1 stand bad.2) (one_list parts.dex)
+    one_files papers has = one_step (AreDex parts.dex) BadFile (AtLink papers) one (λ dexes o stand bad. all_or_bad laws.files parts.dex dexes bad.0 bad.1 stand bad.2) (one_list laws.files parts.dex)
         (λ dexes stand. one_link papers dexes (record { forms = has; files = stand }))
       where
         one : (o p : Outcome) → BadFile o → BadFile p → o ≡ p
         one o p a b =
-            let same = one_bad parts.dex a.0 b.0 a.1 b.1 a.2 b.2 in
+            let same = one_bad laws.files parts.dex a.0 b.0 a.1 b.1 a.2 b.2 in
             a.3 ∙ (ap (λ (i : ℕ). Refused (part.Dex i) (reason.Dex (shown a.1))) same.0 ∙ (ap (λ (f : Fault). Refused (part.Dex b.0) (reason.Dex (shown f))) same.1 ∙ sym b.3))
 
     one_lists : (m : Manifest) (l : Layouts) (d : Declaration) → HasManifest parts m → IsForm layouts_form parts.layouts l → IsForm declaration_form parts.declaration d → (o p : Outcome) → AtLists m l d o → AtLists m l d p → o ≡ p
-    one_lists m l d has layouts declaration = one_form_step lists_form parts.lists part.Lists (λ ls. AtFiles (papers_of m l d ls))
+    one_lists m l d has layouts declaration = one_form_step lists_form parts.lists part.Lists (λ ls. AtFiles (papers_of m l d ls)) (laws.forms.lists parts.lists)
         (λ ls lists. one_files (papers_of m l d ls) (record { manifest = has; layouts = layouts; declaration = declaration; lists = lists }))
 
     one_declaration : (m : Manifest) (l : Layouts) → HasManifest parts m → IsForm layouts_form parts.layouts l → (o p : Outcome) → AtDeclaration m l o → AtDeclaration m l p → o ≡ p
-    one_declaration m l has layouts = one_form_step declaration_form parts.declaration part.Declaration (AtLists m l) (λ d declaration. one_lists m l d has layouts declaration)
+    one_declaration m l has layouts = one_form_step declaration_form parts.declaration part.Declaration (AtLists m l) (laws.forms.declaration parts.declaration) (λ d declaration. one_lists m l d has layouts declaration)
 
     one_layouts : (m : Manifest) → HasManifest parts m → (o p : Outcome) → AtLayouts m o → AtLayouts m p → o ≡ p
-    one_layouts m has = one_form_step layouts_form parts.layouts part.Layouts (AtDeclaration m) (λ l layouts. one_declaration m l has layouts)
+    one_layouts m has = one_form_step layouts_form parts.layouts part.Layouts (AtDeclaration m) (laws.forms.layouts parts.layouts) (λ l layouts. one_declaration m l has layouts)
 
     one_count : (m : Manifest) → IsForm manifest_form parts.manifest m → (o p : Outcome) → AtCount m o → AtCount m p → o ≡ p
     one_count m form = one_step (IsCounted m) (BadCount m) (λ _. AtLayouts m) (λ o p a b. a.1 ∙ sym b.1) (λ _ o is bad. bad.0 is) (λ _ _ a b. refl)
         (λ _ count. one_layouts m (record { form = form; count = count }))
 
     one_outcome : (o p : Outcome) → Verdict parts o → Verdict parts p → o ≡ p
-    one_outcome o p a b = one_form_step manifest_form parts.manifest part.Manifest AtCount one_count o p (of_verdict o a) (of_verdict p b)
+    one_outcome o p a b = one_form_step manifest_form parts.manifest part.Manifest AtCount (laws.forms.manifest parts.manifest) one_count o p (of_verdict o a) (of_verdict p b)
 
     refuses_only : (part : Part) (why : Reason) → Refuses parts part why → RefusesOnly parts part why
     refuses_only part why refuses = record { refuses = refuses; only = λ other is. one_outcome other (Refused part why) is (refused part why refuses) }
@@ -198,9 +194,9 @@ module _ (parts : Parts) where
 
   as_read : (papers others : Papers) (dexes files : List Dex) (app : App) → Reads parts papers dexes → Reads parts others files → IsApp dexes papers.manifest papers.layouts app → IsApp files others.manifest others.layouts app
   as_read papers others dexes files app one two is =
-      let list : dexes ≡ files = one_list parts.dex dexes files one.files two.files in
-      let manifest : papers.manifest ≡ others.manifest = one_form manifest_form parts.manifest papers.manifest others.manifest one.forms.manifest.form two.forms.manifest.form in
-      let layouts : papers.layouts ≡ others.layouts = one_form layouts_form parts.layouts papers.layouts others.layouts one.forms.layouts two.forms.layouts in
+      let list : dexes ≡ files = one_list laws.files parts.dex dexes files one.files two.files in
+      let manifest : papers.manifest ≡ others.manifest = (laws.forms.manifest parts.manifest).one_form papers.manifest others.manifest one.forms.manifest.form two.forms.manifest.form in
+      let layouts : papers.layouts ≡ others.layouts = (laws.forms.layouts parts.layouts).one_form papers.layouts others.layouts one.forms.layouts two.forms.layouts in
       let first : IsApp files papers.manifest papers.layouts app = subst (λ (ds : List Dex). IsApp ds papers.manifest papers.layouts app) list is in
       let second : IsApp files others.manifest papers.layouts app = subst (λ (m : Manifest). IsApp files m papers.layouts app) manifest first in
       subst (λ (l : Layouts). IsApp files others.manifest l app) layouts second
@@ -210,15 +206,15 @@ module _ (parts : Parts) where
   one_app_of papers dexes app reads only others files a b too one two = only.only a (as_read others papers files dexes a too reads one) ∙ sym (only.only b (as_read others papers files dexes b too reads two))
 
   fault_alone : (part : Part) (why : Reason) → IsFault why → Refuses parts part why → OneApp parts
-  fault_alone _ _ told (bad_manifest e first) = no_app (λ papers dexes app reads is. form_or_fault manifest_form parts.manifest papers.manifest e reads.forms.manifest.form first)
+  fault_alone _ _ told (bad_manifest e first) = no_app (λ papers dexes app reads is. (laws.forms.manifest parts.manifest).not_both papers.manifest e reads.forms.manifest.form first)
   fault_alone _ _ told (other_count m form other) =
-      no_app (λ papers dexes app reads is. other (ap (λ (n : Manifest). n.dex_files) (one_form manifest_form parts.manifest m papers.manifest form reads.forms.manifest.form) ∙ reads.forms.manifest.count))
-  fault_alone _ _ told (bad_layouts m e has first) = no_app (λ papers dexes app reads is. form_or_fault layouts_form parts.layouts papers.layouts e reads.forms.layouts first)
-  fault_alone _ _ told (bad_declaration m l e has layouts first) = no_app (λ papers dexes app reads is. form_or_fault declaration_form parts.declaration papers.declaration e reads.forms.declaration first)
-  fault_alone _ _ told (bad_lists m l d e has layouts declaration first) = no_app (λ papers dexes app reads is. form_or_fault lists_form parts.lists papers.lists e reads.forms.lists first)
-  fault_alone _ _ told (bad_dex papers i fault has first) = no_app (λ others files app reads is. all_or_bad parts.dex files i fault reads.files first)
+      no_app (λ papers dexes app reads is. other (ap (λ (n : Manifest). n.dex_files) ((laws.forms.manifest parts.manifest).one_form m papers.manifest form reads.forms.manifest.form) ∙ reads.forms.manifest.count))
+  fault_alone _ _ told (bad_layouts m e has first) = no_app (λ papers dexes app reads is. (laws.forms.layouts parts.layouts).not_both papers.layouts e reads.forms.layouts first)
+  fault_alone _ _ told (bad_declaration m l e has layouts first) = no_app (λ papers dexes app reads is. (laws.forms.declaration parts.declaration).not_both papers.declaration e reads.forms.declaration first)
+  fault_alone _ _ told (bad_lists m l d e has layouts declaration first) = no_app (λ papers dexes app reads is. (laws.forms.lists parts.lists).not_both papers.lists e reads.forms.lists first)
+  fault_alone _ _ told (bad_dex papers i fault has first) = no_app (λ others files app reads is. all_or_bad laws.files parts.dex files i fault reads.files first)
   fault_alone _ _ told (bad_app papers dexes fault reads first) =
-      no_app (λ others files app too is. (one_answer dexes papers.manifest papers.layouts).not_both app fault (as_read others papers files dexes app too reads is) first)
+      no_app (λ others files app too is. (laws.links dexes papers.manifest papers.layouts).not_both app fault (as_read others papers files dexes app too reads is) first)
   fault_alone _ _ told (unbuilt papers dexes app reads is bent) = absurd told
 
   -- a fault is the only outcome

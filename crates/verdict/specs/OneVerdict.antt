@@ -1,5 +1,8 @@
 -- That the parts of an app come to one outcome.
 use Rattle.std.specs.Prelude.{◌≡◌}
+use Rattle.dex_reader.specs.Dex.{OneDexOrFault}
+use Rattle.app_link.specs.OneAnswer.{OneAppOrFault}
+use Rattle.office_forms.specs.OneForm.{OneFormOrFault}
 use Rattle.verdict.specs.declared.outcome.Outcome.{Outcome}
 use Rattle.verdict.specs.declared.outcome.Outcome.TheVariants.{Refused}
 use Rattle.verdict.specs.declared.outcome.Part.{Part}
@@ -7,6 +10,12 @@ use Rattle.verdict.specs.declared.outcome.Reason.{Reason}
 use Rattle.verdict.specs.declared.parts.Parts.{Parts}
 use Rattle.verdict.specs.Refuses.{Refuses}
 use Rattle.verdict.specs.Verdict.{Verdict}
+
+-- a form, a DEX file and the files of an app each have one value, or one first fault
+pub record LowerLaws : Type 0 where
+  pub forms : OneFormOrFault
+  pub files : OneDexOrFault
+  pub links : OneAppOrFault
 
 -- the parts come to no other outcome
 abbrev pub OnlyOutcome : Parts → Outcome → Type 0

@@ -6,6 +6,7 @@ ghost use Rattle.verdict.specs.Halts.{Halts, HaltsFault};
 ghost use Rattle.verdict.specs.OneVerdict.{RefusesOnly};
 ghost use Rattle.verdict.specs.Refuses.{AreDex, HasPapers};
 
+use crate::laws::lower_laws;
 use crate::papers::{Halt, Papers, Refusal};
 use crate::{Part, Parts, Reason};
 use dex_reader::{Dex, DexFault, read_dex};
@@ -40,6 +41,7 @@ fn dex_at(
     ensures sound { IfOk result SoundDex }
     ensures err { IfErr result (λ h. Halts (RefusesOnly parts.now) h) }
 {
+    lower_laws();
     let file = parts.dex.at(i as usize);
     match read_dex(alloc, file.as_slice()) {
         Ok(dex) => Ok(dex),

@@ -18,6 +18,7 @@ ghost use Rattle.verdict.specs.Verdict.{Verdict, IsSafeApp, outcome_for};
 use crate::causes::causes_of;
 use crate::dexes::dexes_of;
 use crate::findings::findings_of;
+use crate::laws::lower_laws;
 use crate::papers::{Halt, Papers, Refusal, papers_of};
 use crate::{Cause, Finding, Outcome, Part, Parts, Reason};
 use app_link::{LinkFault, link};
@@ -52,6 +53,7 @@ fn linked_app(alloc: Global, parts: &Parts, papers: &Papers, dexes: &[Dex]) -> R
     ensures sound { IfOk result SoundApp }
     ensures err { IfErr result (λ h. Halts (RefusesOnly parts.now) h) }
 {
+    lower_laws();
     match link(alloc, dexes, &papers.manifest, &papers.layouts) {
         Ok(app) => Ok(app),
         Err(fault) => Err(halt_of(fault)),
@@ -69,6 +71,7 @@ fn check_straight(parts: &Parts, papers: &Papers, dexes: &[Dex], app: &App) -> R
     ensures straight { OnOk result (IsStraight app.now papers.now.lists) }
     ensures err { IfErr result (λ h. Halts (RefusesOnly parts.now) h) }
 {
+    lower_laws();
     if !is_straight(app, &papers.lists) {
         return Err(Stop::Fault(Refusal {
             part: Part::App,
@@ -119,6 +122,7 @@ fn judged(alloc: Global, parts: &Parts) -> Result<Outcome, Halt>
     ensures safe { IfOk result (λ o. o ≡ Outcome.Clear → IsSafeApp parts.now) }
     ensures err { IfErr result (λ h. Halts (RefusesOnly parts.now) h) }
 {
+    lower_laws();
     let papers = papers_of(alloc, parts)?;
     let dexes = dexes_of(alloc, parts, &papers)?;
     let app = linked_app(alloc, parts, &papers, &dexes)?;

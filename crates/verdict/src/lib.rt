@@ -6,6 +6,7 @@ mod causes;
 mod dexes;
 mod findings;
 mod judging;
+mod laws;
 mod names;
 mod outcome;
 mod papers;

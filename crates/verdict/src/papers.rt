@@ -12,6 +12,7 @@ ghost use Rattle.verdict.specs.Halts.{Halts, HaltsForm};
 ghost use Rattle.verdict.specs.OneVerdict.{RefusesOnly};
 ghost use Rattle.verdict.specs.Refuses.{HasManifest, HasPapers};
 
+use crate::laws::lower_laws;
 use crate::{Part, Parts, Reason};
 use app_model::{Declaration, Layouts, Lists, Manifest};
 use office_forms::{FormFault, read_declaration, read_layouts, read_lists, read_manifest};
@@ -54,6 +55,7 @@ fn manifest_form_of(alloc: Global, parts: &Parts) -> Result<Manifest, Halt>
     ensures sound { IfOk result SoundManifest }
     ensures err { IfErr result (λ h. Halts (RefusesOnly parts.now) h) }
 {
+    lower_laws();
     match read_manifest(alloc, parts.manifest.as_slice()) {
         Ok(manifest) => Ok(manifest),
         Err(fault) => Err(halt_of(Part::Manifest, fault)),
@@ -67,6 +69,7 @@ fn manifest_of(alloc: Global, parts: &Parts) -> Result<Manifest, Halt>
     ensures sound { IfOk result SoundManifest }
     ensures err { IfErr result (λ h. Halts (RefusesOnly parts.now) h) }
 {
+    lower_laws();
     let manifest = manifest_form_of(alloc, parts)?;
     if manifest.dex_files as usize != parts.dex.len() {
         let key = Name::from_bytes(alloc, b"dex_files".as_slice())?;
@@ -84,6 +87,7 @@ fn layouts_of(alloc: Global, parts: &Parts, manifest: &Manifest) -> Result<Layou
     ensures sound { IfOk result SoundLayouts }
     ensures err { IfErr result (λ h. Halts (RefusesOnly parts.now) h) }
 {
+    lower_laws();
     match read_layouts(alloc, parts.layouts.as_slice()) {
         Ok(layouts) => Ok(layouts),
         Err(fault) => Err(halt_of(Part::Layouts, fault)),
@@ -101,6 +105,7 @@ fn declaration_of(
     ensures ok { IfOk result (λ d. IsForm declaration_form parts.now.declaration d) }
     ensures err { IfErr result (λ h. Halts (RefusesOnly parts.now) h) }
 {
+    lower_laws();
     match read_declaration(alloc, parts.declaration.as_slice()) {
         Ok(declaration) => Ok(declaration),
         Err(fault) => Err(halt_of(Part::Declaration, fault)),
@@ -121,6 +126,7 @@ fn lists_of(
     ensures lists { IfOk result SoundLists }
     ensures err { IfErr result (λ h. Halts (RefusesOnly parts.now) h) }
 {
+    lower_laws();
     match read_lists(alloc, parts.lists.as_slice()) {
         Ok(lists) => Ok(lists),
         Err(fault) => Err(halt_of(Part::Lists, fault)),

@@ -7,19 +7,19 @@ use Rattle.app_machine.specs.declared.papers.Manifest.{Manifest}
 use Rattle.office_forms.specs.declared.told.FormFault.{FormFault}
 use Rattle.office_forms.specs.Form.{IsForm, FirstFormFault}
 use Rattle.office_forms.specs.Manifest.{manifest_form}
+use Rattle.office_forms.specs.OneForm.{OneFormOrFault}
 use Rattle.verdict.specs.declared.outcome.Outcome.{Outcome}
 use Rattle.verdict.specs.declared.outcome.Outcome.TheVariants.{Refused}
 use Rattle.verdict.specs.declared.outcome.Part.TheVariants.{Manifest as manifest_part}
 use Rattle.verdict.specs.declared.outcome.Reason.TheVariants.{Form}
 use Rattle.verdict.specs.declared.parts.Parts.{Parts}
 use Rattle.verdict.specs.Verdict.{Verdict}
-use Rattle.verdict.proofs.OneForm.{one_form, form_or_fault, one_form_fault}
 use Rattle.vetting_desk.specs.Answer.{ComesTo, IsOutcome}
 use Rattle.vetting_desk.specs.Folder.{Held, Refusal, part_at, parts_at, Gathers, no_manifest, bad_manifest, others}
 use Rattle.vetting_desk.specs.Reading.{GathersTold}
 use Rattle.vet_base.proofs.Results.{one_ok, one_err, ok_or_err}
 
-module _ (held : Held) (dir : List ℕ) where
+module _ (forms : OneFormOrFault) (held : Held) (dir : List ℕ) where
   same_text : (text seen : List ℕ) → run (part_at held dir manifest_part) ≡ Ok text → run (part_at held dir manifest_part) ≡ Ok seen → text ≡ seen
   same_text text seen a b = one_ok (run (part_at held dir manifest_part)) text seen a b
 
@@ -41,27 +41,27 @@ module _ (held : Held) (dir : List ℕ) where
   one_gathered _ b (no_manifest r first) (others seen n _ second is rest) = absurd (no_text r seen first second)
   one_gathered _ _ (bad_manifest text e first fails) (no_manifest s second) = absurd (no_text s text second first)
   one_gathered _ _ (bad_manifest text e first fails) (bad_manifest seen f second too) =
-      ap (λ (x : FormFault). Err (manifest_part, Form x)) (one_form_fault manifest_form seen e f (fault_as text seen e (same_text text seen first second) fails) too)
-  one_gathered _ b (bad_manifest text e first fails) (others seen n _ second is rest) = absurd (form_or_fault manifest_form seen n e is (fault_as text seen e (same_text text seen first second) fails))
+      ap (λ (x : FormFault). Err (manifest_part, Form x)) ((forms.manifest seen).one_fault e f (fault_as text seen e (same_text text seen first second) fails) too)
+  one_gathered _ b (bad_manifest text e first fails) (others seen n _ second is rest) = absurd ((forms.manifest seen).not_both n e is (fault_as text seen e (same_text text seen first second) fails))
   one_gathered a _ (others text m _ first is rest) (no_manifest s second) = absurd (no_text s text second first)
-  one_gathered a _ (others text m _ first is rest) (bad_manifest seen f second fails) = absurd (form_or_fault manifest_form seen m f (form_as text seen m (same_text text seen first second) is) fails)
+  one_gathered a _ (others text m _ first is rest) (bad_manifest seen f second fails) = absurd ((forms.manifest seen).not_both m f (form_as text seen m (same_text text seen first second) is) fails)
   one_gathered a b (others text m _ first is rest) (others seen n _ second too more) =
       let same : text ≡ seen = same_text text seen first second in
-      sym rest ∙ (same_others text seen m n same (one_form manifest_form seen m n (form_as text seen m same is) too) ∙ more)
+      sym rest ∙ (same_others text seen m n same ((forms.manifest seen).one_form m n (form_as text seen m same is) too) ∙ more)
 
-comes_as : (dir : List ℕ) (told : Option Told) (gathered : Result Parts Refusal) (other : Outcome) → GathersTold told dir gathered → IsTrue (is_some told) → IsOutcome dir told other → ComesTo gathered other
-comes_as dir told gathered other gathers tells is = subst (λ (g : Result Parts Refusal). ComesTo g other) (one_gathered (held_by told) dir is.gathered gathered (is.gathers tells) (gathers tells)) is.comes
+comes_as : (forms : OneFormOrFault) (dir : List ℕ) (told : Option Told) (gathered : Result Parts Refusal) (other : Outcome) → GathersTold told dir gathered → IsTrue (is_some told) → IsOutcome dir told other → ComesTo gathered other
+comes_as forms dir told gathered other gathers tells is = subst (λ (g : Result Parts Refusal). ComesTo g other) (one_gathered forms (held_by told) dir is.gathered gathered (is.gathers tells) (gathers tells)) is.comes
 
 -- parts that were judged come to nothing else
-pub only_of_parts : {E : Type 0} (dir : List ℕ) (told : Option Told) (parts : Parts) (outcome other : Outcome)
+pub only_of_parts : {E : Type 0} (forms : OneFormOrFault) (dir : List ℕ) (told : Option Told) (parts : Parts) (outcome other : Outcome)
     → GathersTold told dir (Ok parts) → ((o : Outcome) → Verdict parts o → (let r : Result Outcome E = Ok outcome in r ≡ Ok o) ⊎ (let r : Result Outcome E = Ok outcome in IsErr r))
     → IsTrue (is_some told) → IsOutcome dir told other → other ≡ outcome
-only_of_parts {E} dir told parts outcome other gathers one tells is = of_answer (one other (comes_as dir told (Ok parts) other gathers tells is))
+only_of_parts {E} forms dir told parts outcome other gathers one tells is = of_answer (one other (comes_as forms dir told (Ok parts) other gathers tells is))
   where
     of_answer : (let r : Result Outcome E = Ok outcome in r ≡ Ok other) ⊎ (let r : Result Outcome E = Ok outcome in IsErr r) → other ≡ outcome
     of_answer (inl same) = cc
     of_answer (inr fails) = absurd cc
 
 -- nor does a folder that is refused
-pub only_of_refusal : (dir : List ℕ) (told : Option Told) (refusal : Refusal) (other : Outcome) → GathersTold told dir (Err refusal) → IsTrue (is_some told) → IsOutcome dir told other → other ≡ Refused refusal.0 refusal.1
-only_of_refusal dir told refusal other gathers tells is = comes_as dir told (Err refusal) other gathers tells is
+pub only_of_refusal : (forms : OneFormOrFault) (dir : List ℕ) (told : Option Told) (refusal : Refusal) (other : Outcome) → GathersTold told dir (Err refusal) → IsTrue (is_some told) → IsOutcome dir told other → other ≡ Refused refusal.0 refusal.1
+only_of_refusal forms dir told refusal other gathers tells is = comes_as forms dir told (Err refusal) other gathers tells is

@@ -2,6 +2,7 @@
 use Rattle.std.proofs.Common.{◌≡◌, ◌⊎◌, ℕ, List, Option, Some, None, Result, Ok, Err, refl, sym, ◌∙◌, ap, subst, arith}
 use Rattle.std.specs.Prelude.{IsErr}
 use Rattle.vet_base.specs.Outside.{Told}
+use Rattle.office_forms.specs.OneForm.{OneFormOrFault}
 use Rattle.verdict.specs.declared.outcome.Outcome.{Outcome}
 use Rattle.verdict.specs.declared.outcome.Outcome.TheVariants.{Clear, Flagged, Undecided, Refused}
 use Rattle.verdict.specs.declared.outcome.Part.{Part}
@@ -34,13 +35,13 @@ same_files None = tt
 same_files (Some told) = refl
 
 -- parts that were gathered and judged
-pub said_of_parts : {E : Type 0} (dir : List ℕ) (n : ℕ) (old new : Option Told) (before after : ℕ) (parts : Parts) (outcome : Outcome)
+pub said_of_parts : {E : Type 0} (forms : OneFormOrFault) (dir : List ℕ) (n : ℕ) (old new : Option Told) (before after : ℕ) (parts : Parts) (outcome : Outcome)
     → GathersTold old dir (Ok parts) → new ≡ old → after ≡ before → Verdict parts outcome → (outcome ≡ Clear → IsSafeApp parts)
     → ((o : Outcome) → Verdict parts o → (let r : Result Outcome E = Ok outcome in r ≡ Ok o) ⊎ (let r : Result Outcome E = Ok outcome in IsErr r))
     → IsSaid (Some (Check dir n)) old new before after (Vetted outcome)
-said_of_parts dir n old new before after parts outcome gathers told count verdict safe one = record {
+said_of_parts forms dir n old new before after parts outcome gathers told count verdict safe one = record {
   answers = (outcome, record { gathered = Ok parts; gathers = gathers; comes = verdict }, refl);
-  only = λ tells other is. is.2 ∙ ap (λ (o : Outcome). Vetted o) (only_of_parts dir old parts outcome is.0 gathers one tells is.1);
+  only = λ tells other is. is.2 ∙ ap (λ (o : Outcome). Vetted o) (only_of_parts forms dir old parts outcome is.0 gathers one tells is.1);
   usage = λ four. absurd (below_four outcome four);
   no_command = λ none. absurd cc;
   safe = λ zero. record { parts = parts; holds = λ tells. holds_parts _ dir parts (gathers tells); safe = safe (is_clear outcome zero) };
@@ -49,12 +50,12 @@ said_of_parts dir n old new before after parts outcome gathers told count verdic
 }
 
 -- a folder that is refused
-pub said_of_refusal : (dir : List ℕ) (n : ℕ) (old new : Option Told) (before after : ℕ) (part : Part) (reason : Reason)
+pub said_of_refusal : (forms : OneFormOrFault) (dir : List ℕ) (n : ℕ) (old new : Option Told) (before after : ℕ) (part : Part) (reason : Reason)
     → GathersTold old dir (Err (part, reason)) → new ≡ old → after ≡ before
     → IsSaid (Some (Check dir n)) old new before after (Vetted (Refused part reason))
-said_of_refusal dir n old new before after part reason gathers told count = record {
+said_of_refusal forms dir n old new before after part reason gathers told count = record {
   answers = (Refused part reason, record { gathered = Err (part, reason); gathers = gathers; comes = refl }, refl);
-  only = λ tells other is. is.2 ∙ ap (λ (o : Outcome). Vetted o) (only_of_refusal dir old (part, reason) is.0 gathers tells is.1);
+  only = λ tells other is. is.2 ∙ ap (λ (o : Outcome). Vetted o) (only_of_refusal forms dir old (part, reason) is.0 gathers tells is.1);
   usage = λ four. absurd (below_four (Refused part reason) four);
   no_command = λ none. absurd cc;
   safe = λ zero. absurd (omega (arith, zero));

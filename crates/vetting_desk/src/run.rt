@@ -11,6 +11,7 @@ ghost use Rattle.vetting_desk.specs.Top.{IsFound, Prints, IsAnswer, IsOnlyAnswer
 use crate::answer::{Answer, Status, read_fault, status_saying, text_saying};
 use crate::folder::{Halt, parts_in};
 use crate::words::{Command, command_in};
+use office_forms::one_form_or_fault;
 use std::alloc::Global;
 use verdict::{Outcome, judge};
 use vet_base::{Files, PutFault, Sink};
@@ -29,6 +30,7 @@ fn found_in_folder<F: Files>(alloc: Global, dir: &str, workers: u8, files: &mut 
     ensures { IsFound (Some (Check dir.now workers)) (F.told files.old) (F.told files.new)
         (F.fault_count files.old) (F.fault_count files.new) result }
 {
+    one_form_or_fault();
     match parts_in(alloc, files, dir) {
         Ok(parts) => match judge(alloc, &parts) {
             Ok(outcome) => Found::Said(Answer::Vetted(outcome)),

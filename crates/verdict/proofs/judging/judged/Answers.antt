@@ -5,6 +5,6 @@ use Rattle.verdict.proofs.judging.judged.Goals as goal
 
 pub returns-clause-one : goal.returns-clause-one
 returns-clause-one c =
-    judged_only c.args.parts.now c.in_ok-papers.papers c.in_ok-dexes.dexes.items c.in_ok-app.app c.in_ok-outcome_in.field-0 (record { forms = c.in_ok-papers.ensures.ok; files = c.in_ok-dexes.ensures.ok })
+    judged_only c.lower_laws.ensures c.args.parts.now c.in_ok-papers.papers c.in_ok-dexes.dexes.items c.in_ok-app.app c.in_ok-outcome_in.field-0 (record { forms = c.in_ok-papers.ensures.ok; files = c.in_ok-dexes.ensures.ok })
     (rw c.deref.ensures.value at c.in_ok-app.ensures.only)
     (search (verdict_on, rules))

@@ -6,4 +6,4 @@ returns-in-Ok-clause-only c = only_linked c.args.dexes.now c.args.papers.now.man
 
 pub returns-in-Err-clause-err : goal.returns-in-Err-clause-err
 returns-in-Err-clause-err c =
-    of_link c.args.parts.now c.args.papers.now c.args.dexes.now c.in-Err.fault c.halt_of.result c.requires.papers c.requires.files c.in-Err.ensures.fault c.halt_of.ensures
+    of_link c.lower_laws.ensures c.args.parts.now c.args.papers.now c.args.dexes.now c.in-Err.fault c.halt_of.result c.requires.papers c.requires.files c.in-Err.ensures.fault c.halt_of.ensures

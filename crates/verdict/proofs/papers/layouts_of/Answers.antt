@@ -2,4 +2,4 @@ use Rattle.verdict.proofs.Halting.{of_layouts}
 use Rattle.verdict.proofs.papers.layouts_of.Goals as goal
 
 pub returns-in-Err-clause-err : goal.returns-in-Err-clause-err
-returns-in-Err-clause-err c = of_layouts c.args.parts.now c.args.manifest.now c.in-Err.fault c.halt_of.result c.requires (rw c.as_slice.ensures at c.in-Err.ensures.err) c.halt_of.ensures
+returns-in-Err-clause-err c = of_layouts c.lower_laws.ensures c.args.parts.now c.args.manifest.now c.in-Err.fault c.halt_of.result c.requires (rw c.as_slice.ensures at c.in-Err.ensures.err) c.halt_of.ensures

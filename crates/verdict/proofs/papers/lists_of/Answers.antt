@@ -3,5 +3,5 @@ use Rattle.verdict.proofs.papers.lists_of.Goals as goal
 
 pub returns-in-Err-clause-err : goal.returns-in-Err-clause-err
 returns-in-Err-clause-err c =
-    of_lists c.args.parts.now c.args.manifest.now c.args.layouts.now c.args.declaration.now c.in-Err.fault c.halt_of.result c.requires.manifest c.requires.layouts c.requires.declaration
+    of_lists c.lower_laws.ensures c.args.parts.now c.args.manifest.now c.args.layouts.now c.args.declaration.now c.in-Err.fault c.halt_of.result c.requires.manifest c.requires.layouts c.requires.declaration
     (rw c.as_slice.ensures at c.in-Err.ensures.err) c.halt_of.ensures

@@ -12,11 +12,11 @@ use Rattle.vetting_desk.proofs.run.found_in_folder.Goals as goal
 
 pub returns-in-Ok-judge : goal.returns-in-Ok-judge
 returns-in-Ok-judge g c =
-    said_of_parts _ _ (g.F.Files.told c.args.files.now) (g.F.Files.told c.parts_in.new.files) _ _ c.in-Ok.parts c.in-Ok-judge.outcome c.in-Ok.ensures.value c.in-Ok.ensures.leaves.0 c.in-Ok.ensures.leaves.1 c.in-Ok-judge.ensures.value c.in-Ok-judge.ensures.safe
+    said_of_parts c.one_form_or_fault.ensures _ _ (g.F.Files.told c.args.files.now) (g.F.Files.told c.parts_in.new.files) _ _ c.in-Ok.parts c.in-Ok-judge.outcome c.in-Ok.ensures.value c.in-Ok.ensures.leaves.0 c.in-Ok.ensures.leaves.1 c.in-Ok-judge.ensures.value c.in-Ok-judge.ensures.safe
     c.in-Ok-judge.ensures.one
 
 pub returns-in-Err-Refused : goal.returns-in-Err-Refused
 returns-in-Err-Refused g c =
     let leaves : Leaves (g.F.Files.told c.args.files.now) (g.F.Files.told c.parts_in.new.files) (g.F.Files.fault_count c.args.files.now) (g.F.Files.fault_count c.parts_in.new.files) (let r : Result Parts Halt = Err (Refused c.in-Err-Refused.part c.in-Err-Refused.reason) in r) = rw c.in-Err-Refused.field-0-is at c.in-Err-Refused.ensures.leaves in
-    let said : IsSaid (Some (Check c.args.dir.now c.args.workers)) (g.F.Files.told c.args.files.now) (g.F.Files.told c.parts_in.new.files) (g.F.Files.fault_count c.args.files.now) (g.F.Files.fault_count c.parts_in.new.files) (Vetted (refused c.in-Err-Refused.part c.in-Err-Refused.reason)) = said_of_refusal _ _ (g.F.Files.told c.args.files.now) (g.F.Files.told c.parts_in.new.files) _ _ c.in-Err-Refused.part c.in-Err-Refused.reason (rw c.in-Err-Refused.field-0-is at c.in-Err-Refused.ensures.value) leaves.0 leaves.1 in
+    let said : IsSaid (Some (Check c.args.dir.now c.args.workers)) (g.F.Files.told c.args.files.now) (g.F.Files.told c.parts_in.new.files) (g.F.Files.fault_count c.args.files.now) (g.F.Files.fault_count c.parts_in.new.files) (Vetted (refused c.in-Err-Refused.part c.in-Err-Refused.reason)) = said_of_refusal c.one_form_or_fault.ensures _ _ (g.F.Files.told c.args.files.now) (g.F.Files.told c.parts_in.new.files) _ _ c.in-Err-Refused.part c.in-Err-Refused.reason (rw c.in-Err-Refused.field-0-is at c.in-Err-Refused.ensures.value) leaves.0 leaves.1 in
     search rules
