@@ -4,12 +4,18 @@
 
 mod case;
 mod command;
+mod copies;
+mod forms;
+mod looks;
 mod party;
+mod planning;
 mod reply;
 
 pub use case::{
     Appeal, Case, Content, Decision, Entry, Line, OutcomeWord, Ruling, RulingWord, State,
 };
 pub use command::{Command, View};
+pub use forms::{is_appeal_text, is_reference};
 pub use party::{Party, Role};
+pub use planning::{plan, settle};
 pub use reply::{Change, Plan, Refusal, Reply};
