@@ -6,6 +6,7 @@ mod case;
 mod command;
 mod copies;
 mod forms;
+mod laws;
 mod looks;
 mod party;
 mod planning;
@@ -16,6 +17,10 @@ pub use case::{
 };
 pub use command::{Command, View};
 pub use forms::{is_appeal_text, is_reference};
+pub use laws::{
+    a_developer_sees_the_own_cases, a_refusal_changes_nothing, each_thing_is_done_once,
+    earlier_cases_are_treated_as_before,
+};
 pub use party::{Party, Role};
 pub use planning::{plan, settle};
 pub use reply::{Change, Plan, Refusal, Reply};
