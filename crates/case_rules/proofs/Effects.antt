@@ -68,7 +68,7 @@ effect session (commands.Appeal reference text) cases plan e =
     subst P (sym h.does) (record {
       fits = some_and_from _ h.case _ h.is (some_and_from _ h.entry _ h.ends h.first);
       adds_no_decision = tt;
-      formed = λ f. f.1;
+      formed = λ f. f;
       not_refused = λ refusal says. cc;
     })
 effect session (commands.Review developer reference) cases plan e =

@@ -25,15 +25,15 @@ is_reference bytes = nat_le 1 (length bytes) && nat_le (length bytes) 64 && list
 abbrev pub is_appeal_text : List ℕ → Bool
 is_appeal_text bytes = nat_le 1 (length bytes) && nat_le (length bytes) 4000
 
--- References and texts have their form.
+-- The reference of a new case and the text of an appeal have their form. A reference of another form names no case.
 abbrev pub IsFormed : Command → Type 0
 IsFormed (commands.Submit reference content) = IsTrue (is_reference reference)
 IsFormed commands.Decide = Unit {0}
-IsFormed (commands.Show reference) = IsTrue (is_reference reference)
-IsFormed (commands.Report reference) = IsTrue (is_reference reference)
-IsFormed (commands.Appeal reference text) = IsTrue (is_reference reference) × IsTrue (is_appeal_text text)
-IsFormed (commands.Review developer reference) = IsTrue (is_reference reference)
-IsFormed (commands.Rule developer reference word) = IsTrue (is_reference reference)
+IsFormed (commands.Show reference) = Unit {0}
+IsFormed (commands.Report reference) = Unit {0}
+IsFormed (commands.Appeal reference text) = IsTrue (is_appeal_text text)
+IsFormed (commands.Review developer reference) = Unit {0}
+IsFormed (commands.Rule developer reference word) = Unit {0}
 IsFormed commands.List = Unit {0}
 
 -- What the view shows is so, as far as the command needs it.
