@@ -59,7 +59,10 @@ module _ (app : App) (has : Row → Type 0) (hits : Key → List Row) (law : (k 
 
   -- the parts of what an effect gives
   part_lifts : (n : Node) (t : Site) (p : Path) (l : ℕ) (c : Conclusion) → In c (flat_map (lifts n t p l) (hits (BacksOf t))) → In c (given (Effect n t p l))
-  part_lifts n t p l c i = inr (in_front c (flat_map (lifts n t p l) (hits (BacksOf t))) (spread_on (step_here app n) hits n t p l ++ (flat_map (statics_hold n t p l) (hits (StaticsTo t)) ++ flat_map (is_handed n t p l) (hits (HandedOf t)))) i)
+  part_lifts n t p l c i =
+      inr
+      (in_front c (flat_map (lifts n t p l) (hits (BacksOf t)))
+      (spread_on (step_here app n) hits n t p l ++ (flat_map (statics_hold n t p l) (hits (StaticsTo t)) ++ flat_map (is_handed n t p l) (hits (HandedOf t)))) i)
 
   part_rest : (n : Node) (t : Site) (p : Path) (l : ℕ) (c : Conclusion) →
       In c (flat_map (statics_hold n t p l) (hits (StaticsTo t)) ++ flat_map (is_handed n t p l) (hits (HandedOf t))) →
@@ -96,36 +99,47 @@ module _ (app : App) (has : Row → Type 0) (hits : Key → List Row) (law : (k 
   effects_complete row rule premises x (lift_effect {n = n} {k = key} {l = l} {s = s} {t = t} {p = p}) k u =
       let c = concludes 14 (Two (Effect n t p l) (Back t key s)) (Effect n s (cut key p) l) in
       either given _ _ _ u
-      (here given (Effect n t p l) 14 (Two (Effect n t p l) (Back t key s)) (Effect n s (cut key p) l) (part_lifts n t p l c (found has hits law (BacksOf t) (lifts n t p l) (Back t key s) c k.1.0 (key, (s, refl)) (inl refl))))
-      (here given (Back t key s) 14 (Two (Effect n t p l) (Back t key s)) (Effect n s (cut key p) l) (found has hits law (EffectsOn t) (back_lifts t key s) (Effect n t p l) c k.0 (n, (p, (l, refl))) (inl refl)))
+      (here given (Effect n t p l) 14 (Two (Effect n t p l) (Back t key s)) (Effect n s (cut key p) l)
+      (part_lifts n t p l c (found has hits law (BacksOf t) (lifts n t p l) (Back t key s) c k.1.0 (key, (s, refl)) (inl refl))))
+      (here given (Back t key s) 14 (Two (Effect n t p l) (Back t key s)) (Effect n s (cut key p) l)
+      (found has hits law (EffectsOn t) (back_lifts t key s) (Effect n t p l) c k.0 (n, (p, (l, refl))) (inl refl)))
   effects_complete row rule premises x (effect_next {n = n} {pc = pc} {z = z} {l = l} {s = s} {p = p} g) k u =
       let c = concludes 15 (Two (Effect n s p l) (Points (at_pc n pc) z s)) (Taint (at_pc n pc) z p l) in
       either given _ _ _ u
       (here given (Effect n s p l) 15 (Two (Effect n s p l) (Points (at_pc n pc) z s)) (Taint (at_pc n pc) z p l) (part_spread n s p l g.step g.there c
       (in_front c (spread_to hits n s p l g.step.next) (spread_to hits n s p l g.step.catches) (spread_in n s p l pc z g.step.next g.next k.1.0))))
-      (here given (Points (at_pc n pc) z s) 15 (Two (Effect n s p l) (Points (at_pc n pc) z s)) (Taint (at_pc n pc) z p l) (take_in n s p l pc z g.step g.there (or_left (holds g.step.next pc) (holds g.step.catches pc) (in_holds pc g.step.next g.next)) k.0))
+      (here given (Points (at_pc n pc) z s) 15 (Two (Effect n s p l) (Points (at_pc n pc) z s)) (Taint (at_pc n pc) z p l)
+      (take_in n s p l pc z g.step g.there (or_left (holds g.step.next pc) (holds g.step.catches pc) (in_holds pc g.step.next g.next)) k.0))
   effects_complete row rule premises x (effect_caught {n = n} {pc = pc} {z = z} {l = l} {s = s} {p = p} g) k u =
       let c = concludes 15 (Two (Effect n s p l) (Points (at_pc n pc) z s)) (Taint (at_pc n pc) z p l) in
       either given _ _ _ u
       (here given (Effect n s p l) 15 (Two (Effect n s p l) (Points (at_pc n pc) z s)) (Taint (at_pc n pc) z p l) (part_spread n s p l g.step g.there c
       (in_back c (spread_to hits n s p l g.step.next) (spread_to hits n s p l g.step.catches) (spread_in n s p l pc z g.step.catches g.catch k.1.0))))
-      (here given (Points (at_pc n pc) z s) 15 (Two (Effect n s p l) (Points (at_pc n pc) z s)) (Taint (at_pc n pc) z p l) (take_in n s p l pc z g.step g.there (or_right (holds g.step.next pc) (holds g.step.catches pc) (in_holds pc g.step.catches g.catch)) k.0))
-  effects_complete row rule premises x (method_effect {n = n} {l = l} {s = s} {p = p}) k u = only given _ _ _ u (here given (Effect n s p l) 16 (One (Effect n s p l)) (MethodEffect n.by s p l) (inl refl))
+      (here given (Points (at_pc n pc) z s) 15 (Two (Effect n s p l) (Points (at_pc n pc) z s)) (Taint (at_pc n pc) z p l)
+      (take_in n s p l pc z g.step g.there (or_right (holds g.step.next pc) (holds g.step.catches pc) (in_holds pc g.step.catches g.catch)) k.0))
+  effects_complete row rule premises x (method_effect {n = n} {l = l} {s = s} {p = p}) k u =
+      only given _ _ _ u (here given (Effect n s p l) 16 (One (Effect n s p l)) (MethodEffect n.by s p l) (inl refl))
   effects_complete row rule premises x (caller_effect {n = n} {b = b} {l = l} {s = s} {p = p}) k u =
       let c = concludes 17 (Two (MethodEffect b s p l) (CalledBy b n)) (Effect n s p l) in
       either given _ _ _ u
-      (here given (MethodEffect b s p l) 17 (Two (MethodEffect b s p l) (CalledBy b n)) (Effect n s p l) (in_front c (flat_map (caller_has b s p l) (hits (CallersOf b))) (component_gives app hits b s p l) (found has hits law (CallersOf b) (caller_has b s p l) (CalledBy b n) c k.1.0 (n, refl) (inl refl))))
-      (here given (CalledBy b n) 17 (Two (MethodEffect b s p l) (CalledBy b n)) (Effect n s p l) (found has hits law (MethodEffectsOf b) (called_has b n) (MethodEffect b s p l) c k.0 (s, (p, (l, refl))) (inl refl)))
+      (here given (MethodEffect b s p l) 17 (Two (MethodEffect b s p l) (CalledBy b n)) (Effect n s p l)
+      (in_front c (flat_map (caller_has b s p l) (hits (CallersOf b))) (component_gives app hits b s p l) (found has hits law (CallersOf b) (caller_has b s p l) (CalledBy b n) c k.1.0 (n, refl) (inl refl))))
+      (here given (CalledBy b n) 17 (Two (MethodEffect b s p l) (CalledBy b n)) (Effect n s p l)
+      (found has hits law (MethodEffectsOf b) (called_has b n) (MethodEffect b s p l) c k.0 (s, (p, (l, refl))) (inl refl)))
   effects_complete row rule premises x (effect_static {n = n} {g = g} {l = l} {s = s} {p = p}) k u =
       let c = concludes 18 (Two (Effect n s p l) (StaticPoints g s)) (StaticTaint g p l) in
       either given _ _ _ u
-      (here given (Effect n s p l) 18 (Two (Effect n s p l) (StaticPoints g s)) (StaticTaint g p l) (part_rest n s p l c (in_front c (flat_map (statics_hold n s p l) (hits (StaticsTo s))) (flat_map (is_handed n s p l) (hits (HandedOf s))) (found has hits law (StaticsTo s) (statics_hold n s p l) (StaticPoints g s) c k.1.0 (g, refl) (inl refl)))))
-      (here given (StaticPoints g s) 18 (Two (Effect n s p l) (StaticPoints g s)) (StaticTaint g p l) (found has hits law (EffectsOn s) (static_takes g s) (Effect n s p l) c k.0 (n, (p, (l, refl))) (inl refl)))
+      (here given (Effect n s p l) 18 (Two (Effect n s p l) (StaticPoints g s)) (StaticTaint g p l)
+      (part_rest n s p l c (in_front c (flat_map (statics_hold n s p l) (hits (StaticsTo s))) (flat_map (is_handed n s p l) (hits (HandedOf s))) (found has hits law (StaticsTo s) (statics_hold n s p l) (StaticPoints g s) c k.1.0 (g, refl) (inl refl)))))
+      (here given (StaticPoints g s) 18 (Two (Effect n s p l) (StaticPoints g s)) (StaticTaint g p l)
+      (found has hits law (EffectsOn s) (static_takes g s) (Effect n s p l) c k.0 (n, (p, (l, refl))) (inl refl)))
   effects_complete row rule premises x (effect_handed {n = n} {l = l} {s = s} {p = p}) k u =
       let c = concludes 19 (Two (Effect n s p l) (Handed s)) (HandedTaint s p l) in
       either given _ _ _ u
-      (here given (Effect n s p l) 19 (Two (Effect n s p l) (Handed s)) (HandedTaint s p l) (part_rest n s p l c (in_back c (flat_map (statics_hold n s p l) (hits (StaticsTo s))) (flat_map (is_handed n s p l) (hits (HandedOf s))) (found has hits law (HandedOf s) (is_handed n s p l) (Handed s) c k.1.0 refl (inl refl)))))
-      (here given (Handed s) 19 (Two (Effect n s p l) (Handed s)) (HandedTaint s p l) (found has hits law (EffectsOn s) (handed_takes s) (Effect n s p l) c k.0 (n, (p, (l, refl))) (inl refl)))
+      (here given (Effect n s p l) 19 (Two (Effect n s p l) (Handed s)) (HandedTaint s p l)
+      (part_rest n s p l c (in_back c (flat_map (statics_hold n s p l) (hits (StaticsTo s))) (flat_map (is_handed n s p l) (hits (HandedOf s))) (found has hits law (HandedOf s) (is_handed n s p l) (Handed s) c k.1.0 refl (inl refl)))))
+      (here given (Handed s) 19 (Two (Effect n s p l) (Handed s)) (HandedTaint s p l)
+      (found has hits law (EffectsOn s) (handed_takes s) (Effect n s p l) c k.0 (n, (p, (l, refl))) (inl refl)))
   effects_complete row rule premises x (effect_own {c = component} {e = e} {l = l} {method = method} {class = class} {life = life} {body = body} {p = p} h ne) k u =
       let b = activation_in (ctx.Row component e) method in
       let c = concludes 20 (One (MethodEffect b (Component component) p l)) (CompTaint component life.to p l) in
@@ -145,4 +159,5 @@ module _ (app : App) (has : Row → Type 0) (hits : Key → List Row) (law : (k 
       (found has hits law (LivesOf component) (stays b component p l) (Live component state) c k.1.0 (state, refl) (in_unless c (state == 0) (c ∷ []) (ne_eqb state 0 ne) (inl refl)))))))
       (here given (Live component state) 21 (Two (MethodEffect b (Component component) p l) (Live component state)) (CompTaint component state p l)
       (in_unless c (state == 0) (flat_map (live_takes component state) (hits (MethodEffectsOn (Component component)))) (ne_eqb state 0 ne)
-      (found has hits law (MethodEffectsOn (Component component)) (live_takes component state) (MethodEffect b (Component component) p l) c k.0 (b, (p, (l, refl))) (in_where c (is_beside b.ctx component) (c ∷ []) t (inl refl)))))
+      (found has hits law (MethodEffectsOn (Component component)) (live_takes component state)
+      (MethodEffect b (Component component) p l) c k.0 (b, (p, (l, refl))) (in_where c (is_beside b.ctx component) (c ∷ []) t (inl refl)))))

@@ -70,7 +70,9 @@ back_on None pc c = []
 back_on (Some step) pc c = cond (holds step.next pc || holds step.catches pc) (c ∷ []) []
 
 abbrev pub points_take : App → Node → ℕ → Site → Row → List Conclusion
-points_take app m z s (Effect n u p l) = cond (activation_eq.eq n.by m.by) (back_on (step_here app n) m.pc (concludes 15 (Two (Effect n u p l) (Points m z s)) (Taint m z p l))) []
+points_take app m z s (Effect n u p l) =
+    cond (activation_eq.eq n.by m.by)
+    (back_on (step_here app n) m.pc (concludes 15 (Two (Effect n u p l) (Points m z s)) (Taint m z p l))) []
 points_take app m z s _ = []
 
 abbrev pub static_takes : ℕ → Site → Row → List Conclusion

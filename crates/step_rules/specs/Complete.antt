@@ -55,7 +55,8 @@ step_stands app n step h = of_method (slice_get app.methods n.by.method) refl h
     of_method : (o : Option Method) → slice_get app.methods n.by.method ≡ o →
         elim o [ None ↦ None | Some m ↦ find (λ (s : Step). s.pc == n.pc) m.steps ] ≡ Some step → StepStands app n step
     of_method None e k = absurd cc
-    of_method (Some m) e k = record { method = m; there = e; is_step = in_found (λ (s : Step). s.pc == n.pc) m.steps step k; same_pc = eqb-true step.pc n.pc (found_passes (λ (s : Step). s.pc == n.pc) m.steps step k) }
+    of_method (Some m) e k =
+        record { method = m; there = e; is_step = in_found (λ (s : Step). s.pc == n.pc) m.steps step k; same_pc = eqb-true step.pc n.pc (found_passes (λ (s : Step). s.pc == n.pc) m.steps step k) }
 
 module _ (app : App) (has : Row → Type 0) (hits : Key → List Row) (law : (k : Key) → IsHits has k (hits k)) where
   abbrev given : Row → List Conclusion
@@ -67,8 +68,12 @@ module _ (app : App) (has : Row → Type 0) (hits : Key → List Row) (law : (k 
 
   at_content : (v : Content) (n : Node) (r : ℕ) (step : Step) → step_here app n ≡ Some step → (c : Conclusion) →
       In c (content_on hits step n r v) → In c (given (held v n r))
-  at_content (Object s) n r step there c i = subst (λ o. In c (points_on o hits n r s)) (sym there) (in_front c (content_on hits step n r (Object s)) (object_gives hits step.act step.next n r s) i)
-  at_content (Label p l) n r step there c i = subst (λ o. In c (taint_on o hits n r p l)) (sym there) (in_front c (content_on hits step n r (Label p l)) (label_gives step.act step.next n r p l) i)
+  at_content (Object s) n r step there c i =
+      subst (λ o. In c (points_on o hits n r s)) (sym there)
+      (in_front c (content_on hits step n r (Object s)) (object_gives hits step.act step.next n r s) i)
+  at_content (Label p l) n r step there c i =
+      subst (λ o. In c (taint_on o hits n r p l)) (sym there)
+      (in_front c (content_on hits step n r (Label p l)) (label_gives step.act step.next n r p l) i)
 
   at_object : (n : Node) (r : ℕ) (s : Site) (a : Act) (h : Acts app n a) (c : Conclusion) →
       In c (object_gives hits a h.step.next n r s) → In c (given (Points n r s))
@@ -116,28 +121,40 @@ module _ (app : App) (has : Row → Type 0) (hits : Key → List Row) (law : (k 
 
   moved : (v : Content) (n : Node) (pc x d : ℕ) (ds : List ℕ) → Acts app n (act.Move ds x) → In d ds → GoesOn app n pc →
       IsListed (given (held v n x)) 3 (held v n x ∷ []) (held v (at_pc n pc) d)
-  moved v n pc x d ds h i g = passed v n x (act.Move ds x) h 3 (held v (at_pc n pc) d) (in_where _ (x == x) (to_all 3 (One (held v n x)) v n ds h.step.next) (itself x) (in_all 3 (One (held v n x)) v n h.step.next ds d pc i (next_in app n h g)))
+  moved v n pc x d ds h i g =
+      passed v n x (act.Move ds x) h 3 (held v (at_pc n pc) d)
+      (in_where _ (x == x) (to_all 3 (One (held v n x)) v n ds h.step.next) (itself x) (in_all 3 (One (held v n x)) v n h.step.next ds d pc i (next_in app n h g)))
 
   resulted : (v : Content) (n : Node) (pc d : ℕ) (ds : List ℕ) → Acts app n (act.TakeResult ds) → In d ds → GoesOn app n pc →
       IsListed (given (held v n result_register)) 3 (held v n result_register ∷ []) (held v (at_pc n pc) d)
-  resulted v n pc d ds h i g = passed v n result_register (act.TakeResult ds) h 3 (held v (at_pc n pc) d) (in_all 3 (One (held v n result_register)) v n h.step.next ds d pc i (next_in app n h g))
+  resulted v n pc d ds h i g =
+      passed v n result_register (act.TakeResult ds) h 3 (held v (at_pc n pc) d)
+      (in_all 3 (One (held v n result_register)) v n h.step.next ds d pc i (next_in app n h g))
 
   excepted : (v : Content) (n : Node) (pc d : ℕ) → Acts app n (act.TakeException d) → GoesOn app n pc →
       IsListed (given (held v n exception_register)) 3 (held v n exception_register ∷ []) (held v (at_pc n pc) d)
-  excepted v n pc d h g = passed v n exception_register (act.TakeException d) h 3 (held v (at_pc n pc) d) (in_each 3 (One (held v n exception_register)) v n h.step.next d pc (next_in app n h g))
+  excepted v n pc d h g =
+      passed v n exception_register (act.TakeException d) h 3 (held v (at_pc n pc) d)
+      (in_each 3 (One (held v n exception_register)) v n h.step.next d pc (next_in app n h g))
 
   to_static : (v : Content) (n : Node) (g x : ℕ) → Acts app n (act.PutStatic g x) → IsListed (given (held v n x)) 10 (held v n x ∷ []) (held_static v g)
-  to_static v n g x h = passed v n x (act.PutStatic g x) h 10 (held_static v g) (in_where _ (x == x) (concludes 10 (One (held v n x)) (held_static v g) ∷ []) (itself x) (inl refl))
+  to_static v n g x h =
+      passed v n x (act.PutStatic g x) h 10 (held_static v g)
+      (in_where _ (x == x) (concludes 10 (One (held v n x)) (held_static v g) ∷ []) (itself x) (inl refl))
 
   threw : (v : Content) (n : Node) (pc x : ℕ) → Acts app n (act.Throw x) → CaughtAt app n pc →
       IsListed (given (held v n x)) 11 (held v n x ∷ []) (held v (at_pc n pc) exception_register)
-  threw v n pc x h g = passed v n x (act.Throw x) h 11 (held v (at_pc n pc) exception_register) (in_where _ (x == x) (thrown h.step.catches n x v) (itself x) (inr (in_each 11 (One (held v n x)) v n h.step.catches exception_register pc (catch_in app n h g))))
+  threw v n pc x h g =
+      passed v n x (act.Throw x) h 11 (held v (at_pc n pc) exception_register)
+      (in_where _ (x == x) (thrown h.step.catches n x v) (itself x) (inr (in_each 11 (One (held v n x)) v n h.step.catches exception_register pc (catch_in app n h g))))
 
   threw_out : (v : Content) (n : Node) (x : ℕ) → Acts app n (act.Throw x) → IsListed (given (held v n x)) 11 (held v n x ∷ []) (leaves v n.by throwing)
   threw_out v n x h = passed v n x (act.Throw x) h 11 (leaves v n.by throwing) (in_where _ (x == x) (thrown h.step.catches n x v) (itself x) (inl refl))
 
   returned : (v : Content) (n : Node) (x : ℕ) → Acts app n (act.Return (Some x)) → IsListed (given (held v n x)) 12 (held v n x ∷ []) (leaves v n.by returning)
-  returned v n x h = passed v n x (act.Return (Some x)) h 12 (leaves v n.by returning) (in_where _ (x == x) (concludes 12 (One (held v n x)) (leaves v n.by returning) ∷ []) (itself x) (inl refl))
+  returned v n x h =
+      passed v n x (act.Return (Some x)) h 12 (leaves v n.by returning)
+      (in_where _ (x == x) (concludes 12 (One (held v n x)) (leaves v n.by returning) ∷ []) (itself x) (inl refl))
 
   -- 8
   put_value : (v : Content) (n : Node) (o x : ℕ) (k : KeyId) (s : Site) → Acts app n (act.Put o k x) → has (Points n o s) →
@@ -188,22 +205,28 @@ module _ (app : App) (has : Row → Type 0) (hits : Key → List Row) (law : (k 
       here given (Cell s k t) 7 (Two (Points n o s) (Cell s k t)) (Points (at_pc n pc) d t)
       (inr (found has hits law (PointsTo s) f (Points n o s) c p (n, (o, refl))
       (subst (λ z. In c (gets_on z n o s k t)) (sym h.there) (subst (λ z. In c (gets z h.step.next n o s k t)) (sym h.same)
-      (in_where c (o == o && k.0 == k.0) (to_all 7 (Two (Points n o s) (Cell s k t)) (Object t) n ds h.step.next) (and_from (o == o) (k.0 == k.0) (itself o) (itself k.0)) (in_all 7 (Two (Points n o s) (Cell s k t)) (Object t) n h.step.next ds d pc i (next_in app n h g)))))))
+      (in_where c (o == o && k.0 == k.0) (to_all 7 (Two (Points n o s) (Cell s k t)) (Object t) n ds h.step.next)
+      (and_from (o == o) (k.0 == k.0) (itself o) (itself k.0))
+      (in_all 7 (Two (Points n o s) (Cell s k t)) (Object t) n h.step.next ds d pc i (next_in app n h g)))))))
 
   -- 9
   read_by : (v : Content) (n : Node) (pc g d : ℕ) (ds : List ℕ) (h : Acts app n (act.GetStatic ds g)) → In d ds → GoesOn app n pc →
       In (concludes 9 (Two (Reached n) (held_static v g)) (held v (at_pc n pc) d)) (reads (act.GetStatic ds g) h.step.next n g v)
-  read_by v n pc g d ds h i k = in_where _ (g == g) (to_all 9 (Two (Reached n) (held_static v g)) v n ds h.step.next) (itself g) (in_all 9 (Two (Reached n) (held_static v g)) v n h.step.next ds d pc i (next_in app n h k))
+  read_by v n pc g d ds h i k =
+      in_where _ (g == g) (to_all 9 (Two (Reached n) (held_static v g)) v n ds h.step.next) (itself g)
+      (in_all 9 (Two (Reached n) (held_static v g)) v n h.step.next ds d pc i (next_in app n h k))
 
   static_read : (v : Content) (n : Node) (g : ℕ) (h : (ds : List ℕ) × Acts app n (act.GetStatic ds g)) (c : Conclusion) →
       has (held_static v g) → In c (reads (act.GetStatic h.0 g) h.1.step.next n g v) →
       In c (statics_read hits (act.GetStatic h.0 g) h.1.step.next n)
   static_read (Object s) n g h c p i =
       let f : Row → List Conclusion = static_gives (act.GetStatic h.0 g) h.1.step.next n in
-      in_front c (flat_map f (hits (StaticPointsOf g))) (flat_map f (hits (StaticTaintsOf g))) (found has hits law (StaticPointsOf g) f (StaticPoints g s) c p (s, refl) i)
+      in_front c (flat_map f (hits (StaticPointsOf g))) (flat_map f (hits (StaticTaintsOf g)))
+      (found has hits law (StaticPointsOf g) f (StaticPoints g s) c p (s, refl) i)
   static_read (Label q l) n g h c p i =
       let f : Row → List Conclusion = static_gives (act.GetStatic h.0 g) h.1.step.next n in
-      in_back c (flat_map f (hits (StaticPointsOf g))) (flat_map f (hits (StaticTaintsOf g))) (found has hits law (StaticTaintsOf g) f (StaticTaint g q l) c p (q, (l, refl)) i)
+      in_back c (flat_map f (hits (StaticPointsOf g))) (flat_map f (hits (StaticTaintsOf g)))
+      (found has hits law (StaticTaintsOf g) f (StaticTaint g q l) c p (q, (l, refl)) i)
 
   read_reached : (v : Content) (n : Node) (pc g d : ℕ) (ds : List ℕ) → Acts app n (act.GetStatic ds g) → In d ds → GoesOn app n pc →
       has (held_static v g) → IsListed (given (Reached n)) 9 (Reached n ∷ held_static v g ∷ []) (held v (at_pc n pc) d)
@@ -249,18 +272,22 @@ module _ (app : App) (has : Row → Type 0) (hits : Key → List Row) (law : (k 
   step_complete row rule premises x (reach_next {n = n} {pc = pc} g) k u =
       let c = concludes 1 (One (Reached n)) (Reached (at_pc n pc)) in
       only given 1 (Reached n ∷ []) (Reached (at_pc n pc)) u (here given (Reached n) 1 (One (Reached n)) (Reached (at_pc n pc)) (at_reached n g.step g.there c
-      (in_front c (goes_on g.step.next n) (goes_on g.step.catches n ++ (made g.step.act g.step.next n ++ statics_read hits g.step.act g.step.next n)) (in_map (λ to. concludes 1 (One (Reached n)) (Reached (at_pc n to))) g.step.next pc g.next))))
+      (in_front c (goes_on g.step.next n)
+      (goes_on g.step.catches n ++ (made g.step.act g.step.next n ++ statics_read hits g.step.act g.step.next n))
+      (in_map (λ to. concludes 1 (One (Reached n)) (Reached (at_pc n to))) g.step.next pc g.next))))
   step_complete row rule premises x (reach_caught {n = n} {pc = pc} g) k u =
       let c = concludes 1 (One (Reached n)) (Reached (at_pc n pc)) in
       only given 1 (Reached n ∷ []) (Reached (at_pc n pc)) u (here given (Reached n) 1 (One (Reached n)) (Reached (at_pc n pc)) (at_reached n g.step g.there c
       (in_back c (goes_on g.step.next n) (goes_on g.step.catches n ++ (made g.step.act g.step.next n ++ statics_read hits g.step.act g.step.next n))
-      (in_front c (goes_on g.step.catches n) (made g.step.act g.step.next n ++ statics_read hits g.step.act g.step.next n) (in_map (λ to. concludes 1 (One (Reached n)) (Reached (at_pc n to))) g.step.catches pc g.catch)))))
+      (in_front c (goes_on g.step.catches n) (made g.step.act g.step.next n ++ statics_read hits g.step.act g.step.next n)
+      (in_map (λ to. concludes 1 (One (Reached n)) (Reached (at_pc n to))) g.step.catches pc g.catch)))))
   step_complete row rule premises x (keep_points {n = n} {pc = pc} {r = r} {s = s} {act = a} h w g) k u = only given _ _ _ u (kept (Object s) n pc r a h w g)
   step_complete row rule premises x (keep_taint {n = n} {pc = pc} {r = r} {l = l} {p = p} {act = a} h w g) k u = only given _ _ _ u (kept (Label p l) n pc r a h w g)
   step_complete row rule premises x (keep_points_caught {n = n} {pc = pc} {r = r} {s = s} w g) k u = only given _ _ _ u (caught (Object s) n pc r w g)
   step_complete row rule premises x (keep_taint_caught {n = n} {pc = pc} {r = r} {l = l} {p = p} w g) k u = only given _ _ _ u (caught (Label p l) n pc r w g)
   step_complete row rule premises x (move_points {n = n} {pc = pc} {x = y} d {ds = ds} {s = s} h i g) k u = only given _ _ _ u (moved (Object s) n pc y d ds h i g)
-  step_complete row rule premises x (move_taint {n = n} {pc = pc} {x = y} {l = l} d {ds = ds} {p = p} h i g) k u = only given _ _ _ u (moved (Label p l) n pc y d ds h i g)
+  step_complete row rule premises x (move_taint {n = n} {pc = pc} {x = y} {l = l} d {ds = ds} {p = p} h i g) k u =
+      only given _ _ _ u (moved (Label p l) n pc y d ds h i g)
   step_complete row rule premises x (result_points {n = n} {pc = pc} d {ds = ds} {s = s} h i g) k u = only given _ _ _ u (resulted (Object s) n pc d ds h i g)
   step_complete row rule premises x (result_taint {n = n} {pc = pc} {l = l} d {ds = ds} {p = p} h i g) k u = only given _ _ _ u (resulted (Label p l) n pc d ds h i g)
   step_complete row rule premises x (exception_points {n = n} {pc = pc} {d = d} {s = s} h g) k u = only given _ _ _ u (excepted (Object s) n pc d h g)
@@ -268,25 +295,39 @@ module _ (app : App) (has : Row → Type 0) (hits : Key → List Row) (law : (k 
   step_complete row rule premises x (join_taint {n = n} {pc = pc} {l = l} d y {ds = ds} {xs = xs} {p = p} h i j bare g) k u =
       let c = concludes 4 (One (Taint n y p l)) (Taint (at_pc n pc) d empty_path l) in
       only given 4 (Taint n y p l ∷ []) (Taint (at_pc n pc) d empty_path l) u (here given (Taint n y p l) 4 (One (Taint n y p l)) (Taint (at_pc n pc) d empty_path l) (at_label n y p l (act.Join ds xs) h c
-      (in_where c (holds xs y && is_bare p) (to_all 4 (One (Taint n y p l)) (Label empty_path l) n ds h.step.next) (and_from (holds xs y) (is_bare p) (in_holds y xs j) (bare_of p bare)) (in_all 4 (One (Taint n y p l)) (Label empty_path l) n h.step.next ds d pc i (next_in app n h g)))))
-  step_complete row rule premises x (new_points {n = n} {pc = pc} {d = d} {class = class} h g) k u = only given _ _ _ u (made_here n pc d (act.New d class) h (in_each 5 (One (Reached n)) (Object (At n)) n h.step.next d pc (next_in app n h g)))
-  step_complete row rule premises x (fill_points {n = n} {pc = pc} {xs = xs} {class = class} h g) k u = only given _ _ _ u (made_here n pc result_register (act.Fill xs class) h (in_each 5 (One (Reached n)) (Object (At n)) n h.step.next result_register pc (next_in app n h g)))
+      (in_where c (holds xs y && is_bare p) (to_all 4 (One (Taint n y p l)) (Label empty_path l) n ds h.step.next)
+      (and_from (holds xs y) (is_bare p) (in_holds y xs j) (bare_of p bare))
+      (in_all 4 (One (Taint n y p l)) (Label empty_path l) n h.step.next ds d pc i (next_in app n h g)))))
+  step_complete row rule premises x (new_points {n = n} {pc = pc} {d = d} {class = class} h g) k u =
+      only given _ _ _ u
+      (made_here n pc d (act.New d class) h (in_each 5 (One (Reached n)) (Object (At n)) n h.step.next d pc (next_in app n h g)))
+  step_complete row rule premises x (fill_points {n = n} {pc = pc} {xs = xs} {class = class} h g) k u =
+      only given _ _ _ u
+      (made_here n pc result_register (act.Fill xs class) h (in_each 5 (One (Reached n)) (Object (At n)) n h.step.next result_register pc (next_in app n h g)))
   step_complete row rule premises x (fill_cell {n = n} y {xs = xs} {class = class} {s = s} h i) k u =
       let c = concludes 6 (One (Points n y s)) (Cell (At n) elem_key s) in
-      only given 6 (Points n y s ∷ []) (Cell (At n) elem_key s) u (here given (Points n y s) 6 (One (Points n y s)) (Cell (At n) elem_key s) (at_object n y s (act.Fill xs class) h c (in_where c (holds xs y) (c ∷ []) (in_holds y xs i) (inl refl))))
+      only given 6 (Points n y s ∷ []) (Cell (At n) elem_key s) u
+      (here given (Points n y s) 6 (One (Points n y s)) (Cell (At n) elem_key s) (at_object n y s (act.Fill xs class) h c (in_where c (holds xs y) (c ∷ []) (in_holds y xs i) (inl refl))))
   step_complete row rule premises x (fill_taint {n = n} {pc = pc} {l = l} y {xs = xs} {class = class} {p = p} h i g) k u =
       let c = concludes 6 (One (Taint n y p l)) (Taint (at_pc n pc) result_register (cut elem_key p) l) in
       only given 6 (Taint n y p l ∷ []) (Taint (at_pc n pc) result_register (cut elem_key p) l) u (here given (Taint n y p l) 6 (One (Taint n y p l)) (Taint (at_pc n pc) result_register (cut elem_key p) l) (at_label n y p l (act.Fill xs class) h c
-      (in_where c (holds xs y) (at_each 6 (One (Taint n y p l)) (Label (cut elem_key p) l) n result_register h.step.next) (in_holds y xs i) (in_each 6 (One (Taint n y p l)) (Label (cut elem_key p) l) n h.step.next result_register pc (next_in app n h g)))))
-  step_complete row rule premises x (get_points {n = n} {pc = pc} {o = o} d {ds = ds} {k = key} {s = s} {t = t} h i g) k u = either given _ _ _ u (got_object n pc o d ds key s t h i g k.1.0) (got_cell n pc o d ds key s t h i g k.0)
+      (in_where c (holds xs y) (at_each 6 (One (Taint n y p l)) (Label (cut elem_key p) l) n result_register h.step.next) (in_holds y xs i)
+      (in_each 6 (One (Taint n y p l)) (Label (cut elem_key p) l) n h.step.next result_register pc (next_in app n h g)))))
+  step_complete row rule premises x (get_points {n = n} {pc = pc} {o = o} d {ds = ds} {k = key} {s = s} {t = t} h i g) k u =
+      either given _ _ _ u (got_object n pc o d ds key s t h i g k.1.0) (got_cell n pc o d ds key s t h i g k.0)
   step_complete row rule premises x (get_taint {n = n} {pc = pc} {o = o} {l = l} d {ds = ds} {k = key} {p = p} {q = q} h i cut_off g) k u =
       let c = concludes 7 (One (Taint n o p l)) (Taint (at_pc n pc) d q l) in
       only given 7 (Taint n o p l ∷ []) (Taint (at_pc n pc) d q l) u (here given (Taint n o p l) 7 (One (Taint n o p l)) (Taint (at_pc n pc) d q l) (at_label n o p l (act.Get ds o key) h c
-      (in_where c (o == o) (rest_gives (rest p key) ds h.step.next n o p l) (itself o) (subst (λ z. In c (rest_gives z ds h.step.next n o p l)) (sym cut_off) (in_all 7 (One (Taint n o p l)) (Label q l) n h.step.next ds d pc i (next_in app n h g))))))
-  step_complete row rule premises x (put_cell {n = n} {o = o} {x = y} {k = key} {s = s} {t = t} h) k u = either given _ _ _ u (put_points n o y key s t h k.1.0) (put_value (Object t) n o y key s h k.0)
-  step_complete row rule premises x (put_effect {n = n} {o = o} {x = y} {l = l} {k = key} {s = s} {p = p} h) k u = either given _ _ _ u (put_taint n o y key s p l h k.1.0) (put_value (Label p l) n o y key s h k.0)
-  step_complete row rule premises x (get_static_points {n = n} {pc = pc} {g = g} d {ds = ds} {s = s} h i m) k u = either given _ _ _ u (read_reached (Object s) n pc g d ds h i m k.1.0) (read_static (Object s) n pc g d ds h i m k.0)
-  step_complete row rule premises x (get_static_taint {n = n} {pc = pc} {g = g} {l = l} d {ds = ds} {p = p} h i m) k u = either given _ _ _ u (read_reached (Label p l) n pc g d ds h i m k.1.0) (read_static (Label p l) n pc g d ds h i m k.0)
+      (in_where c (o == o) (rest_gives (rest p key) ds h.step.next n o p l) (itself o)
+      (subst (λ z. In c (rest_gives z ds h.step.next n o p l)) (sym cut_off) (in_all 7 (One (Taint n o p l)) (Label q l) n h.step.next ds d pc i (next_in app n h g))))))
+  step_complete row rule premises x (put_cell {n = n} {o = o} {x = y} {k = key} {s = s} {t = t} h) k u =
+      either given _ _ _ u (put_points n o y key s t h k.1.0) (put_value (Object t) n o y key s h k.0)
+  step_complete row rule premises x (put_effect {n = n} {o = o} {x = y} {l = l} {k = key} {s = s} {p = p} h) k u =
+      either given _ _ _ u (put_taint n o y key s p l h k.1.0) (put_value (Label p l) n o y key s h k.0)
+  step_complete row rule premises x (get_static_points {n = n} {pc = pc} {g = g} d {ds = ds} {s = s} h i m) k u =
+      either given _ _ _ u (read_reached (Object s) n pc g d ds h i m k.1.0) (read_static (Object s) n pc g d ds h i m k.0)
+  step_complete row rule premises x (get_static_taint {n = n} {pc = pc} {g = g} {l = l} d {ds = ds} {p = p} h i m) k u =
+      either given _ _ _ u (read_reached (Label p l) n pc g d ds h i m k.1.0) (read_static (Label p l) n pc g d ds h i m k.0)
   step_complete row rule premises x (put_static_points {n = n} {g = g} {x = y} {s = s} h) k u = only given _ _ _ u (to_static (Object s) n g y h)
   step_complete row rule premises x (put_static_taint {n = n} {g = g} {x = y} {l = l} {p = p} h) k u = only given _ _ _ u (to_static (Label p l) n g y h)
   step_complete row rule premises x (throw_points {n = n} {pc = pc} {x = y} {s = s} h g) k u = only given _ _ _ u (threw (Object s) n pc y h g)
@@ -295,4 +336,5 @@ module _ (app : App) (has : Row → Type 0) (hits : Key → List Row) (law : (k 
   step_complete row rule premises x (throw_exit_taint {n = n} {x = y} {l = l} {p = p} h) k u = only given _ _ _ u (threw_out (Label p l) n y h)
   step_complete row rule premises x (return_points {n = n} {x = y} {s = s} h) k u = only given _ _ _ u (returned (Object s) n y h)
   step_complete row rule premises x (return_taint {n = n} {x = y} {l = l} {p = p} h) k u = only given _ _ _ u (returned (Label p l) n y h)
-  step_complete row rule premises x (cell_back {k = key} {s = s} {t = t}) k u = only given 13 (Cell s key t ∷ []) (Back t key s) u (here given (Cell s key t) 13 (One (Cell s key t)) (Back t key s) (inl refl))
+  step_complete row rule premises x (cell_back {k = key} {s = s} {t = t}) k u =
+      only given 13 (Cell s key t ∷ []) (Back t key s) u (here given (Cell s key t) 13 (One (Cell s key t)) (Back t key s) (inl refl))

@@ -52,14 +52,22 @@ module _ (app : App) (has : Row → Type 0) (hits : Key → List Row) (law : (k 
 
   module _ (n : Node) (step : Step) (there : step_here app n ≡ Some step) where
     goes_sound : has (Reached n) → AllByRecursion (Sound (Reached n)) (goes_on step.next n)
-    goes_sound p = each_map (Sound (Reached n)) (λ pc. concludes 1 (One (Reached n)) (Reached (at_pc n pc))) step.next (λ pc i. one R has (reach_next (next_of app n there i)) p)
+    goes_sound p =
+        each_map (Sound (Reached n)) (λ pc. concludes 1 (One (Reached n)) (Reached (at_pc n pc))) step.next
+        (λ pc i. one R has (reach_next (next_of app n there i)) p)
 
     caught_sound : has (Reached n) → AllByRecursion (Sound (Reached n)) (goes_on step.catches n)
-    caught_sound p = each_map (Sound (Reached n)) (λ pc. concludes 1 (One (Reached n)) (Reached (at_pc n pc))) step.catches (λ pc i. one R has (reach_caught (catch_of app n there i)) p)
+    caught_sound p =
+        each_map (Sound (Reached n)) (λ pc. concludes 1 (One (Reached n)) (Reached (at_pc n pc))) step.catches
+        (λ pc i. one R has (reach_caught (catch_of app n there i)) p)
 
     made_sound : has (Reached n) → (a : Act) → step.act ≡ a → AllByRecursion (Sound (Reached n)) (made a step.next n)
-    made_sound p (act.New d class) e = each_sound (Sound (Reached n)) 5 (One (Reached n)) (Object (At n)) n step.next d (λ pc i. one R has (new_points (act_of app n there e) (next_of app n there i)) p)
-    made_sound p (act.Fill xs class) e = each_sound (Sound (Reached n)) 5 (One (Reached n)) (Object (At n)) n step.next result_register (λ pc i. one R has (fill_points (act_of app n there e) (next_of app n there i)) p)
+    made_sound p (act.New d class) e =
+        each_sound (Sound (Reached n)) 5 (One (Reached n)) (Object (At n)) n step.next d
+        (λ pc i. one R has (new_points (act_of app n there e) (next_of app n there i)) p)
+    made_sound p (act.Fill xs class) e =
+        each_sound (Sound (Reached n)) 5 (One (Reached n)) (Object (At n)) n step.next result_register
+        (λ pc i. one R has (fill_points (act_of app n there e) (next_of app n there i)) p)
     made_sound p _ e = tt
 
     reads_sound : (P : Conclusion → Type 0) (g : ℕ) (v : Content) →
@@ -89,8 +97,10 @@ module _ (app : App) (has : Row → Type 0) (hits : Key → List Row) (law : (k 
         let P = Sound (held v n r) in
         let f : List ℕ → List Conclusion = at_each 2 (One (held v n r)) v n r in
         each_append P (cond (writes step.act r) [] (f step.next)) (cond (r == exception_register) [] (f step.catches))
-        (each_unless P (writes step.act r) (f step.next) (λ w. each_sound P 2 (One (held v n r)) v n step.next r (λ pc i. one R has (keep app n v pc r step.act (act_of app n there refl) w (next_of app n there i)) p)))
-        (each_unless P (r == exception_register) (f step.catches) (λ w. each_sound P 2 (One (held v n r)) v n step.catches r (λ pc i. one R has (caught app n v pc r w (catch_of app n there i)) p)))
+        (each_unless P (writes step.act r) (f step.next)
+        (λ w. each_sound P 2 (One (held v n r)) v n step.next r (λ pc i. one R has (keep app n v pc r step.act (act_of app n there refl) w (next_of app n there i)) p)))
+        (each_unless P (r == exception_register) (f step.catches)
+        (λ w. each_sound P 2 (One (held v n r)) v n step.catches r (λ pc i. one R has (caught app n v pc r w (catch_of app n there i)) p)))
 
     passes_sound : (v : Content) (r : ℕ) → has (held v n r) → (a : Act) → step.act ≡ a →
         AllByRecursion (Sound (held v n r)) (passes a step.next step.catches n r v)
@@ -119,8 +129,12 @@ module _ (app : App) (has : Row → Type 0) (hits : Key → List Row) (law : (k 
         let P = Sound (held v n r) in
         each_where P (x == r) (flat_map (put_gives n k r v) (hits (PointsAt n o))) (λ t. each_flat P (put_gives n k r v) (hits (PointsAt n o)) (λ row i.
         let u = (law (PointsAt n o)).under row i in
-        subst (λ z. AllByRecursion P (put_gives n k r v z)) (sym u.1)
-        (second R has (subst (λ z. LocalRule app 8 (Points n o u.0 ∷ held v n z ∷ []) (stored v n u.0 k)) (eqb-true x r t) (put_in app n v o x k u.0 (act_of app n there e))) (at_hit has hits law _ row _ i u.1) p, tt)))
+        subst (λ z. AllByRecursion P (put_gives n k r v z)) (sym u.1) (
+          second R has
+              (subst (λ z. LocalRule app 8 (Points n o u.0 ∷ held v n z ∷ []) (stored v n u.0 k)) (eqb-true x r t) (put_in app n v o x k u.0 (act_of app n there e)))
+              (at_hit has hits law _ row _ i u.1) p,
+          tt,
+        )))
     puts_sound v r p _ e = tt
 
     content_sound : (v : Content) (r : ℕ) → has (held v n r) → AllByRecursion (Sound (held v n r)) (content_on hits step n r v)
@@ -146,18 +160,28 @@ module _ (app : App) (has : Row → Type 0) (hits : Key → List Row) (law : (k 
         each_where P (o == r) (flat_map f (hits (PointsAt n x)) ++ flat_map f (hits (TaintsAt n x))) (λ t. each_append P (flat_map f (hits (PointsAt n x))) (flat_map f (hits (TaintsAt n x)))
         (each_flat P f (hits (PointsAt n x)) (λ row i.
         let u = (law (PointsAt n x)).under row i in
-        subst (λ z. AllByRecursion P (f z)) (sym u.1)
-        (first R has (subst (λ z. LocalRule app 8 (Points n z s ∷ Points n x u.0 ∷ []) (Cell s k u.0)) (eqb-true o r t) (put_cell (act_of app n there e))) p (at_hit has hits law _ row _ i u.1), tt)))
+        subst (λ z. AllByRecursion P (f z)) (sym u.1) (
+          first R has
+              (subst (λ z. LocalRule app 8 (Points n z s ∷ Points n x u.0 ∷ []) (Cell s k u.0)) (eqb-true o r t) (put_cell (act_of app n there e))) p
+              (at_hit has hits law _ row _ i u.1),
+          tt,
+        )))
         (each_flat P f (hits (TaintsAt n x)) (λ row i.
         let u = (law (TaintsAt n x)).under row i in
-        subst (λ z. AllByRecursion P (f z)) (sym u.1.1)
-        (first R has (subst (λ z. LocalRule app 8 (Points n z s ∷ Taint n x u.0 u.1.0 ∷ []) (stored (Label u.0 u.1.0) n s k)) (eqb-true o r t) (put_effect (act_of app n there e))) p (at_hit has hits law _ row _ i u.1.1), tt))))
+        subst (λ z. AllByRecursion P (f z)) (sym u.1.1) (
+          first R has
+              (subst (λ z. LocalRule app 8 (Points n z s ∷ Taint n x u.0 u.1.0 ∷ []) (stored (Label u.0 u.1.0) n s k)) (eqb-true o r t) (put_effect (act_of app n there e))) p
+              (at_hit has hits law _ row _ i u.1.1),
+          tt,
+        ))))
     object_sound r s p _ e = tt
 
     rest_sound : (r : ℕ) (p : Path) (l : ℕ) (ds : List ℕ) (k : KeyId) → has (Taint n r p l) → Acts app n (act.Get ds r k) →
         (o : Option Path) → rest p k ≡ o → AllByRecursion (Sound (Taint n r p l)) (rest_gives o ds step.next n r p l)
     rest_sound r p l ds k h a None e = tt
-    rest_sound r p l ds k h a (Some q) e = all_sound (Sound (Taint n r p l)) 7 (One (Taint n r p l)) (Label q l) n step.next ds (λ d pc i j. one R has (get_taint d a i e (next_of app n there j)) h)
+    rest_sound r p l ds k h a (Some q) e =
+        all_sound (Sound (Taint n r p l)) 7 (One (Taint n r p l)) (Label q l) n step.next ds
+        (λ d pc i j. one R has (get_taint d a i e (next_of app n there j)) h)
 
     label_sound : (r : ℕ) (p : Path) (l : ℕ) → has (Taint n r p l) → (a : Act) → step.act ≡ a →
         AllByRecursion (Sound (Taint n r p l)) (label_gives a step.next n r p l)
@@ -190,12 +214,16 @@ module _ (app : App) (has : Row → Type 0) (hits : Key → List Row) (law : (k 
   points_sound : (n : Node) (r : ℕ) (s : Site) → has (Points n r s) → (o : Option Step) → step_here app n ≡ o →
       AllByRecursion (Sound (Points n r s)) (points_on o hits n r s)
   points_sound n r s p None e = tt
-  points_sound n r s p (Some step) e = each_append (Sound (Points n r s)) (content_on hits step n r (Object s)) (object_gives hits step.act step.next n r s) (content_sound n step e (Object s) r p) (object_sound n step e r s p step.act refl)
+  points_sound n r s p (Some step) e =
+      each_append (Sound (Points n r s)) (content_on hits step n r (Object s)) (object_gives hits step.act step.next n r s)
+      (content_sound n step e (Object s) r p) (object_sound n step e r s p step.act refl)
 
   taint_sound : (n : Node) (r : ℕ) (p : Path) (l : ℕ) → has (Taint n r p l) → (o : Option Step) → step_here app n ≡ o →
       AllByRecursion (Sound (Taint n r p l)) (taint_on o hits n r p l)
   taint_sound n r p l h None e = tt
-  taint_sound n r p l h (Some step) e = each_append (Sound (Taint n r p l)) (content_on hits step n r (Label p l)) (label_gives step.act step.next n r p l) (content_sound n step e (Label p l) r h) (label_sound n step e r p l h step.act refl)
+  taint_sound n r p l h (Some step) e =
+      each_append (Sound (Taint n r p l)) (content_on hits step n r (Label p l)) (label_gives step.act step.next n r p l)
+      (content_sound n step e (Label p l) r h) (label_sound n step e r p l h step.act refl)
 
   reads_on_sound : (P : Conclusion → Type 0) (n : Node) (g : ℕ) (v : Content) →
       ((x : Row) → LocalRule app 9 (Reached n ∷ held_static v g ∷ []) x → P (concludes 9 (Two (Reached n) (held_static v g)) x)) →
@@ -204,7 +232,9 @@ module _ (app : App) (has : Row → Type 0) (hits : Key → List Row) (law : (k 
   reads_on_sound P n g v h (Some step) e = reads_sound n step e P g v h step.act refl
 
   static_sound : (g : ℕ) (v : Content) → has (held_static v g) → AllByRecursion (Sound (held_static v g)) (static_on app hits g v)
-  static_sound g v p = each_below P (λ method. readers_in app hits g v method (slice_get app.methods method)) (length app.methods) (λ method lt. in_method method (slice_get app.methods method))
+  static_sound g v p =
+      each_below P (λ method. readers_in app hits g v method (slice_get app.methods method)) (length app.methods)
+      (λ method lt. in_method method (slice_get app.methods method))
     where
       P : Conclusion → Type 0
       P = Sound (held_static v g)

@@ -77,7 +77,9 @@ static_gives act next n _ = []
 
 -- 9, from the reader.
 abbrev pub statics_read : (Key → List Row) → Act → List ℕ → Node → List Conclusion
-statics_read hits (act.GetStatic ds g) next n = flat_map (static_gives (act.GetStatic ds g) next n) (hits (StaticPointsOf g)) ++ flat_map (static_gives (act.GetStatic ds g) next n) (hits (StaticTaintsOf g))
+statics_read hits (act.GetStatic ds g) next n =
+    flat_map (static_gives (act.GetStatic ds g) next n) (hits (StaticPointsOf g)) ++ flat_map (static_gives (act.GetStatic ds g) next n)
+    (hits (StaticTaintsOf g))
 statics_read hits _ next n = []
 
 abbrev pub reached_on : Option Step → (Key → List Row) → Node → List Conclusion
@@ -86,7 +88,9 @@ reached_on (Some step) hits n = goes_on step.next n ++ (goes_on step.catches n +
 
 -- 2. A register keeps what it holds.
 abbrev pub keeps : Step → Node → ℕ → Content → List Conclusion
-keeps step n r v = cond (writes step.act r) [] (at_each 2 (One (held v n r)) v n r step.next) ++ cond (r == exception_register) [] (at_each 2 (One (held v n r)) v n r step.catches)
+keeps step n r v =
+    cond (writes step.act r) [] (at_each 2 (One (held v n r)) v n r step.next) ++ cond (r == exception_register) []
+    (at_each 2 (One (held v n r)) v n r step.catches)
 
 -- 11. It is thrown: out of the activation, and to each handler.
 abbrev pub thrown : List ℕ → Node → ℕ → Content → List Conclusion
@@ -130,7 +134,8 @@ got_gives ds next n r s _ = []
 abbrev pub object_gives : (Key → List Row) → Act → List ℕ → Node → ℕ → Site → List Conclusion
 object_gives hits (act.Fill xs class) next n r s = cond (holds xs r) (concludes 6 (One (Points n r s)) (Cell (At n) elem_key s) ∷ []) []
 object_gives hits (act.Get ds o k) next n r s = cond (o == r) (flat_map (got_gives ds next n r s) (hits (CellsOf s k))) []
-object_gives hits (act.Put o k x) next n r s = cond (o == r) (flat_map (put_on_gives n k r s) (hits (PointsAt n x)) ++ flat_map (put_on_gives n k r s) (hits (TaintsAt n x))) []
+object_gives hits (act.Put o k x) next n r s =
+    cond (o == r) (flat_map (put_on_gives n k r s) (hits (PointsAt n x)) ++ flat_map (put_on_gives n k r s) (hits (TaintsAt n x))) []
 object_gives hits _ next n r s = []
 
 abbrev pub points_on : Option Step → (Key → List Row) → Node → ℕ → Site → List Conclusion
