@@ -2,6 +2,7 @@ pub mod Apart
 pub mod Ascending
 pub mod Bools
 pub mod Eaches
+pub mod Every
 pub mod Firsts
 pub mod Halving
 pub mod Lists

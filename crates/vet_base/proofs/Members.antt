@@ -41,6 +41,14 @@ module _ {A : Type 0} where
       by_test true later e = inl (sym (same_Some y x e))
       by_test false later e = inr (later e)
 
+  pub found_passes : (test : A → Bool) (xs : List A) (x : A) → find test xs ≡ Some x → test x ≡ true
+  found_passes test [] x is = absurd (none-some x is)
+  found_passes test (y ∷ xs) x is = by_test (test y) refl (found_passes test xs x) is
+    where
+      by_test : (b : Bool) → test y ≡ b → (find test xs ≡ Some x → test x ≡ true) → cond b (Some y) (find test xs) ≡ Some x → test x ≡ true
+      by_test true passes later e = ap test (sym (same_Some y x e)) ∙ passes
+      by_test false fails later e = later e
+
   -- one list behind another
   pub in_front : (x : A) (xs ys : List A) → In x xs → In x (xs ++ ys)
   in_front x [] ys is_in = absurd is_in
