@@ -30,7 +30,8 @@ cut-covers : (k : KeyId) (p : Path) (ks : List KeyId) → Covers p ks → Covers
 unfolding Covers cut
 cut-covers k p ks h = go p.is_open p.keys h
   where
-    go : (is_open : Bool) (keys : Keys) → Covers (record { is_open = is_open; keys = keys }) ks → Covers (cut k (record { is_open = is_open; keys = keys })) (k ∷ ks)
+    go : (is_open : Bool) (keys : Keys) → Covers (record { is_open = is_open; keys = keys }) ks
+        → Covers (cut k (record { is_open = is_open; keys = keys })) (k ∷ ks)
     go true Zero h = (refl, h)
     go true (One a) h = (refl, h)
     go true (Two a b) h = (refl, h)
@@ -45,7 +46,9 @@ cut-covers k p ks h = go p.is_open p.keys h
     go false (Four a b c d) h = ap (λ x. k ∷ x) h
 
 -- behind a first key: that key is the first of what is covered, and the others cover the rest
-behind_first : (is_open : Bool) (a k : KeyId) (more ks : List KeyId) → MatchBool is_open (Begins (a ∷ more) (k ∷ ks)) (a ∷ more ≡ k ∷ ks) → (a.0 ≡ k.0) × MatchBool is_open (Begins more ks) (more ≡ ks)
+behind_first : (is_open : Bool) (a k : KeyId) (more ks : List KeyId)
+    → MatchBool is_open (Begins (a ∷ more) (k ∷ ks)) (a ∷ more ≡ k ∷ ks)
+    → (a.0 ≡ k.0) × MatchBool is_open (Begins more ks) (more ≡ ks)
 behind_first true a k more ks h = (ap (λ (x : KeyId). x.0) h.0, h.1)
 behind_first false a k more ks h = (ap (λ (l : List KeyId). (slice_index_or l 0 a).0) h, ap (drop 1) h)
 
@@ -60,7 +63,8 @@ rest-covers k p ks h = go p.is_open p.keys h
     left : (a : KeyId) (q : Path) → a.0 ≡ k.0 → (if nat_eq a.0 k.0 then Some q else None) ≡ Some q
     left a q same = ap (λ (b : Bool). if b then Some q else None) (eq-eqb a.0 k.0 same)
 
-    go : (is_open : Bool) (keys : Keys) → Covers (record { is_open = is_open; keys = keys }) (k ∷ ks) → (q : Path) × (rest (record { is_open = is_open; keys = keys }) k ≡ Some q) × Covers q ks
+    go : (is_open : Bool) (keys : Keys) → Covers (record { is_open = is_open; keys = keys }) (k ∷ ks)
+        → (q : Path) × (rest (record { is_open = is_open; keys = keys }) k ≡ Some q) × Covers q ks
     go true Zero h = (record { is_open = true; keys = Zero }, refl, tt)
     go false Zero h = absurd (true≢false (sym (ap has_keys h)))
     go o (One a) h = let w = behind_first o a k [] ks h in let q : Path = record { is_open = o; keys = Zero } in (q, left a q w.0, w.1)
@@ -103,7 +107,9 @@ keys-rest k j p q e h = go (keys_of p) refl e
     left : Keys → Path
     left keys = record { is_open = p.is_open; keys = keys }
 
-    go : (ks : List KeyId) → keys_of p ≡ ks → (elim (first_and_rest ks) [ None ↦ if p.is_open then Some p else None | Some f ↦ if nat_eq f.0.0 k.0 then Some (left f.1) else None ]) ≡ Some q → In j ks
+    go : (ks : List KeyId) → keys_of p ≡ ks
+        → (elim (first_and_rest ks) [ None ↦ if p.is_open then Some p else None | Some f ↦ if nat_eq f.0.0 k.0 then Some (left f.1) else None ]) ≡ Some q
+        → In j ks
     go [] is e = by_tail p.is_open e
       where
         by_tail : (b : Bool) → (if b then Some p else None) ≡ Some q → In j []

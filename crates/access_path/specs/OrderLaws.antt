@@ -12,6 +12,7 @@ use Rattle.vet_base.specs.contracts.key_id.KeyIdOrd.TheImpl.{ghosts as key_order
 use Rattle.access_path.specs.declared.keys.Keys.{Keys}
 use Rattle.access_path.specs.declared.keys.Keys.TheVariants.{Zero, One, Two, Three, Four, Five}
 use Rattle.access_path.specs.contracts.keys.KeysOrd.TheImpl.{ghosts as keys_order}
+use Rattle.access_path.specs.declared.path.Path.{Path}
 use Rattle.access_path.specs.Compared.{then_by, ComparesAs, compares_pair}
 use Rattle.access_path.specs.Keys.{keys_in}
 use Rattle.access_path.specs.Order.{path_cmp, numbers_of_path, PathOrder}
@@ -47,13 +48,19 @@ exact_keys : CmpEqualImpliesEq keys_order.cmp
 exact_keys Zero Zero e = refl
 exact_keys (One a) (One b) e = ap One (exact_key a b e)
 exact_keys (Two a b) (Two k l) e = ap (λ (p : KeyId × KeyId). Two p.0 p.1) (exact_two (a, b) (k, l) e)
-exact_keys (Three a b c) (Three k l m) e = ap (λ (p : KeyId × (KeyId × KeyId)). Three p.0 p.1.0 p.1.1) (exact_three (a, (b, c)) (k, (l, m)) e)
-exact_keys (Four a b c d) (Four k l m n) e = ap (λ (p : KeyId × (KeyId × (KeyId × KeyId))). Four p.0 p.1.0 p.1.1.0 p.1.1.1) (exact_four (a, (b, (c, d))) (k, (l, (m, n))) e)
-exact_keys (Five a b c d x) (Five k l m n y) e = ap (λ (p : KeyId × (KeyId × (KeyId × (KeyId × KeyId)))). Five p.0 p.1.0 p.1.1.0 p.1.1.1.0 p.1.1.1.1) (exact_pairs key_order.cmp by_four exact_key exact_four (a, (b, (c, (d, x)))) (k, (l, (m, (n, y)))) e)
+exact_keys (Three a b c) (Three k l m) e =
+    ap (λ (p : KeyId × (KeyId × KeyId)). Three p.0 p.1.0 p.1.1) (exact_three (a, (b, c)) (k, (l, m)) e)
+exact_keys (Four a b c d) (Four k l m n) e =
+    ap (λ (p : KeyId × (KeyId × (KeyId × KeyId))). Four p.0 p.1.0 p.1.1.0 p.1.1.1) (exact_four (a, (b, (c, d))) (k, (l, (m, n))) e)
+exact_keys (Five a b c d x) (Five k l m n y) e =
+    ap (λ (p : KeyId × (KeyId × (KeyId × (KeyId × KeyId)))). Five p.0 p.1.0 p.1.1.0 p.1.1.1.0 p.1.1.1.1)
+    (exact_pairs key_order.cmp by_four exact_key exact_four (a, (b, (c, (d, x)))) (k, (l, (m, (n, y)))) e)
 exact_keys _ _ e = absurd (not_equal _ refl e)
 
 exact_path : CmpEqualImpliesEq path_cmp
-exact_path a b e = ap (λ (p : Bool × Keys). record { is_open = p.0; keys = p.1 }) (exact_pairs bool_cmp keys_order.cmp exact_bool exact_keys (a.is_open, a.keys) (b.is_open, b.keys) e)
+exact_path a b e =
+    ap (λ (p : Bool × Keys). record { is_open = p.0; keys = p.1 })
+    (exact_pairs bool_cmp keys_order.cmp exact_bool exact_keys (a.is_open, a.keys) (b.is_open, b.keys) e)
 
 -- keys behind one another
 abbrev number : KeyId → List ℕ
@@ -77,9 +84,14 @@ three = compares_pair one two
 four : ComparesAs nat_cmp by_four (λ p. number p.0 ++ three_numbers p.1)
 four = compares_pair one three
 
+abbrev numbers : Keys → List ℕ
+numbers keys = map (λ (k : KeyId). k.0) (keys_in keys)
+
 -- the keys of two paths that are both closed or both open, behind the same number for as many keys
 abbrev AreStated : (ℕ → ℕ) → Keys → Keys → Type 0
-AreStated first a b = (xs ys : List ℕ) → slice_cmp nat_cmp (first (length (keys_in a)) ∷ map (λ (k : KeyId). k.0) (keys_in a) ++ xs) (first (length (keys_in b)) ∷ map (λ (k : KeyId). k.0) (keys_in b) ++ ys) ≡ ordering_then (keys_order.cmp a b) (slice_cmp nat_cmp xs ys)
+AreStated first a b = (xs ys : List ℕ)
+    → slice_cmp nat_cmp (first (length (keys_in a)) ∷ numbers a ++ xs) (first (length (keys_in b)) ∷ numbers b ++ ys)
+    ≡ ordering_then (keys_order.cmp a b) (slice_cmp nat_cmp xs ys)
 
 stated_closed : (a b : Keys) → AreStated (λ n. n) a b
 stated_closed Zero Zero xs ys = refl
@@ -118,14 +130,19 @@ above_closed (Four a b c d) (Four k l m n) = refl
 above_closed (Five a b c d e) (Five k l m n o) = refl
 above_closed _ _ = refl
 
+abbrev path : Bool → Keys → Path
+path is_open keys = record { is_open = is_open; keys = keys }
+
 stated_path : ComparesAs nat_cmp path_cmp numbers_of_path
 stated_path = record { is = λ p q xs ys. go p.is_open q.is_open p.keys q.keys xs ys }
   where
-    go : (o u : Bool) (a b : Keys) (xs ys : List ℕ) → slice_cmp nat_cmp (numbers_of_path (record { is_open = o; keys = a }) ++ xs) (numbers_of_path (record { is_open = u; keys = b }) ++ ys) ≡ ordering_then (path_cmp (record { is_open = o; keys = a }) (record { is_open = u; keys = b })) (slice_cmp nat_cmp xs ys)
+    go : (o u : Bool) (a b : Keys) (xs ys : List ℕ)
+        → slice_cmp nat_cmp (numbers_of_path (path o a) ++ xs) (numbers_of_path (path u b) ++ ys)
+        ≡ ordering_then (path_cmp (path o a) (path u b)) (slice_cmp nat_cmp xs ys)
     go false false a b xs ys = stated_closed a b xs ys
     go true true a b xs ys = stated_open a b xs ys
-    go false true a b xs ys = ap (λ o. ordering_then o (slice_cmp nat_cmp (map (λ (k : KeyId). k.0) (keys_in a) ++ xs) (map (λ (k : KeyId). k.0) (keys_in b) ++ ys))) (below_open a b)
-    go true false a b xs ys = ap (λ o. ordering_then o (slice_cmp nat_cmp (map (λ (k : KeyId). k.0) (keys_in a) ++ xs) (map (λ (k : KeyId). k.0) (keys_in b) ++ ys))) (above_closed a b)
+    go false true a b xs ys = ap (λ o. ordering_then o (slice_cmp nat_cmp (numbers a ++ xs) (numbers b ++ ys))) (below_open a b)
+    go true false a b xs ys = ap (λ o. ordering_then o (slice_cmp nat_cmp (numbers a ++ xs) (numbers b ++ ys))) (above_closed a b)
 
 pub path_order_is : PathOrder
 path_order_is = record { exact = exact_path; stated = stated_path }

@@ -24,7 +24,10 @@ cut k p = let ks = k ∷ keys_of p in record { is_open = p.is_open || nat_lt MOS
 
 -- the path without its first key, where that is this one; an open path without keys stays as it is
 unfoldable pub rest : Path → KeyId → Option Path
-rest p k = elim (first_and_rest (keys_of p)) [ None ↦ if p.is_open then Some p else None | Some f ↦ if f.0.0 == k.0 then Some (record { is_open = p.is_open; keys = f.1 }) else None ]
+rest p k = elim (first_and_rest (keys_of p)) [
+  | None ↦ if p.is_open then Some p else None
+  | Some f ↦ if f.0.0 == k.0 then Some (record { is_open = p.is_open; keys = f.1 }) else None
+]
 
 -- no keys, closed
 abbrev pub empty_path : Path

@@ -46,18 +46,25 @@ exact_ctx (ctx.Click a b) (ctx.Click c d) e = ap (λ (p : ℕ × ℕ). ctx.Click
 exact_ctx (ctx.Handed a) (ctx.Handed b) e = ap ctx.Handed (exact_unsigned a b e)
 exact_ctx (ctx.Init a) (ctx.Init b) e = ap ctx.Init (exact_unsigned a b e)
 exact_ctx (ctx.Call a b) (ctx.Call c d) e = ap (λ (p : ℕ × ℕ). ctx.Call p.0 p.1) (exact_two (a, b) (c, d) e)
-exact_ctx (ctx.Call2 a b x y) (ctx.Call2 c d u v) e = ap (λ (p : ℕ × (ℕ × (ℕ × ℕ))). ctx.Call2 p.0 p.1.0 p.1.1.0 p.1.1.1) (exact_four (a, (b, (x, y))) (c, (d, (u, v))) e)
+exact_ctx (ctx.Call2 a b x y) (ctx.Call2 c d u v) e =
+    ap (λ (p : ℕ × (ℕ × (ℕ × ℕ))). ctx.Call2 p.0 p.1.0 p.1.1.0 p.1.1.1) (exact_four (a, (b, (x, y))) (c, (d, (u, v))) e)
 exact_ctx _ _ e = absurd (not_equal _ refl e)
 
 exact_activation : CmpEqualImpliesEq activation_order.cmp
-exact_activation a b e = ap (λ (p : Ctx × ℕ). record { ctx = p.0; method = p.1 }) (exact_pairs ctx_order.cmp nat_cmp exact_ctx exact_unsigned (a.ctx, a.method) (b.ctx, b.method) e)
+exact_activation a b e =
+    ap (λ (p : Ctx × ℕ). record { ctx = p.0; method = p.1 })
+    (exact_pairs ctx_order.cmp nat_cmp exact_ctx exact_unsigned (a.ctx, a.method) (b.ctx, b.method) e)
 
 exact_node : CmpEqualImpliesEq node_order.cmp
-exact_node a b e = ap (λ (p : Activation × ℕ). record { by = p.0; pc = p.1 }) (exact_pairs activation_order.cmp nat_cmp exact_activation exact_unsigned (a.by, a.pc) (b.by, b.pc) e)
+exact_node a b e =
+    ap (λ (p : Activation × ℕ). record { by = p.0; pc = p.1 })
+    (exact_pairs activation_order.cmp nat_cmp exact_activation exact_unsigned (a.by, a.pc) (b.by, b.pc) e)
 
 exact_site : CmpEqualImpliesEq site_order.cmp
 exact_site (At a) (At b) e = ap At (exact_node a b e)
-exact_site (Param a b) (Param c d) e = ap (λ (p : Ctx × ℕ). Param p.0 p.1) (exact_pairs ctx_order.cmp nat_cmp exact_ctx exact_unsigned (a, b) (c, d) e)
+exact_site (Param a b) (Param c d) e =
+    ap (λ (p : Ctx × ℕ). Param p.0 p.1)
+    (exact_pairs ctx_order.cmp nat_cmp exact_ctx exact_unsigned (a, b) (c, d) e)
 exact_site (Component a) (Component b) e = ap Component (exact_unsigned a b e)
 exact_site (Shared a) (Shared b) e = ap Shared (exact_unsigned a b e)
 exact_site _ _ e = absurd (not_equal _ refl e)
@@ -83,7 +90,8 @@ four = compares_pair one (compares_pair one two)
 stated_ctx : ComparesAs nat_cmp ctx_order.cmp numbers_of_ctx
 stated_ctx = record { is = go }
   where
-    go : (a b : Ctx) (xs ys : List ℕ) → slice_cmp nat_cmp (numbers_of_ctx a ++ xs) (numbers_of_ctx b ++ ys) ≡ ordering_then (ctx_order.cmp a b) (slice_cmp nat_cmp xs ys)
+    go : (a b : Ctx) (xs ys : List ℕ)
+        → slice_cmp nat_cmp (numbers_of_ctx a ++ xs) (numbers_of_ctx b ++ ys) ≡ ordering_then (ctx_order.cmp a b) (slice_cmp nat_cmp xs ys)
     go (ctx.Row a b) (ctx.Row c d) xs ys = two.is (a, b) (c, d) xs ys
     go (ctx.Callback a b) (ctx.Callback c d) xs ys = two.is (a, b) (c, d) xs ys
     go (ctx.Click a b) (ctx.Click c d) xs ys = two.is (a, b) (c, d) xs ys
@@ -102,7 +110,8 @@ stated_node = record { is = λ a b xs ys. (compares_pair stated_activation one).
 stated_site : ComparesAs nat_cmp site_order.cmp numbers_of_site
 stated_site = record { is = go }
   where
-    go : (a b : Site) (xs ys : List ℕ) → slice_cmp nat_cmp (numbers_of_site a ++ xs) (numbers_of_site b ++ ys) ≡ ordering_then (site_order.cmp a b) (slice_cmp nat_cmp xs ys)
+    go : (a b : Site) (xs ys : List ℕ)
+        → slice_cmp nat_cmp (numbers_of_site a ++ xs) (numbers_of_site b ++ ys) ≡ ordering_then (site_order.cmp a b) (slice_cmp nat_cmp xs ys)
     go (At a) (At b) xs ys = stated_node.is a b xs ys
     go (Param a b) (Param c d) xs ys = (compares_pair stated_ctx one).is (a, b) (c, d) xs ys
     go (Component a) (Component b) xs ys = refl
@@ -112,7 +121,8 @@ stated_site = record { is = go }
 stated_use : ComparesAs nat_cmp use_order.cmp numbers_of_use
 stated_use = record { is = go }
   where
-    go : (a b : SummaryId) (xs ys : List ℕ) → slice_cmp nat_cmp (numbers_of_use a ++ xs) (numbers_of_use b ++ ys) ≡ ordering_then (use_order.cmp a b) (slice_cmp nat_cmp xs ys)
+    go : (a b : SummaryId) (xs ys : List ℕ)
+        → slice_cmp nat_cmp (numbers_of_use a ++ xs) (numbers_of_use b ++ ys) ≡ ordering_then (use_order.cmp a b) (slice_cmp nat_cmp xs ys)
     go (use_of.Row a) (use_of.Row b) xs ys = refl
     go (use_of.Fallback a) (use_of.Fallback b) xs ys = refl
     go _ _ xs ys = refl
@@ -152,14 +162,16 @@ pub cause : ToldBy nat_cmp field.Cause
 cause = record { exact = exact_unsigned; alike = λ a b. refl; stated = one }
 
 pub register : ToldBeside node_order.cmp nat_cmp field.Register
-register = record { exact = exact_unsigned; alike = λ a c b d. refl; stated = λ a c b d xs ys. refl }
+register = record { exact = exact_unsigned; alike = λ a c b d. refl; own = number; written = λ a b. refl; stated = one }
 
 pub state : ToldBeside nat_cmp nat_cmp field.State
-state = record { exact = exact_unsigned; alike = λ a c b d. refl; stated = λ a c b d xs ys. refl }
+state = record { exact = exact_unsigned; alike = λ a c b d. refl; own = number; written = λ a b. refl; stated = one }
 
 pub exact_field : CmpEqualImpliesEq field_cmp
 exact_field (field.Node a) (field.Node b) e = ap field.Node (exact_node a b e)
-exact_field (field.Register a b) (field.Register c d) e = ap (λ (p : Node × ℕ). field.Register p.0 p.1) (exact_pairs node_order.cmp nat_cmp exact_node exact_unsigned (a, b) (c, d) e)
+exact_field (field.Register a b) (field.Register c d) e =
+    ap (λ (p : Node × ℕ). field.Register p.0 p.1)
+    (exact_pairs node_order.cmp nat_cmp exact_node exact_unsigned (a, b) (c, d) e)
 exact_field (field.Activation a) (field.Activation b) e = ap field.Activation (exact_activation a b e)
 exact_field (field.Site a) (field.Site b) e = ap field.Site (exact_site a b e)
 exact_field (field.Key a) (field.Key b) e = ap field.Key (exact_key a b e)

@@ -74,7 +74,8 @@ pub data RegisterIn (app : App) (n : Node) (r : ℕ) : Type 0 where
 pub data MakesAt (app : App) (method pc : ℕ) : Type 0 where
   by_new : {d : ℕ} {class : Name} → ActAt app method pc (act.New d class) → MakesAt app method pc
   by_fill : {xs : List ℕ} {class : Name} → ActAt app method pc (act.Fill xs class) → MakesAt app method pc
-  by_call : {kind : CallKind} {at : MethodRef} {args : List ℕ} → ActAt app method pc (act.Call kind at args) → IsTrue (is_reference at.proto.ret) → MakesAt app method pc
+  by_call : {kind : CallKind} {at : MethodRef} {args : List ℕ} → ActAt app method pc (act.Call kind at args)
+      → IsTrue (is_reference at.proto.ret) → MakesAt app method pc
 
 -- a parameter of an event that is of a reference type
 pub record ParameterIn (app : App) (lists : Lists) (ctx : Ctx) (i : ℕ) : Type 0 where

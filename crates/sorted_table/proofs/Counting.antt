@@ -39,7 +39,8 @@ pub steady : {K : Type 0} {R : K → K → Ordering} {side : K → Ordering} →
 steady {side = side} rises inside x y below h = let r = rises x y below in steady_side inside (side x) (side y) r.0 r.1 h
 
 -- in a list that ascends the two ends of a search say all
-pub bound_from_ends : {K : Type 0} {R : K → K → Ordering} → IsTotalOrder R → (test : K → Bool) → Steady R test → (rows : List K) → Ascends R rows → (n : ℕ) → Between (Is test true) (Is test false) rows n n → IsBound test rows n
+pub bound_from_ends : {K : Type 0} {R : K → K → Ordering} → IsTotalOrder R → (test : K → Bool) → Steady R test → (rows : List K)
+    → Ascends R rows → (n : ℕ) → Between (Is test true) (Is test false) rows n n → IsBound test rows n
 bound_from_ends {K} {R} total test steady rows up n b = record { within = b.within; below = below; above = above }
   where
     pairs : AllPairs (λ x y. R x y ≡ Less) rows
@@ -159,11 +160,14 @@ module _ {K : Type 0} {R : K → K → Ordering} (o : IsTotalOrder R) where
       ]
 
 -- a row that was looked for and is not there goes in at its place
-pub added_at : {K : Type 0} {R : K → K → Ordering} → IsTotalOrder R → CmpEqualImpliesEq R → (rows new : List K) → Ascends R rows → (x : K) (n : ℕ) → IsBound (counted (λ y. R y x) true) rows n → (found : Bool) → found ≡ false → (((0 < n) × (get_or rows (n - 1) x ≡ x)) → found ≡ true) → new ≡ insert rows n x → Added R rows x new
+pub added_at : {K : Type 0} {R : K → K → Ordering} → IsTotalOrder R → CmpEqualImpliesEq R → (rows new : List K) → Ascends R rows
+    → (x : K) (n : ℕ) → IsBound (counted (λ y. R y x) true) rows n → (found : Bool) → found ≡ false
+    → (((0 < n) × (get_or rows (n - 1) x ≡ x)) → found ≡ true) → new ≡ insert rows n x → Added R rows x new
 added_at {R = R} o exact rows new up x n b found missed hit is = subst (Added R rows x) (sym is) (added o rows up x n b exact (λ h. true≢false (sym (hit h) ∙ missed)))
 
 -- from one bound to the other stand the rows of the stretch
-pub range_from_bounds : {K : Type 0} (side : K → Ordering) (rows : List K) (from to : ℕ) → IsBound (counted side false) rows from → IsBound (counted side true) rows to → IsRange side rows from to
+pub range_from_bounds : {K : Type 0} (side : K → Ordering) (rows : List K) (from to : ℕ) → IsBound (counted side false) rows from
+    → IsBound (counted side true) rows to → IsRange side rows from to
 range_from_bounds {K} side rows from to b c = record {
   order = order (cases_lt to from);
   within = c.within;

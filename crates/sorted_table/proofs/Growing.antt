@@ -29,7 +29,8 @@ get_or-raised (suc from) zero (n ∷ ns) d le = refl
 get_or-raised zero (suc to) (n ∷ ns) d le = get_or-raised zero to ns d (omega arith)
 get_or-raised (suc from) (suc to) (n ∷ ns) d le = get_or-raised from to ns d (omega arith)
 
-pub raised_more : (from to : ℕ) (ns : List ℕ) (d : ℕ) → from ≤ to → to < length ns → set (raised from to ns) to (get_or ns to d + 1) ≡ raised from (to + 1) ns
+pub raised_more : (from to : ℕ) (ns : List ℕ) (d : ℕ) → from ≤ to → to < length ns
+    → set (raised from to ns) to (get_or ns to d + 1) ≡ raised from (to + 1) ns
 raised_more from to [] d le lt = absurd (omega arith)
 raised_more zero zero (n ∷ ns) d le lt = ap (λ z. (n + 1) ∷ z) (raised_none zero ns)
 raised_more (suc from) zero (n ∷ ns) d le lt = absurd (omega arith)
@@ -37,7 +38,8 @@ raised_more zero (suc to) (n ∷ ns) d le lt = let one : suc to + 1 ≡ suc (to 
 raised_more (suc from) (suc to) (n ∷ ns) d le lt = let one : suc to + 1 ≡ suc (to + 1) = omega arith in ap (λ z. n ∷ z) (raised_more from to ns d (omega arith) (omega arith)) ∙ ap (λ z. raised (suc from) z (n ∷ ns)) (sym one)
 
 -- no start is above the number of rows
-pub starts_below : {K : Type 0} (ps : List (Part K)) (starts : List ℕ) (i d : ℕ) → IsKept ps starts → i < length starts → get_or starts i d ≤ length (all_rows ps)
+pub starts_below : {K : Type 0} (ps : List (Part K)) (starts : List ℕ) (i d : ℕ) → IsKept ps starts → i < length starts
+    → get_or starts i d ≤ length (all_rows ps)
 starts_below ps starts i d kept lt =
     let there : i < length ps = omega (arith, ap length kept.numbers, length-starts_of 0 ps) in
     omega (arith, ap (λ z. get_or z i d) kept.numbers, get_or-starts_of 0 ps i d there, before_within ps i)
@@ -46,7 +48,9 @@ pub length-starts : {K : Type 0} (ps : List (Part K)) (starts : List ℕ) → Is
 length-starts ps starts kept = ap length kept.numbers ∙ length-starts_of 0 ps
 
 -- a row goes into a part
-pub all_rows-put : {K : Type 0} (ps : List (Part K)) (i j : ℕ) (e q : Part K) (x : K) → i < length ps → j ≤ length (rows_of (get_or ps i e)) → rows_of q ≡ insert (rows_of (get_or ps i e)) j x → all_rows (set ps i q) ≡ insert (all_rows ps) (before ps i + j) x
+pub all_rows-put : {K : Type 0} (ps : List (Part K)) (i j : ℕ) (e q : Part K) (x : K) → i < length ps
+    → j ≤ length (rows_of (get_or ps i e)) → rows_of q ≡ insert (rows_of (get_or ps i e)) j x
+    → all_rows (set ps i q) ≡ insert (all_rows ps) (before ps i + j) x
 all_rows-put [] i j e q x lt le is = absurd (omega arith)
 all_rows-put (p ∷ ps) zero j e q x lt le is = ap (λ z. z ++ all_rows ps) is ∙ (sym (insert-append_left (rows_of p) (all_rows ps) j x le) ∙ ap (λ z. insert (rows_of p ++ all_rows ps) z x) (omega arith))
 all_rows-put (p ∷ ps) (suc i) j e q x lt le is =
@@ -61,13 +65,17 @@ starts_raised : {K : Type 0} (n : ℕ) (ps : List (Part K)) → starts_of (n + 1
 starts_raised n [] = refl
 starts_raised n (p ∷ ps) = let sum : n + 1 + length (rows_of p) ≡ n + length (rows_of p) + 1 = omega arith in ap (λ z. (n + 1) ∷ starts_of z ps) sum ∙ ap (λ z. (n + 1) ∷ z) (starts_raised (n + length (rows_of p)) ps)
 
-pub starts_of-put : {K : Type 0} (n : ℕ) (ps : List (Part K)) (i : ℕ) (e q : Part K) → i < length ps → length (rows_of q) ≡ length (rows_of (get_or ps i e)) + 1 → starts_of n (set ps i q) ≡ raised (i + 1) (length ps) (starts_of n ps)
+pub starts_of-put : {K : Type 0} (n : ℕ) (ps : List (Part K)) (i : ℕ) (e q : Part K) → i < length ps
+    → length (rows_of q) ≡ length (rows_of (get_or ps i e)) + 1
+    → starts_of n (set ps i q) ≡ raised (i + 1) (length ps) (starts_of n ps)
 starts_of-put n [] i e q lt more = absurd (omega arith)
 starts_of-put n (p ∷ ps) zero e q lt more = let sum : n + length (rows_of q) ≡ n + length (rows_of p) + 1 = omega arith in ap (λ z. n ∷ starts_of z ps) sum ∙ ap (λ z. n ∷ z) (starts_raised (n + length (rows_of p)) ps)
 starts_of-put n (p ∷ ps) (suc i) e q lt more = let one : suc i + 1 ≡ suc (i + 1) = omega arith in ap (λ z. n ∷ z) (starts_of-put (n + length (rows_of p)) ps i e q (omega arith) more) ∙ ap (λ z. raised z (suc (length ps)) (n ∷ starts_of (n + length (rows_of p)) ps)) (sym one)
 
 -- with one more row in a part that has room the parts are kept
-pub kept_put : {K : Type 0} (ps : List (Part K)) (starts new : List ℕ) (i j : ℕ) (e q : Part K) (x : K) → IsKept ps starts → HasRoom ps i → j ≤ length (rows_of (get_or ps i e)) → rows_of q ≡ insert (rows_of (get_or ps i e)) j x → new ≡ raised (i + 1) (length starts) starts → IsKept (set ps i q) new
+pub kept_put : {K : Type 0} (ps : List (Part K)) (starts new : List ℕ) (i j : ℕ) (e q : Part K) (x : K) → IsKept ps starts
+    → HasRoom ps i → j ≤ length (rows_of (get_or ps i e)) → rows_of q ≡ insert (rows_of (get_or ps i e)) j x
+    → new ≡ raised (i + 1) (length starts) starts → IsKept (set ps i q) new
 kept_put {K} ps starts new i j e q x kept room le is raise =
     let more : length (rows_of q) ≡ length (rows_of (get_or ps i e)) + 1 = ap length is ∙ length-insert (rows_of (get_or ps i e)) j x le in
     record {
@@ -76,17 +84,20 @@ kept_put {K} ps starts new i j e q x kept room le is raise =
     }
 
 -- a part is written back as it was
-pub all_rows-same : {K : Type 0} (ps : List (Part K)) (i : ℕ) (e q : Part K) → i < length ps → rows_of q ≡ rows_of (get_or ps i e) → all_rows (set ps i q) ≡ all_rows ps
+pub all_rows-same : {K : Type 0} (ps : List (Part K)) (i : ℕ) (e q : Part K) → i < length ps → rows_of q ≡ rows_of (get_or ps i e)
+    → all_rows (set ps i q) ≡ all_rows ps
 all_rows-same [] i e q lt is = absurd (omega arith)
 all_rows-same (p ∷ ps) zero e q lt is = ap (λ z. z ++ all_rows ps) is
 all_rows-same (p ∷ ps) (suc i) e q lt is = ap (λ z. rows_of p ++ z) (all_rows-same ps i e q (omega arith) is)
 
-starts_of-same : {K : Type 0} (n : ℕ) (ps : List (Part K)) (i : ℕ) (e q : Part K) → i < length ps → length (rows_of q) ≡ length (rows_of (get_or ps i e)) → starts_of n (set ps i q) ≡ starts_of n ps
+starts_of-same : {K : Type 0} (n : ℕ) (ps : List (Part K)) (i : ℕ) (e q : Part K) → i < length ps
+    → length (rows_of q) ≡ length (rows_of (get_or ps i e)) → starts_of n (set ps i q) ≡ starts_of n ps
 starts_of-same n [] i e q lt is = absurd (omega arith)
 starts_of-same n (p ∷ ps) zero e q lt is = ap (λ z. n ∷ starts_of (n + z) ps) is
 starts_of-same n (p ∷ ps) (suc i) e q lt is = ap (λ z. n ∷ z) (starts_of-same (n + length (rows_of p)) ps i e q (omega arith) is)
 
-pub kept_same : {K : Type 0} (ps : List (Part K)) (starts : List ℕ) (i : ℕ) (e q : Part K) → i < length ps → rows_of q ≡ rows_of (get_or ps i e) → IsKept ps starts → IsKept (set ps i q) starts
+pub kept_same : {K : Type 0} (ps : List (Part K)) (starts : List ℕ) (i : ℕ) (e q : Part K) → i < length ps
+    → rows_of q ≡ rows_of (get_or ps i e) → IsKept ps starts → IsKept (set ps i q) starts
 kept_same {K} ps starts i e q lt is kept = record {
   filled = All-set (λ (p : Part K). (0 < length (rows_of p)) × (length (rows_of p) ≤ FULL)) ps i q (subst (λ z. (0 < length z) × (length z ≤ FULL)) (sym is) (kept.filled i e lt)) kept.filled;
   numbers = kept.numbers ∙ sym (starts_of-same 0 ps i e q lt (ap length is));
@@ -106,12 +117,14 @@ module _ {K : Type 0} (cut : ℕ) (q r : Part K) where
   pub high_length : (p : Part K) → Halves p → length (rows_of r) + cut ≡ length (rows_of p)
   high_length p h = omega (arith, ap length h.1, length-drop cut (rows_of p), h.2)
 
-  pub all_rows-split : (ps : List (Part K)) (i : ℕ) (e : Part K) → i < length ps → Halves (get_or ps i e) → all_rows (set (insert ps (i + 1) r) i q) ≡ all_rows ps
+  pub all_rows-split : (ps : List (Part K)) (i : ℕ) (e : Part K) → i < length ps → Halves (get_or ps i e)
+      → all_rows (set (insert ps (i + 1) r) i q) ≡ all_rows ps
   all_rows-split [] i e lt h = absurd (omega arith)
   all_rows-split (p ∷ ps) zero e lt h = sym (append_assoc (rows_of q) (rows_of r) (all_rows ps)) ∙ ap (λ z. z ++ all_rows ps) (halves_join p h)
   all_rows-split (p ∷ ps) (suc i) e lt h = let one : suc i + 1 ≡ suc (i + 1) = omega arith in ap (λ n. all_rows (set (insert (p ∷ ps) n r) (suc i) q)) one ∙ ap (λ z. rows_of p ++ z) (all_rows-split ps i e (omega arith) h)
 
-  starts_of-split : (n : ℕ) (ps : List (Part K)) (i : ℕ) (e : Part K) → i < length ps → Halves (get_or ps i e) → starts_of n (set (insert ps (i + 1) r) i q) ≡ insert (starts_of n ps) (i + 1) (n + before ps i + cut)
+  starts_of-split : (n : ℕ) (ps : List (Part K)) (i : ℕ) (e : Part K) → i < length ps → Halves (get_or ps i e)
+      → starts_of n (set (insert ps (i + 1) r) i q) ≡ insert (starts_of n ps) (i + 1) (n + before ps i + cut)
   starts_of-split n [] i e lt h = absurd (omega arith)
   starts_of-split n (p ∷ ps) zero e lt h =
       let first : n + length (rows_of q) ≡ n + 0 + cut = omega (arith, low_length p h) in
@@ -125,7 +138,9 @@ module _ {K : Type 0} (cut : ℕ) (q r : Part K) where
       ∙ (ap (λ z. n ∷ insert (starts_of (n + length (rows_of p)) ps) (i + 1) z) sum
       ∙ ap (λ z. insert (n ∷ starts_of (n + length (rows_of p)) ps) z (n + before (p ∷ ps) (suc i) + cut)) (sym one)))
 
-  pub kept_split : (ps : List (Part K)) (starts new : List ℕ) (i start : ℕ) (e : Part K) → i < length ps → Halves (get_or ps i e) → length (rows_of (get_or ps i e)) ≡ FULL → 0 < cut → cut < FULL → IsKept ps starts → start ≡ before ps i + cut → new ≡ insert starts (i + 1) start → IsKept (set (insert ps (i + 1) r) i q) new
+  pub kept_split : (ps : List (Part K)) (starts new : List ℕ) (i start : ℕ) (e : Part K) → i < length ps → Halves (get_or ps i e)
+      → length (rows_of (get_or ps i e)) ≡ FULL → 0 < cut → cut < FULL → IsKept ps starts → start ≡ before ps i + cut
+      → new ≡ insert starts (i + 1) start → IsKept (set (insert ps (i + 1) r) i q) new
   kept_split ps starts new i start e lt h full some less kept at is =
       let P = λ (p : Part K). (0 < length (rows_of p)) × (length (rows_of p) ≤ FULL) in
       let low = low_length (get_or ps i e) h in
@@ -147,7 +162,8 @@ module _ {K : Type 0} (cut : ℕ) (q r : Part K) where
       ap (λ z. before (set (insert (p ∷ ps) z r) (suc i) q) (suc i)) one
       ∙ omega (arith, length-append (rows_of p) (all_rows (take i new)), length-append (rows_of p) (all_rows (take i ps)), before_low ps i (omega arith))
 
-  pub is_split : (ps : List (Part K)) (i : ℕ) (e : Part K) → i < length ps → Halves (get_or ps i e) → length (rows_of (get_or ps i e)) ≡ FULL → IsSplit ps i cut (set (insert ps (i + 1) r) i q)
+  pub is_split : (ps : List (Part K)) (i : ℕ) (e : Part K) → i < length ps → Halves (get_or ps i e)
+      → length (rows_of (get_or ps i e)) ≡ FULL → IsSplit ps i cut (set (insert ps (i + 1) r) i q)
   is_split ps i e lt h full =
       let new = set (insert ps (i + 1) r) i q in
       let count = length_split ps i lt in
@@ -169,7 +185,8 @@ pub record Cut {K : Type 0} (ps : List (Part K)) (starts : List ℕ) (i cut : �
   pub kept : IsKept done new
   pub split : IsSplit ps i cut done
 
-pub cut_is : {K : Type 0} (ps inserted : List (Part K)) (starts new : List ℕ) (i cut start : ℕ) (e d q r : Part K) → i < length ps → length (rows_of (get_or ps i e)) ≡ FULL → 0 < cut → cut < FULL → IsKept ps starts →
+pub cut_is : {K : Type 0} (ps inserted : List (Part K)) (starts new : List ℕ) (i cut start : ℕ) (e d q r : Part K) → i < length ps
+    → length (rows_of (get_or ps i e)) ≡ FULL → 0 < cut → cut < FULL → IsKept ps starts →
     e ≡ get_or ps i e → rows_of r ≡ drop cut (rows_of e) → inserted ≡ insert ps (i + 1) r → d ≡ get_or inserted i d → rows_of q ≡ take cut (rows_of d) → start ≡ before ps i + cut → new ≡ insert starts (i + 1) start → Cut ps starts i cut (set inserted i q) new
 cut_is {K} ps inserted starts new i cut start e d q r lt full some less kept old high put was low at is =
     subst (λ z. Cut ps starts i cut (set z i q) new) (sym put) (record {

@@ -21,7 +21,8 @@ before_zero [] = refl
 before_zero (p ∷ ps) = refl
 
 -- the rows before the next part
-pub before_next : {K : Type 0} (ps : List (Part K)) (i : ℕ) (e : Part K) → i < length ps → before ps (i + 1) ≡ before ps i + length (rows_of (get_or ps i e))
+pub before_next : {K : Type 0} (ps : List (Part K)) (i : ℕ) (e : Part K) → i < length ps
+    → before ps (i + 1) ≡ before ps i + length (rows_of (get_or ps i e))
 before_next [] i e lt = absurd (omega arith)
 before_next (p ∷ ps) zero e lt = omega (arith, length-append (rows_of p) (all_rows (take 0 ps)), before_zero ps)
 before_next (p ∷ ps) (suc i) e lt = let one : suc i + 1 ≡ suc (i + 1) = omega arith in ap (before (p ∷ ps)) one ∙ omega (arith, length-append (rows_of p) (all_rows (take (i + 1) ps)), length-append (rows_of p) (all_rows (take i ps)), before_next ps i e (omega arith))
@@ -43,11 +44,13 @@ part_at [] i lt = absurd (omega arith)
 part_at (p ∷ ps) i lt = p
 
 -- a slot lies among all rows, or at their end
-pub slot_within : {K : Type 0} (ps : List (Part K)) (i j : ℕ) (e : Part K) → i < length ps → j ≤ length (rows_of (get_or ps i e)) → before ps i + j ≤ length (all_rows ps)
+pub slot_within : {K : Type 0} (ps : List (Part K)) (i j : ℕ) (e : Part K) → i < length ps → j ≤ length (rows_of (get_or ps i e))
+    → before ps i + j ≤ length (all_rows ps)
 slot_within ps i j e lt le = omega (arith, before_next ps i e lt, before_within ps (i + 1))
 
 -- the row at a place of a part
-pub row_of_part : {K : Type 0} (ps : List (Part K)) (i j : ℕ) (e : Part K) (d : K) → i < length ps → j < length (rows_of (get_or ps i e)) → get_or (all_rows ps) (before ps i + j) d ≡ get_or (rows_of (get_or ps i e)) j d
+pub row_of_part : {K : Type 0} (ps : List (Part K)) (i j : ℕ) (e : Part K) (d : K) → i < length ps
+    → j < length (rows_of (get_or ps i e)) → get_or (all_rows ps) (before ps i + j) d ≡ get_or (rows_of (get_or ps i e)) j d
 row_of_part ps i j e d lt less = get_or-flat_map rows_of ps i j e d lt less
 
 module _ {K : Type 0} (test : K → Bool) (ps : List (Part K)) (filled : Filled ps) (m : ℕ) (b : Between (BeginsWith test true) (BeginsWith test false) ps m m) (e : Part K) where
@@ -93,7 +96,8 @@ module _ {K : Type 0} (test : K → Bool) (ps : List (Part K)) (filled : Filled 
     above_slot : before ps (m - 1) + place < length (all_rows ps) → (d : K) → test (get_or (all_rows ps) (before ps (m - 1) + place) d) ≡ false
     above_slot lt d = by (cases_lt place (length (rows_of (get_or ps (m - 1) e))))
       where
-        next : place ≡ length (rows_of (get_or ps (m - 1) e)) → (0 < m) ⊎ (m ≤ 0) → (m < length ps) ⊎ (length ps ≤ m) → test (get_or (all_rows ps) (before ps (m - 1) + place) d) ≡ false
+        next : place ≡ length (rows_of (get_or ps (m - 1) e)) → (0 < m) ⊎ (m ≤ 0) → (m < length ps) ⊎ (length ps ≤ m)
+            → test (get_or (all_rows ps) (before ps (m - 1) + place) d) ≡ false
         next whole (inr none) q = let is : m - 1 ≡ m = omega arith in absurd (true≢false (sym (c.below 0 d (omega (arith, (filled (m - 1) e there).0))) ∙ subst (λ z. test (get_or (rows_of (get_or ps z e)) 0 d) ≡ false) (sym is) (head_not (omega (arith, there)) d)))
         next whole (inl more) (inl less) =
             let is : (m - 1) + 1 ≡ m = omega arith in
@@ -107,7 +111,8 @@ module _ {K : Type 0} (test : K → Bool) (ps : List (Part K)) (filled : Filled 
         by (inl less) = rw (row_of_part ps (m - 1) place e d there less) (c.above place d (le_refl place) less)
         by (inr le) = next (omega (arith, c.within)) (cases_lt 0 m) (cases_lt m (length ps))
 
-    pub seek_bound : {R : K → K → Ordering} → IsTotalOrder R → Steady R test → Ascends R (all_rows ps) → IsBound test (all_rows ps) (before ps (m - 1) + place)
+    pub seek_bound : {R : K → K → Ordering} → IsTotalOrder R → Steady R test → Ascends R (all_rows ps)
+        → IsBound test (all_rows ps) (before ps (m - 1) + place)
     seek_bound total steady up = bound_from_ends total test steady (all_rows ps) up (before ps (m - 1) + place) (record {
       order = omega arith;
       within = slot_within ps (m - 1) place e there c.within;
@@ -116,7 +121,9 @@ module _ {K : Type 0} (test : K → Bool) (ps : List (Part K)) (filled : Filled 
     })
 
 -- a part of rows that ascend ascends
-pub part_ascends : {K : Type 0} (R : K → K → Ordering) → IsTotalOrder R → (ps : List (Part K)) (i : ℕ) (e : Part K) (rows : List K) → i < length ps → rows ≡ rows_of (get_or ps i e) → Ascends R (all_rows ps) → Ascends R rows
+pub part_ascends : {K : Type 0} (R : K → K → Ordering) → IsTotalOrder R
+    → (ps : List (Part K)) (i : ℕ) (e : Part K) (rows : List K) → i < length ps → rows ≡ rows_of (get_or ps i e)
+    → Ascends R (all_rows ps) → Ascends R rows
 part_ascends R total ps i e rows lt same up = let pairs = ascends_pairs R total (all_rows ps) up in subst (Ascends R) (sym same) (ascends_from_pairs R (rows_of (get_or ps i e)) (λ j k d less within.
     subst (λ z. R z (get_or (rows_of (get_or ps i e)) k d) ≡ Less) (row_of_part ps i j e d lt (omega arith))
     (subst (λ z. R (get_or (all_rows ps) (before ps i + j) d) z ≡ Less) (row_of_part ps i k e d lt within)
@@ -127,7 +134,10 @@ pub record Sought {K : Type 0} (test : K → Bool) (ps : List (Part K)) (i place
   pub bound : IsBound test (all_rows ps) (before ps i + place)
   pub entered : 0 < i → 0 < place
 
-pub sought : {K : Type 0} {R : K → K → Ordering} → IsTotalOrder R → (test : K → Bool) → Steady R test → (ps : List (Part K)) → Filled ps → 0 < length ps → Ascends R (all_rows ps) → (m : ℕ) → Between (BeginsWith test true) (BeginsWith test false) ps m m → (i : ℕ) (e : Part K) (rows : List K) (place : ℕ) → i ≡ m - 1 → rows ≡ rows_of (get_or ps i e) → IsBound test rows place → Sought test ps i place
+pub sought : {K : Type 0} {R : K → K → Ordering} → IsTotalOrder R → (test : K → Bool) → Steady R test → (ps : List (Part K))
+    → Filled ps → 0 < length ps → Ascends R (all_rows ps) → (m : ℕ)
+    → Between (BeginsWith test true) (BeginsWith test false) ps m m → (i : ℕ) (e : Part K) (rows : List K) (place : ℕ) → i ≡ m - 1
+    → rows ≡ rows_of (get_or ps i e) → IsBound test rows place → Sought test ps i place
 sought {K} total test steady ps filled some up m b i e rows place at same c =
     subst (λ z. Sought test ps z place) (sym at) (record { bound = seek_bound test ps filled m b e some place found total steady up; entered = entered test ps filled m b e some place found })
   where
@@ -135,7 +145,8 @@ sought {K} total test steady ps filled some up m b i e rows place at same c =
     found = subst (λ z. IsBound test z place) (same ∙ ap (λ z. rows_of (get_or ps z e)) at) c
 
 -- the row before a slot is the row before the place in its part
-pub last_iff : {K : Type 0} (ps : List (Part K)) (slot : Slot) (e : Part K) (rows : List K) (x : K) → IsSlot ps slot → (0 < slot.part → 0 < slot.place) → rows ≡ rows_of (get_or ps slot.part e) →
+pub last_iff : {K : Type 0} (ps : List (Part K)) (slot : Slot) (e : Part K) (rows : List K) (x : K) → IsSlot ps slot
+    → (0 < slot.part → 0 < slot.place) → rows ≡ rows_of (get_or ps slot.part e) →
     ((0 < slot.place) × (get_or rows (slot.place - 1) x ≡ x)) ↔ ((0 < place_of ps slot) × (get_or (all_rows ps) (place_of ps slot - 1) x ≡ x))
 last_iff {K} ps slot e rows x fits entered same = (λ h. (omega (arith, h.0), same_row h.0 ∙ h.1), λ h. (some h.0, sym (same_row (some h.0)) ∙ h.1))
   where
@@ -232,7 +243,8 @@ module _ (place : ℕ) where
             omega (arith, before_next ps (n - 1) e (omega (arith, part_counted, within_parts)), ap (before ps) is, before_end ps n end)
 
 -- the row at a place is a row of its part
-pub row_is : {K : Type 0} (ps : List (Part K)) (place i start : ℕ) (e : Part K) (x : K) → IsPartOf ps place i → start ≡ before ps i → x ≡ get_or (rows_of (get_or ps i e)) (place - start) x → x ≡ get_or (all_rows ps) place x
+pub row_is : {K : Type 0} (ps : List (Part K)) (place i start : ℕ) (e : Part K) (x : K) → IsPartOf ps place i
+    → start ≡ before ps i → x ≡ get_or (rows_of (get_or ps i e)) (place - start) x → x ≡ get_or (all_rows ps) place x
 row_is ps place i start e x p is at =
     let split : before ps i + (place - before ps i) ≡ place = omega (arith, p.from) in
     at ∙ (ap (λ z. get_or (rows_of (get_or ps i e)) (place - z) x) is ∙ (sym (row_of_part ps i (place - before ps i) e x p.there (omega (arith, p.from, p.to e))) ∙ ap (λ z. get_or (all_rows ps) z x) split))
