@@ -1,7 +1,6 @@
 -- The tests of the limits hold exactly where there is not too much of anything.
-use Rattle.std.proofs.Common.{◌≡◌, ℕ, ◌≤◌, Ok, arith, ◌∙◌}
-use Rattle.std.specs.Prelude.{IsTrue, nat_le}
-use Rattle.std.proofs.lemmas.Bool.Decides.{nat_tests}
+use Rattle.std.proofs.Common.{◌≡◌, ℕ, Ok, ◌∙◌}
+use Rattle.std.specs.Prelude.{nat_le}
 use Rattle.vet_base.specs.Script.{Script, Value, Test, run}
 use Rattle.app_link.specs.declared.fault.Fault.{Fault}
 use Rattle.app_link.specs.declared.fault.Fault.TheVariants.{TooMany}

@@ -1,5 +1,5 @@
 -- A loop that makes methods, each with at most 65,535 registers.
-use Rattle.std.proofs.Common.{◌≡◌, ℕ, zero, suc, ◌+◌, ◌<◌, ◌≤◌, List, [], ◌∷◌, ◌++◌, map, take, length, get_or, sym, ap, ◌∙◌, subst, arith, inl, inr}
+use Rattle.std.proofs.Common.{◌≡◌, ℕ, ◌+◌, ◌<◌, ◌≤◌, List, [], ◌∷◌, ◌++◌, map, take, length, get_or, sym, ap, ◌∙◌, subst, inl, inr}
 use Rattle.app_machine.specs.declared.method.Method.{Method}
 use Rattle.app_link.specs.Methods.{Narrow}
 use Rattle.vet_base.proofs.Lists.{map_more_read}

@@ -1,7 +1,6 @@
 -- The lines of a method that stands at a place.
-use Rattle.std.proofs.Common.{◌≡◌, ℕ, zero, suc, ◌<◌, List, [], ◌∷◌, length, get_or, arith, inl, inr}
+use Rattle.std.proofs.Common.{◌≡◌, ℕ, ◌<◌, List, length, get_or}
 use Rattle.dex_code.specs.Find.{Ascend}
-use Rattle.vet_base.specs.Members.{In}
 use Rattle.app_link.specs.declared.coded.Coded.{Coded}
 use Rattle.app_link.specs.Methods.{InOrder}
 use Rattle.vet_base.proofs.Members.{in_read}

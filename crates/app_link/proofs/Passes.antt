@@ -1,6 +1,6 @@
 -- Going through a list is one pass over all that its items give, and a pass over two lists at once is a pass over each.
 use Rattle.std.proofs.Common.{◌≡◌, ℕ, ◌+◌, Ok, List, [], ◌∷◌, ◌++◌, refl, sym, ap, subst, ◌∙◌}
-use Rattle.vet_base.specs.Script.{Script, Value, Test, ◌>>=◌, run, each, through}
+use Rattle.vet_base.specs.Script.{Script, Value, ◌>>=◌, run, each, through}
 use Rattle.vet_base.proofs.Runs.{value_is, bind_agree, bind_ok, bind_runs}
 use Rattle.vet_base.proofs.Throughs.{through_is_each}
 

@@ -1,7 +1,5 @@
 -- There are no more providers than components.
-use Rattle.std.proofs.Common.{suc, ◌≤◌, List, [], ◌∷◌, length, Option, Some, None, arith}
-use Rattle.std.specs.Prelude.{filter_map}
-use Rattle.std.specs.List.{cons_option}
+use Rattle.std.proofs.Common.{◌≤◌, length}
 use Rattle.app_machine.specs.declared.papers.Manifest.{Manifest}
 use Rattle.app_link.specs.Components.{provider_of, providers_of}
 use Rattle.vet_base.proofs.Lists.{length-filter_map}

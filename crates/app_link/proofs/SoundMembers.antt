@@ -1,5 +1,5 @@
 -- The methods of files are listed by the texts of their descriptors.
-use Rattle.std.proofs.Common.{◌≡◌, ℕ, Bool, true, false, not, Ok, List, [], ◌∷◌, refl, sym, ap, subst, ◌∙◌, inl, inr}
+use Rattle.std.proofs.Common.{◌≡◌, ℕ, true, false, not, Ok, List, [], ◌∷◌, refl, sym, ap, subst, ◌∙◌, inl, inr}
 use Rattle.std.specs.BTreeMap.{insert_entry}
 use Rattle.std.specs.Ordering.{match_ordering}
 use Rattle.std.specs.declared.cmp.Ordering.{Ordering}

@@ -21,7 +21,7 @@ use app_model::{CallKind, MethodRef, Proto, is_wide};
 use dex_code::{CodeFault, Counts, Decoded, Insn, Naming, code_laws, decode};
 use dex_reader::{Body, ClassDef, Dex, RawCode};
 use std::alloc::Global;
-use vet_base::{Memory, Name, Seq, Stop};
+use vet_base::{Memory, Name, Seq, Shared, Stop};
 
 /// A method of the app whose code is decoded, or a native one, which has no lines.
 #[derive(Debug, Drop)]
@@ -257,7 +257,7 @@ fn add_row(
             dex: 0,
             decoded: Decoded {
                 lines: Seq::new(alloc),
-                tries: Seq::new(alloc),
+                tries: Shared::new(),
             },
         })?;
         return Ok(coding);

@@ -8,10 +8,10 @@ use crate::fault::{CodeFault, Halt};
 use crate::flow::check_flows;
 use crate::insn::Insn;
 use crate::lines::lines_of;
-use crate::tries::{check_tries, tries_copied};
+use crate::tries::check_tries;
 use dex_reader::{RawCode, RawTry};
 use std::alloc::Global;
-use vet_base::{Seq, Stop};
+use vet_base::{Seq, Shared, Stop};
 
 /// How many strings, types, fields and methods a file has. An index of an instruction is below the one of its kind.
 #[derive(Clone, Copy, Debug, PartialEq, Eq)]
@@ -26,7 +26,7 @@ pub struct Counts {
 #[derive(Debug, Drop)]
 pub struct Decoded {
     pub lines: Seq<(u32, Insn)>,
-    pub tries: Seq<RawTry>,
+    pub tries: Shared<RawTry>,
 }
 
 #[tactic(auto, unfolding(crate::specs::Code::decoding), using(vet_base::proofs::Scripts::run_bind))]
@@ -47,7 +47,7 @@ fn decoded_of(alloc: Global, code: &RawCode, counts: &Counts) -> Result<Decoded,
     check_tries(size, &lines, code.tries.as_slice())?;
     Ok(Decoded {
         lines: Seq::from_vec(lines),
-        tries: Seq::from_vec(tries_copied(alloc, code.tries.as_slice())?),
+        tries: code.tries.copy()?,
     })
 }
 

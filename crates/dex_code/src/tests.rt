@@ -5,7 +5,7 @@ use app_machine::Act;
 use dex_reader::{RawCode, RawTry};
 use std::alloc::{AllocError, Global};
 use std::test::*;
-use vet_base::Seq;
+use vet_base::{Memory, Seq, Shared};
 
 const NONE: Counts = Counts {
     strings: 0,
@@ -23,7 +23,7 @@ fn code_of(alloc: Global, units: &[u16]) -> Result<RawCode, AllocError>
         ins: 0,
         outs: 0,
         units: Seq::from_vec(units.to_vec(alloc)?),
-        tries: Seq::new(alloc),
+        tries: Shared::new(),
     })
 }
 
@@ -116,14 +116,17 @@ fn a_handler_starts_an_instruction(rt: HostRuntime) -> Result<(), Fail> {
         ins: 0,
         outs: 0,
         units: Seq::from_vec(vec![in alloc; 0x0013, 0x0001, 0x000E]?),
-        tries: Seq::from_vec(vec![in alloc;
-            RawTry {
-                start: 0,
-                count: 3,
-                handlers: Seq::from_vec(vec![in alloc; (0, 2)]?),
-                catch_all: Some(1),
-            },
-        ]?),
+        tries: Shared::from_vec(
+            alloc,
+            vec![in alloc;
+                RawTry {
+                    start: 0,
+                    count: 3,
+                    handlers: Shared::from_vec(alloc, vec![in alloc; (0, 2)]?)?,
+                    catch_all: Some(1),
+                },
+            ]?,
+        )?,
     };
     assert!(rt; decode(alloc, &code, &NONE).err() == Some(CodeFault::Tries(0)));
     Ok(())
@@ -175,7 +178,7 @@ fn try_of(
     count: u16,
     addresses: &[u32],
     catch_all: Option<u32>,
-) -> Result<RawTry, AllocError> {
+) -> Result<RawTry, Memory> {
     let mut handlers = Vec::new(alloc);
     for &address in addresses {
         handlers.push((0, address))?;
@@ -183,7 +186,7 @@ fn try_of(
     Ok(RawTry {
         start,
         count,
-        handlers: Seq::from_vec(handlers),
+        handlers: Shared::from_vec(alloc, handlers)?,
         catch_all,
     })
 }
@@ -200,7 +203,7 @@ fn nops(alloc: Global, count: usize) -> Result<RawCode, AllocError>
     code_of(alloc, &units)
 }
 
-fn are_catches(found: &[Seq<u32>], expected: &[&[u32]]) -> bool {
+fn are_catches(found: &[Shared<u32>], expected: &[&[u32]]) -> bool {
     found.len() == expected.len()
         && found
             .iter()

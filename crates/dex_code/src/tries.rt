@@ -1,4 +1,4 @@
-ghost use Rattle.std.specs.Prelude.{◌≡◌, ◌<◌, ◌^◌, IfOk, length};
+ghost use Rattle.std.specs.Prelude.{◌≡◌, ◌<◌, ◌^◌, length};
 ghost use Rattle.vet_base.specs.Script.{Gives};
 ghost use Rattle.dex_code.specs.Find.{Ascend};
 ghost use Rattle.dex_code.specs.Tries.{handlers_start, tries_at, try_stands};
@@ -7,8 +7,7 @@ use crate::fault::{CodeFault, Halt};
 use crate::find::is_start;
 use crate::insn::Insn;
 use dex_reader::RawTry;
-use std::alloc::{AllocError, Global};
-use vet_base::{Seq, Stop};
+use vet_base::Stop;
 
 #[tactic(auto, unfolding(crate::specs::Tries::handlers_start))]
 fn are_starts(lines: &[(u32, Insn)], handlers: &[(u32, u32)]) -> bool
@@ -48,25 +47,4 @@ pub fn check_tries(size: usize, lines: &[(u32, Insn)], tries: &[RawTry]) -> Resu
         }
     }
     Ok(())
-}
-
-fn try_copied(alloc: Global, item: &RawTry) -> Result<RawTry, AllocError>
-    ensures { IfOk result (λ t. t ≡ item.now) }
-{
-    Ok(RawTry {
-        start: item.start,
-        count: item.count,
-        handlers: Seq::from_vec(item.handlers.as_slice().to_vec(alloc)?),
-        catch_all: item.catch_all,
-    })
-}
-
-pub fn tries_copied(alloc: Global, tries: &[RawTry]) -> Result<Vec<RawTry>, AllocError>
-    ensures { IfOk result (λ v. v.items ≡ tries.now) }
-{
-    let mut copies = Vec::new(alloc);
-    for item in tries {
-        copies.push(try_copied(alloc, item)?)?;
-    }
-    Ok(copies)
 }
