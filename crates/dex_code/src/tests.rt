@@ -116,14 +116,17 @@ fn a_handler_starts_an_instruction(rt: HostRuntime) -> Result<(), Fail> {
         ins: 0,
         outs: 0,
         units: Seq::from_vec(vec![in alloc; 0x0013, 0x0001, 0x000E]?),
-        tries: Shared::from_vec(alloc, vec![in alloc;
-            RawTry {
-                start: 0,
-                count: 3,
-                handlers: Shared::from_vec(alloc, vec![in alloc; (0, 2)]?)?,
-                catch_all: Some(1),
-            },
-        ]?)?,
+        tries: Shared::from_vec(
+            alloc,
+            vec![in alloc;
+                RawTry {
+                    start: 0,
+                    count: 3,
+                    handlers: Shared::from_vec(alloc, vec![in alloc; (0, 2)]?)?,
+                    catch_all: Some(1),
+                },
+            ]?,
+        )?,
     };
     assert!(rt; decode(alloc, &code, &NONE).err() == Some(CodeFault::Tries(0)));
     Ok(())
