@@ -1,5 +1,0 @@
-pub mod Ends
-pub mod Held
-pub mod Indexed
-pub mod Owning
-pub mod Placed

@@ -1,7 +1,0 @@
-pub mod Cases
-pub mod Desk
-pub mod Docket
-pub mod Earlier
-pub mod Laws
-pub mod Plans
-pub mod Rules

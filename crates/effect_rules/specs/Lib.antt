@@ -1,4 +1,0 @@
-pub mod Complete
-pub mod EffectGiven
-pub mod EffectsExact
-pub mod Sound

@@ -1,5 +1,0 @@
-pub mod Complete
-pub mod Lifted
-pub mod Sound
-pub mod StepGiven
-pub mod StepsExact
