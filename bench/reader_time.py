@@ -10,57 +10,9 @@ import subprocess
 import sys
 import time
 
+from smali_apps import assemble
+
 program, folder = sys.argv[1], sys.argv[2]
-METHODS = 20
-
-
-def smali_class(c, classes):
-    near = f'Lapp/part{(c + 1) % classes % 37}/Class{(c + 1) % classes};'
-    own = f'Lapp/part{c % 37}/Class{c};'
-    yield f'.class public {own}\n.super Ljava/lang/Object;\n.implements Ljava/lang/Runnable;'
-    for f in range(6):
-        yield f'.field {"static" if f % 2 else "private"} field{f}:{"I" if f < 3 else "Ljava/lang/String;"}'
-    for m in range(METHODS):
-        yield f'''.method public static method{m}(ILjava/lang/String;)I
-    .registers 6
-    const-string v0, "class {c} method {m} says something"
-    invoke-virtual {{v0}}, Ljava/lang/String;->length()I
-    move-result v1
-    :a
-    div-int v2, v1, p0
-    :b
-    .catch Ljava/lang/ArithmeticException; {{:a .. :b}} :h
-    .catchall {{:a .. :b}} :k
-    sget v3, {own}->field1:I
-    add-int v2, v2, v3
-    mul-int/lit8 v2, v2, 0x7
-    invoke-static {{v2, v0}}, {near}->method{(m + 1) % METHODS}(ILjava/lang/String;)I
-    move-result v2
-    if-gez v2, :c
-    neg-int v2, v2
-    :c
-    return v2
-    :h
-    move-exception v3
-    const/4 v2, 0x0
-    return v2
-    :k
-    move-exception v3
-    throw v3
-.end method
-'''
-
-
-def app(methods):
-    path = f'{folder}/{methods}.dex'
-    if not os.path.exists(path):
-        sources = f'{folder}/smali{methods}'
-        os.makedirs(sources, exist_ok=True)
-        for c in range(methods // METHODS):
-            with open(f'{sources}/Class{c}.smali', 'w') as out:
-                out.write('\n'.join(smali_class(c, methods // METHODS)))
-        subprocess.run(['smali', 'assemble', '-o', path, sources], check=True)
-    return path
 
 
 def header(size, **tables):
@@ -132,7 +84,8 @@ def main():
     empty = measured([program, 'count'])
     print(f'no file: {empty[0]:.1f} ms, {empty[1]} KB')
     for methods in (1000, 2000, 4000, 8000):
-        path = app(methods)
+        path = f'{folder}/{methods}.dex'
+        assemble(methods, path)
         size = os.path.getsize(path)
         ours, dump = measured([program, 'count', path]), measured(['dexdump', '-f', path])
         print(f'{methods} methods, {size} bytes: {ours[0]:.1f} ms, {(ours[1] - empty[1]) * 1024 / size:.1f} times the file; '
