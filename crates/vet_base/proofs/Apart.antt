@@ -1,11 +1,7 @@
 -- Lists in which no element stands twice are no longer than a list that has all their elements.
 use Rattle.std.proofs.Common.{◌≡◌, suc, ◌≤◌, List, [], ◌∷◌, length, refl, sym, ◌∙◌, ap, subst, inl, inr, arith}
+use Rattle.vet_base.specs.Apart.{Apart}
 use Rattle.vet_base.specs.Members.{In}
-
--- no element stands twice
-abbrev pub Apart : {A : Type 0} → List A → Type 0
-Apart [] = Unit {0}
-Apart (x ∷ xs) = (In x xs → ⊥) × Apart xs
 
 module _ {A : Type 0} where
   -- the list without an element that it has

@@ -79,3 +79,24 @@ pub given_of_each : {A B C : Type 0} (f : B → Option C) (g : A → List B) (xs
 given_of_each f g [] = refl
 given_of_each f g (x ∷ xs) =
     given-append f (g x) (flat_map g xs) ∙ (ap (λ o. option_or (first_given f (g x)) o) (given_of_each f g xs) ∙ sym (given-cons (λ x. first_given f (g x)) x xs))
+
+-- no element that was passed gives any: what all give first, those that are left give first
+pub record SameFirst {A B : Type 0} (f : A → Option B) (all left : List A) : Type 0 where
+  pub same : first_given f all ≡ first_given f left
+
+module _ {A B : Type 0} (f : A → Option B) (all left : List A) where
+  pub first_begins : left ≡ all → SameFirst f all left
+  first_begins is = record { same = ap (first_given f) (sym is) }
+
+  module _ (passed : SameFirst f all left) where
+    at_front : (x : A) (rest : List A) → left ≡ x ∷ rest → first_given f all ≡ option_or (f x) (first_given f rest)
+    at_front x rest is = passed.same ∙ (ap (first_given f) is ∙ given-cons f x rest)
+
+    pub first_found : (x : A) (rest : List A) (y : B) → left ≡ x ∷ rest → f x ≡ Some y → first_given f all ≡ Some y
+    first_found x rest y is gives = at_front x rest is ∙ ap (λ o. option_or o (first_given f rest)) gives
+
+    pub first_later : (x : A) (rest : List A) → left ≡ x ∷ rest → f x ≡ None → SameFirst f all rest
+    first_later x rest is gives = record { same = at_front x rest is ∙ ap (λ o. option_or o (first_given f rest)) gives }
+
+    pub first_nowhere : left ≡ [] → first_given f all ≡ None
+    first_nowhere is = passed.same ∙ ap (first_given f) is

@@ -1,0 +1,9 @@
+pub mod Appealed
+pub mod Counting
+pub mod Ends
+pub mod Held
+pub mod Indexed
+pub mod Leaving
+pub mod Outcomes
+pub mod Owning
+pub mod Placed

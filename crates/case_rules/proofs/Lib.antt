@@ -1,0 +1,14 @@
+pub mod Connected
+pub mod Dockets
+pub mod Effects
+pub mod Finds
+pub mod Histories
+pub mod Inverted
+pub mod Lasting
+pub mod Lasts
+pub mod Named
+pub mod Once
+pub mod Planned
+pub mod Raised
+pub mod Refused
+pub mod Rows
