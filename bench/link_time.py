@@ -1,5 +1,5 @@
-"""Times the program on apps of 1,000 to 8,000 methods: reading, decoding and linking, up to the refusal of an app that the
-desk cannot judge yet.
+"""Times the program on apps of 1,000 to 8,000 methods: reading, decoding and linking, and what follows
+from their few rows.
 
 usage: link_time.py VET FOLDER (the program that `./vet --prove` built, and a folder to work in)
 

@@ -1,5 +1,6 @@
 -- Names of which each is kept where it first comes.
 use Rattle.std.proofs.Common.{◌≡◌, ◌+◌, Bool, true, false, cond, List, [], ◌∷◌, ◌++◌, append_assoc, length, length-append, refl, sym, ◌∙◌, ap, subst, ◌⊎◌, inl, inr, arith}
+use Rattle.std.proofs.Math.Bool.{or-false}
 use Rattle.std.specs.Prelude.{fold, not, ◌||◌}
 use Rattle.std.specs.BTreeMap.{is_at}
 use Rattle.std.proofs.lemmas.List.{append-nil}
@@ -13,7 +14,7 @@ use Rattle.std.proofs.lemmas.List.Sums.{fold-append}
 use Rattle.std.proofs.lemmas.Bool.{cond-true, cond-false, cases_Bool}
 use Rattle.vet_base.proofs.Texts.{tied_equal}
 use Rattle.vet_base.proofs.Members.{in_either, passes_if}
-use Rattle.vet_base.proofs.Apart.{Apart}
+use Rattle.vet_base.specs.Apart.{Apart}
 
 pub at_either : (a b : Name) → is_at (name_order a) b ≡ is_at (name_order b) a
 at_either a b = elim (cases_Bool (is_at (name_order a) b)) [
@@ -33,11 +34,7 @@ none_same = record { each = λ q. refl }
 
 module _ (seen seen_then names : List Name) (name : Name) (same : SameNames seen names) (adds : (q : Name) → is_among seen_then q ≡ cond (is_at (name_order name) q) true (is_among seen q)) where
   in_end : (q : Name) → is_among (names ++ name ∷ []) q ≡ (is_among names q || is_at (name_order q) name)
-  in_end q = list_any-append (is_at (name_order q)) names (name ∷ []) ∙ ap (λ b. is_among names q || b) (or_false (is_at (name_order q) name))
-    where
-      or_false : (b : Bool) → (b || false) ≡ b
-      or_false true = refl
-      or_false false = refl
+  in_end q = list_any-append (is_at (name_order q)) names (name ∷ []) ∙ ap (λ b. is_among names q || b) (or-false (is_at (name_order q) name))
 
   either_way : (a b : Bool) → cond a true b ≡ (b || a)
   either_way true true = refl

@@ -18,7 +18,7 @@ use Rattle.app_link.specs.Orders.{triple_order}
 use Rattle.app_link.specs.StaticList.{AreStatics, statics_named}
 use Rattle.app_link.proofs.Places.{triple_total, tied_triples_equal}
 use Rattle.vet_base.proofs.Ascending.{ascends_from_sorted, below_later}
-use Rattle.vet_base.proofs.Apart.{Apart}
+use Rattle.vet_base.specs.Apart.{Apart}
 
 new_in : (ks : List Triple) (k : Triple) → In k (insert_key triple_order ks k)
 new_in [] k = inl refl

@@ -2,7 +2,6 @@ pub mod AreCoded
 pub mod Asked
 pub mod Best
 pub mod Blamed
-pub mod Climbing
 pub mod CodedFacts
 pub mod Filled
 pub mod FirstFaults
@@ -10,6 +9,7 @@ pub mod Firsts
 pub mod FoldsOn
 pub mod Frame
 pub mod FrameSound
+pub mod Gathering
 pub mod InFiles
 pub mod Inserted
 pub mod Joined

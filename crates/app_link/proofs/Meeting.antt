@@ -12,7 +12,8 @@ use Rattle.app_link.specs.Hierarchy.{add_once, firsts}
 use Rattle.app_link.specs.Statics.{own_interfaces, first_interfaces, interfaces_named, met_within, met}
 use Rattle.app_link.proofs.Firsts.{Begins, begins_itself, begins_on, begins_both, adding_begins, firsts_begin, firsts_joined, firsts_apart, in_firsts}
 use Rattle.vet_base.proofs.Members.{in_either, in_flat, from_flat, in_found}
-use Rattle.vet_base.proofs.Apart.{Apart, no_more}
+use Rattle.vet_base.specs.Apart.{Apart}
+use Rattle.vet_base.proofs.Apart.{no_more}
 
 in_up_within : (n : ℕ) (classes : List Class) (name : Option Name) (c : Class) → In c (up_within n classes name) → In c classes
 in_up_within zero classes name c k = absurd k

@@ -14,7 +14,7 @@ use crate::members::{Fields, Triple};
 use crate::outer::add_all;
 use crate::scope::Scope;
 use crate::texts::{add_copies, field_at};
-use app_model::{App, Class, class_of};
+use app_model::{App, Class, class_of, classes_upward, next_class};
 use dex_reader::Dex;
 use std::alloc::Global;
 use std::collections::BTreeSet;
@@ -51,48 +51,32 @@ fn own_class(fields: &Fields, at: &Triple, class: &Class) -> Result<Option<Name>
 }
 
 /// The first class that defines the static field, from that of the reference upward along superclasses.
-#[tactic(auto, using(crate::proofs::Climbing::asks_begin, crate::proofs::Climbing::asks_found, crate::proofs::Climbing::asks_next, crate::proofs::Climbing::asks_top, crate::proofs::Climbing::asks_outside, crate::proofs::Climbing::asks_end))]
+#[tactic(auto, using(vet_base::proofs::Firsts::first_begins, vet_base::proofs::Firsts::first_found, vet_base::proofs::Firsts::first_later, vet_base::proofs::Firsts::first_nowhere))]
 fn class_upward(app: &App, fields: &Fields, at: &Triple) -> Result<Option<Name>, Memory>
     requires { SoundApp app.now }
     ensures { IfOk result (λ o. o ≡ first_given (own_name fields.now.entries at.now.1 at.now.2) (up app.now at.now.0)) }
 {
-    let mut name = at.0.as_bytes();
-    for _step in 0..app.classes.len() {
-        match class_of(app, name) {
-            Some(class) => {
-                if let Some(found) = own_class(fields, at, class)? {
-                    return Ok(Some(found));
-                }
-                match &class.superclass {
-                    Some(superclass) => name = superclass.as_bytes(),
-                    None => return Ok(None),
-                }
-            }
-            None => return Ok(None),
+    let mut walk = classes_upward(app, at.0.as_bytes());
+    while let Some((class, rest)) = next_class(app, walk) {
+        if let Some(found) = own_class(fields, at, class)? {
+            return Ok(Some(found));
         }
+        walk = rest;
     }
     Ok(None)
 }
 
 /// The interfaces of a class and of those above it along superclasses, in the order met.
-#[tactic(auto, unfolding(crate::specs::Statics::first_interfaces), using(crate::proofs::Climbing::gather_begins, crate::proofs::Climbing::gather_next, crate::proofs::Climbing::gather_top, crate::proofs::Climbing::gather_outside, crate::proofs::Climbing::gather_end))]
+#[tactic(auto, unfolding(crate::specs::Statics::first_interfaces), using(crate::proofs::Gathering::gather_begins, crate::proofs::Gathering::gather_next, crate::proofs::Gathering::gather_end))]
 fn interfaces_upward(alloc: Global, app: &App, class: &[u8]) -> Result<Vec<Name>, Memory>
     requires { SoundApp app.now }
     ensures { IfOk result (λ v. v.items ≡ first_interfaces app.now class.now) }
 {
     let mut queue = Vec::new(alloc);
-    let mut at = class;
-    for _step in 0..app.classes.len() {
-        match class_of(app, at) {
-            Some(class) => {
-                add_copies(&mut queue, class.interfaces.as_slice())?;
-                match &class.superclass {
-                    Some(superclass) => at = superclass.as_bytes(),
-                    None => return Ok(queue),
-                }
-            }
-            None => return Ok(queue),
-        }
+    let mut walk = classes_upward(app, class);
+    while let Some((class, rest)) = next_class(app, walk) {
+        add_copies(&mut queue, class.interfaces.as_slice())?;
+        walk = rest;
     }
     Ok(queue)
 }

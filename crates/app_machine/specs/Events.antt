@@ -32,13 +32,23 @@ set_component components c new d = if d == c then new else components d
 abbrev pub after_event : LifeEvent → Option ℕ → Component_state
 after_event life place = record { state = life.to; place = if life.to == 0 then None else place }
 
+-- the body that runs on an object of the class at an event of its life, at a callback and at a click
+abbrev pub life_body : App → Name → LifeEvent → Option ℕ
+life_body app class life = body_named app class life.name life.descriptor
+
+abbrev pub callback_body : App → Name → Callback → Option ℕ
+callback_body app class callback = find_body app class callback.name callback.proto
+
+abbrev pub click_body : App → Name → Name → Option ℕ
+click_body app class name = body_named app class name click_descriptor
+
 -- Event e in the life of component c, of this class: the body that runs, where there is one.
 pub record LifeEventAt (app : App) (c e : ℕ) (class : Name) (life : LifeEvent) (body : Option ℕ) : Type 0 where
   pub component : Component
   pub there : IsAt app.components c component
   pub of_class : component.class ≡ class
   pub is_event : IsAt (life_events component.kind) e life
-  pub is_body : body_named app class life.name life.descriptor ≡ body
+  pub is_body : life_body app class life ≡ body
 
 -- callback row q on component c, whose class is below the row's class and has a body for it
 pub record CallbackAt (app : App) (lists : Lists) (c q : ℕ) (sources : List (ℕ × ℕ)) (body : ℕ) : Type 0 where
@@ -48,7 +58,7 @@ pub record CallbackAt (app : App) (lists : Lists) (c q : ℕ) (sources : List (�
   pub is_row : IsAt lists.callbacks q callback
   pub same_sources : callback.sources ≡ sources
   pub is_below : Below app lists component.class callback.class
-  pub is_body : find_body app component.class callback.name callback.proto ≡ Some body
+  pub is_body : callback_body app component.class callback ≡ Some body
 
 -- click i on component c, an activity with a body for it
 pub record ClickAt (app : App) (c i body : ℕ) : Type 0 where
@@ -57,7 +67,7 @@ pub record ClickAt (app : App) (c i body : ℕ) : Type 0 where
   pub there : IsAt app.components c component
   pub is_click : IsAt app.clicks i name
   pub is_activity : component.kind ≡ Activity
-  pub is_body : body_named app component.class name click_descriptor ≡ Some body
+  pub is_body : click_body app component.class name ≡ Some body
 
 -- callback row q on an object of the class, which is below the row's class and has a body for it
 pub record HandedAt (app : App) (lists : Lists) (q : ℕ) (class : Name) (sources : List (ℕ × ℕ)) (body : ℕ) : Type 0 where
@@ -65,7 +75,7 @@ pub record HandedAt (app : App) (lists : Lists) (q : ℕ) (class : Name) (source
   pub is_row : IsAt lists.callbacks q callback
   pub same_sources : callback.sources ≡ sources
   pub is_below : Below app lists class callback.class
-  pub is_body : find_body app class callback.name callback.proto ≡ Some body
+  pub is_body : callback_body app class callback ≡ Some body
 
 -- an initialiser of the class of component c, or of an app class above it
 pub record InitialiserAt (app : App) (c body : ℕ) : Type 0 where

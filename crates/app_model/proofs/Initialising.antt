@@ -14,66 +14,38 @@ use Rattle.app_machine.specs.declared.method.Method.{Method}
 use Rattle.app_machine.specs.Names.{Name, same_name, same_proto, initialiser_name, initialiser_proto}
 use Rattle.app_machine.specs.Lookups.{class_named, class_initialised, initialiser_of, initialisers, initialisers_from, method_of, up, up_within}
 use Rattle.app_model.specs.declared.lookups.initialisers.InitialiserWalk.{InitialiserWalk}
-use Rattle.app_model.specs.Initialisers.{class_initialisers, initialisers_left, initialisers_within, MayBeInitialiser}
-
-none_above : (app : App) (n : ℕ) → initialisers_within app n None ≡ []
-none_above app zero = refl
-none_above app (suc n) = refl
+use Rattle.app_model.specs.Initialisers.{class_initialisers, initialisers_among, initialisers_left, MayBeInitialiser}
+use Rattle.app_model.specs.ClassWalks.{classes_from, classes_left}
 
 -- a walk that begins
-pub walk_begins : (app : App) (class : Option Name) (walk : InitialiserWalk) → walk.steps ≡ length app.classes → option_copied walk.class ≡ class → initialisers_left app walk ≡ class_initialisers app class
-unfolding initialisers_left initialisers_from up
-walk_begins app class walk all same =
-    ap (λ n. initialisers_within app n (option_copied walk.class)) all
-    ∙ (ap (initialisers_within app (length app.classes)) same ∙ from_class class)
+pub walk_begins : (app : App) (class : Option Name) (walk : InitialiserWalk) → classes_left app walk.classes ≡ classes_from app class → initialisers_left app walk ≡ class_initialisers app class
+unfolding initialisers_left initialisers_from
+walk_begins app class walk from = ap (initialisers_among app) from ∙ from_class class
   where
-    from_class : (o : Option Name) → initialisers_within app (length app.classes) o ≡ class_initialisers app o
-    from_class None = none_above app (length app.classes)
+    from_class : (o : Option Name) → initialisers_among app (classes_from app o) ≡ class_initialisers app o
+    from_class None = refl
     from_class (Some name) = refl
 
--- after so many steps, from this class on
-pub record Walked (app : App) (walk : InitialiserWalk) (class : Option Name) (steps : ℕ) : Type 0 where
-  pub same : initialisers_left app walk ≡ initialisers_within app (walk.steps - steps) class
+-- no class that was passed has one: those that are left have all
+pub record Walked (app : App) (walk : InitialiserWalk) (left : List Class) : Type 0 where
+  pub same : initialisers_left app walk ≡ initialisers_among app left
 
-pub walked_none : (app : App) (walk : InitialiserWalk) → Walked app walk (option_copied walk.class) 0
+pub walked_none : (app : App) (walk : InitialiserWalk) → Walked app walk (classes_left app walk.classes)
 unfolding initialisers_left
-walked_none app walk = let whole : walk.steps ≡ walk.steps - 0 = omega arith in record { same = ap (λ n. initialisers_within app n (option_copied walk.class)) whole }
+walked_none app walk = record { same = refl }
 
-one_less : (n steps : ℕ) → steps < n → n - steps ≡ suc (n - (steps + 1))
-one_less n steps more = omega arith
-
-module _ (app : App) (walk : InitialiserWalk) (name : Name) (steps : ℕ) (walked : Walked app walk (Some name) steps) (more : steps < walk.steps) where
-  at_class : (c : Class) → class_named app name ≡ Some c → initialisers_left app walk ≡ filter_map (λ (d : Class). initialiser_of app d.name) (c ∷ up_within (walk.steps - (steps + 1)) app.classes c.superclass)
-  unfolding class_named
-  at_class c there =
-      walked.same
-      ∙ (ap (λ n. initialisers_within app n (Some name)) (one_less walk.steps steps more)
-      ∙ ap (λ o. filter_map (λ (d : Class). initialiser_of app d.name) (elim o [ None ↦ [] | Some c ↦ c ∷ up_within (walk.steps - (steps + 1)) app.classes c.superclass ])) there)
-
-  pub walked_found : (c : Class) (body : ℕ) (rest : InitialiserWalk) → class_named app name ≡ Some c → initialiser_of app c.name ≡ Some body → option_copied rest.class ≡ c.superclass → rest.steps ≡ walk.steps - steps - 1 →
+module _ (app : App) (walk : InitialiserWalk) (left : List Class) (walked : Walked app walk left) where
+  pub walked_found : (c : Class) (classes : List Class) (body : ℕ) (rest : InitialiserWalk) → left ≡ c ∷ classes → initialiser_of app c.name ≡ Some body → classes_left app rest.classes ≡ classes →
       initialisers_left app walk ≡ body ∷ initialisers_left app rest
   unfolding initialisers_left
-  walked_found c body rest there gives above fewer =
-      let left : walk.steps - (steps + 1) ≡ rest.steps = omega arith in
-      at_class c there
-      ∙ (ap (λ o. cons_option o (initialisers_within app (walk.steps - (steps + 1)) c.superclass)) gives
-      ∙ (ap (λ n. body ∷ initialisers_within app n c.superclass) left ∙ ap (λ o. body ∷ initialisers_within app rest.steps o) (sym above)))
+  walked_found c classes body rest front gives behind =
+      walked.same ∙ (ap (initialisers_among app) front ∙ (ap (λ o. cons_option o (initialisers_among app classes)) gives ∙ ap (λ cs. body ∷ initialisers_among app cs) (sym behind)))
 
-  pub walked_on : (c : Class) → class_named app name ≡ Some c → initialiser_of app c.name ≡ None → Walked app walk c.superclass (steps + 1)
-  walked_on c there gives = record { same = at_class c there ∙ ap (λ o. cons_option o (initialisers_within app (walk.steps - (steps + 1)) c.superclass)) gives }
+  pub walked_on : (c : Class) (classes : List Class) → left ≡ c ∷ classes → initialiser_of app c.name ≡ None → Walked app walk classes
+  walked_on c classes front gives = record { same = walked.same ∙ (ap (initialisers_among app) front ∙ ap (λ o. cons_option o (initialisers_among app classes)) gives) }
 
-  pub walked_outside : class_named app name ≡ None → initialisers_left app walk ≡ []
-  unfolding class_named
-  walked_outside absent =
-      walked.same
-      ∙ (ap (λ n. initialisers_within app n (Some name)) (one_less walk.steps steps more)
-      ∙ ap (λ o. filter_map (λ (d : Class). initialiser_of app d.name) (elim o [ None ↦ [] | Some c ↦ c ∷ up_within (walk.steps - (steps + 1)) app.classes c.superclass ])) absent)
-
-pub walked_over_top : (app : App) (walk : InitialiserWalk) (steps : ℕ) → Walked app walk None steps → initialisers_left app walk ≡ []
-walked_over_top app walk steps walked = walked.same ∙ none_above app (walk.steps - steps)
-
-pub walked_all : (app : App) (walk : InitialiserWalk) (class : Option Name) (steps : ℕ) → Walked app walk class steps → walk.steps ≤ steps → initialisers_left app walk ≡ []
-walked_all app walk class steps walked past = let nothing : walk.steps - steps ≡ 0 = omega arith in walked.same ∙ ap (λ n. initialisers_within app n class) nothing
+  pub walked_all : left ≡ [] → initialisers_left app walk ≡ []
+  walked_all nothing = walked.same ∙ ap (initialisers_among app) nothing
 
 -- who is among those that are left
 pub record SameLeft (app : App) (body : ℕ) (all left : List ℕ) : Type 0 where

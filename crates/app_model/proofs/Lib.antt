@@ -11,4 +11,4 @@ pub mod Searches
 pub mod Methods
 pub mod Reach
 pub mod Steps
-pub mod Upward
+pub mod Walking

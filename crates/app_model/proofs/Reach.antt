@@ -10,7 +10,8 @@ use Rattle.app_machine.specs.Lookups.{class_among, above_within, all_above, dire
 use Rattle.app_machine.specs.Sound.{IsAbove}
 use Rattle.app_machine.specs.Sound.IsAbove.{directly, beyond}
 use Rattle.vet_base.proofs.Members.{in_flat, from_flat, in_map}
-use Rattle.vet_base.proofs.Apart.{Apart, no_more}
+use Rattle.vet_base.specs.Apart.{Apart}
+use Rattle.vet_base.proofs.Apart.{no_more}
 use Rattle.vet_base.proofs.Texts.{same_equal}
 
 first_or : (b : Bool) (d : Class) (rest : Option Class) (c : Class) → (if b then Some d else rest) ≡ Some c → ((b ≡ true) × (d ≡ c)) ⊎ (rest ≡ Some c)

@@ -7,8 +7,8 @@ use Rattle.app_machine.specs.declared.component.Kind.TheVariants.{Activity}
 use Rattle.app_machine.specs.declared.lists.Callback.{Callback}
 use Rattle.app_machine.specs.declared.lists.Lists.{Lists}
 use Rattle.app_machine.specs.LifeEvents.{LifeEvent, life_events}
-use Rattle.app_machine.specs.Lookups.{body_named, find_body}
-use Rattle.app_machine.specs.Names.{Name, click_descriptor}
+use Rattle.app_machine.specs.Events.{life_body, callback_body, click_body}
+use Rattle.app_machine.specs.Names.{Name}
 use Rattle.app_model.specs.declared.lookups.events.CalledBack.{CalledBack}
 use Rattle.app_model.specs.declared.lookups.events.ComponentEvent.{ComponentEvent}
 use Rattle.app_model.specs.Above.{is_below}
@@ -17,7 +17,7 @@ use Rattle.app_model.specs.EventTable.{shown_event}
 -- an event in the life of a component: the component's class, the event, and the body, where there is one
 abbrev pub life_at : App → Component → Option LifeEvent → Option (Name × LifeEvent × Option ℕ)
 life_at app component None = None
-life_at app component (Some life) = Some (component.class, life, body_named app component.class life.name life.descriptor)
+life_at app component (Some life) = Some (component.class, life, life_body app component.class life)
 
 abbrev pub life_of : App → Component → ℕ → Option (Name × LifeEvent × Option ℕ)
 life_of app component e = life_at app component (slice_get (life_events component.kind) e)
@@ -35,7 +35,7 @@ called sources body = (sources, body)
 -- a callback on an object of the class: the labelled positions and the body, where the class is below the row's and has one
 abbrev pub callback_of : App → Lists → Name → Option Callback → Option (List (ℕ × ℕ) × ℕ)
 callback_of app lists class None = None
-callback_of app lists class (Some callback) = if is_below app lists class callback.class then option_map (called callback.sources) (find_body app class callback.name callback.proto) else None
+callback_of app lists class (Some callback) = if is_below app lists class callback.class then option_map (called callback.sources) (callback_body app class callback) else None
 
 unfoldable pub handed_callback : App → Lists → ℕ → Name → Option (List (ℕ × ℕ) × ℕ)
 handed_callback app lists q class = callback_of app lists class (slice_get lists.callbacks q)
@@ -54,7 +54,7 @@ is_activity other = false
 -- a click on a component, where it is an activity and has a body for it
 abbrev pub click_of : App → Component → Option Name → Option ℕ
 click_of app component None = None
-click_of app component (Some name) = if is_activity component.kind then body_named app component.class name click_descriptor else None
+click_of app component (Some name) = if is_activity component.kind then click_body app component.class name else None
 
 abbrev pub click_on : App → ℕ → Option Component → Option ℕ
 click_on app i None = None

@@ -1,19 +1,19 @@
 -- Walks over the initialisers of a class and of those above it.
 use Rattle.std.specs.Prelude.{◌≡◌, ℕ, Bool, false, List, [], Option, Some, None, filter_map, slice_get}
-use Rattle.std.specs.Option.{option_copied}
 use Rattle.app_machine.specs.declared.app.App.{App}
 use Rattle.app_machine.specs.declared.app.Class.{Class}
 use Rattle.app_machine.specs.Names.{Name}
-use Rattle.app_machine.specs.Lookups.{initialiser_of, initialisers_from, up_within}
+use Rattle.app_machine.specs.Lookups.{initialiser_of, initialisers_from}
 use Rattle.app_model.specs.declared.lookups.initialisers.InitialiserWalk.{InitialiserWalk}
+use Rattle.app_model.specs.ClassWalks.{classes_left}
 
--- the initialisers of a class and of those above it, of so many classes at most
-abbrev pub initialisers_within : App → ℕ → Option Name → List ℕ
-initialisers_within app n class = filter_map (λ (c : Class). initialiser_of app c.name) (up_within n app.classes class)
+-- the initialisers of these classes
+abbrev pub initialisers_among : App → List Class → List ℕ
+initialisers_among app classes = filter_map (λ (c : Class). initialiser_of app c.name) classes
 
 -- the initialisers to which the walk still comes
 unfoldable pub initialisers_left : App → InitialiserWalk → List ℕ
-initialisers_left app walk = initialisers_within app walk.steps (option_copied walk.class)
+initialisers_left app walk = initialisers_among app (classes_left app walk.classes)
 
 -- the initialisers of the class and of those above it, where there is one
 abbrev pub class_initialisers : App → Option Name → List ℕ

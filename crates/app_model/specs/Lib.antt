@@ -1,4 +1,5 @@
 pub mod Above
+pub mod ClassWalks
 pub mod DescriptorText
 pub mod EventBodies
 pub mod EventLaws

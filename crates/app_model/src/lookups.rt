@@ -1,6 +1,7 @@
 //! The look-ups in a linked app and in the lists. They take no memory.
 
 mod above;
+mod class_walk;
 mod classes;
 mod descriptor;
 mod equality;
@@ -16,6 +17,7 @@ mod targets;
 mod upward;
 
 pub use above::below;
+pub use class_walk::{ClassWalk, classes_upward, next_class};
 pub use classes::class_of;
 pub use events::{
     CalledBack, ComponentEvent, callback, click, events_are_exact, handed_callback, is_application,

@@ -40,7 +40,7 @@ pub fn answer_to(alloc: Global, mut files: MemFiles) -> Result<String, AllocErro
         words.push(String::from_str(alloc, word)?)?;
     }
     let mut out = MemSink::new(alloc, Vec::new(alloc));
-    let Status(status) = vet(alloc, &words, &mut files, &mut out);
+    let Status(status) = vet(alloc, &words, &mut files, &mut out, 1);
     let text = std::str::from_utf8(out.taken()).unwrap_or("?");
     format!(in alloc; "{status}\n{text}")
 }

@@ -128,6 +128,8 @@ fn main(rt: HostRuntime) -> io::Result<()> {
     let sample = sample_of(&rt)?;
     cases(&rt, "cases.txt", &sample)?;
     cases(&rt, "link_cases.txt", &sample)?;
+    cases(&rt, "flow_cases.txt", &sample)?;
+    cases(&rt, "example_cases.txt", &sample)?;
     cuts(&rt, "device_id_posted.dex", &sample)?;
     components(&rt, 4097, &sample)
 }

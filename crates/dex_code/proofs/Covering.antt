@@ -6,7 +6,7 @@ use Rattle.std.proofs.lemmas.Bool.Decides.{nat_tests}
 use Rattle.dex_reader.specs.declared.dex.RawTry.{RawTry}
 use Rattle.dex_code.specs.Next.{addresses, covered, covering, covers, in_order}
 use Rattle.dex_code.specs.Handlers.{catches_beside, IsParted}
-use Rattle.dex_code.proofs.Ordered.{in_order-in_order, in_order-swap, in_order-before, in_order-behind}
+use Rattle.dex_code.proofs.Ordered.{in_order-in_order, in_order_swapped, in_order-before, in_order-behind}
 
 pub covering-append : (ts us : List RawTry) (pc : ℕ) → covering (ts ++ us) pc ≡ covering ts pc ++ covering us pc
 unfolding covering
@@ -58,7 +58,7 @@ module _ (first last : ℕ) (ts : List RawTry) (shared : List ℕ) (left : List 
   try_shared a b = record { same = λ pc le le'. swapped pc ∙ ap (λ xs. in_order ((shared ++ covering left pc) ++ xs)) (sym (all_covered t first last pc a b le le')) ∙ with_try pc le le' }
     where
       swapped : (pc : ℕ) → in_order ((shared ++ addresses t) ++ covering left pc) ≡ in_order ((shared ++ covering left pc) ++ addresses t)
-      swapped pc = ap in_order (append_assoc shared (addresses t) (covering left pc)) ∙ in_order-behind shared _ _ (in_order-swap (addresses t) (covering left pc)) ∙ ap in_order (sym (append_assoc shared (covering left pc) (addresses t)))
+      swapped pc = ap in_order (append_assoc shared (addresses t) (covering left pc)) ∙ in_order-behind shared _ _ (in_order_swapped (addresses t) (covering left pc)) ∙ ap in_order (sym (append_assoc shared (covering left pc) (addresses t)))
 
   pub try_left : IsParted first last (ts ++ t ∷ []) shared (left ++ t ∷ [])
   unfolding catches_beside
@@ -71,9 +71,6 @@ module _ (first last : ℕ) (ts : List RawTry) (shared : List ℕ) (left : List 
 pub parted_begins : (first last : ℕ) (shared : List ℕ) (left : List RawTry) → shared ≡ [] → left ≡ [] → IsParted first last [] shared left
 unfolding catches_beside covering
 parted_begins first last shared left none none' = record { same = λ pc le le'. rw (none, none') refl }
-
-pub either_order : (more shared : List ℕ) → in_order (more ++ shared) ≡ in_order (shared ++ more)
-either_order more shared = in_order-swap more shared
 
 -- where there is nothing more
 pub none_more : (more shared : List ℕ) → more ≡ [] → in_order shared ≡ shared → in_order (more ++ shared) ≡ shared
@@ -89,6 +86,6 @@ module _ (first last : ℕ) (shared : List ℕ) (ts : List RawTry) (more : List 
   pub more_shared : catches_beside (in_order (more ++ shared)) left pc ≡ catches_beside shared ts pc
   unfolding catches_beside
   more_shared =
-      in_order-before _ _ (covering left pc) (in_order-in_order (more ++ shared) ∙ in_order-swap more shared)
+      in_order-before _ _ (covering left pc) (in_order-in_order (more ++ shared) ∙ in_order_swapped more shared)
       ∙ ap in_order (append_assoc shared more (covering left pc))
       ∙ in_order-behind shared _ _ (parted.same pc le le')

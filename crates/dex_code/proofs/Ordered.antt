@@ -104,8 +104,8 @@ in_order-in_order xs = elements_alone (in_order xs) xs (λ n k. from_order n xs 
 swapped : (xs ys : List ℕ) (n : ℕ) → In n (xs ++ ys) → In n (ys ++ xs)
 swapped xs ys n k = elim (in_either n xs ys k) [ inl front ↦ in_back n ys xs front | inr back ↦ in_front n ys xs back ]
 
-pub in_order-swap : (xs ys : List ℕ) → in_order (xs ++ ys) ≡ in_order (ys ++ xs)
-in_order-swap xs ys = elements_alone (xs ++ ys) (ys ++ xs) (swapped xs ys) (swapped ys xs)
+pub in_order_swapped : (xs ys : List ℕ) → in_order (xs ++ ys) ≡ in_order (ys ++ xs)
+in_order_swapped xs ys = elements_alone (xs ++ ys) (ys ++ xs) (swapped xs ys) (swapped ys xs)
 
 before : (xs ys zs : List ℕ) → in_order xs ≡ in_order ys → (n : ℕ) → In n (xs ++ zs) → In n (ys ++ zs)
 before xs ys zs e n k = elim (in_either n xs zs k) [ inl front ↦ in_front n ys zs (same_elements xs ys e n front) | inr back ↦ in_back n ys zs back ]
@@ -114,4 +114,4 @@ pub in_order-before : (xs ys zs : List ℕ) → in_order xs ≡ in_order ys → 
 in_order-before xs ys zs e = elements_alone (xs ++ zs) (ys ++ zs) (before xs ys zs e) (before ys xs zs (sym e))
 
 pub in_order-behind : (zs xs ys : List ℕ) → in_order xs ≡ in_order ys → in_order (zs ++ xs) ≡ in_order (zs ++ ys)
-in_order-behind zs xs ys e = in_order-swap zs xs ∙ in_order-before xs ys zs e ∙ in_order-swap ys zs
+in_order-behind zs xs ys e = in_order_swapped zs xs ∙ in_order-before xs ys zs e ∙ in_order_swapped ys zs

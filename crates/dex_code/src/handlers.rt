@@ -67,7 +67,7 @@ fn merged(alloc: Global, shared: &Shared<u32>, mut more: Vec<u32>) -> Result<Sha
 }
 
 /// The handlers of one pc.
-#[tactic(auto, unfolding(crate::specs::Handlers::catches_beside), using(crate::proofs::Covering::either_order))]
+#[tactic(auto, unfolding(crate::specs::Handlers::catches_beside), using(crate::proofs::Ordered::in_order_swapped))]
 fn catches_here(
     alloc: Global,
     shared: &Shared<u32>,

@@ -1,12 +1,13 @@
 -- What runs in the context of an event.
-use Rattle.std.specs.Prelude.{ℕ, zero, suc, List, [], Option, Some, None, slice_get}
+use Rattle.std.specs.Prelude.{ℕ, List, [], Option, Some, None, slice_get}
+use Rattle.std.specs.Option.{option_and_then}
 use Rattle.app_machine.specs.declared.app.App.{App}
 use Rattle.app_machine.specs.declared.component.Component.{Component}
 use Rattle.app_machine.specs.declared.lists.Callback.{Callback}
 use Rattle.app_machine.specs.declared.lists.Lists.{Lists}
-use Rattle.app_machine.specs.Names.{Name, click_descriptor}
-use Rattle.app_machine.specs.Lookups.{find_body, body_named}
-use Rattle.app_machine.specs.LifeEvents.{LifeEvent, life_events}
+use Rattle.app_machine.specs.Names.{Name}
+use Rattle.app_machine.specs.LifeEvents.{life_events}
+use Rattle.app_machine.specs.Events.{life_body, callback_body, click_body}
 use Rattle.fact_rows.specs.declared.context.Ctx.{Ctx}
 use Rattle.fact_rows.specs.declared.context.Ctx.TheVariants.{Row, Callback as CallbackOf, Click, Handed, Call, Call2}
 
@@ -16,23 +17,11 @@ IsEvent (Call m pc) = ⊥
 IsEvent (Call2 m pc n qc) = ⊥
 IsEvent _ = Unit {0}
 
--- the body of a component's event
-abbrev pub life_body : App → Component → Option LifeEvent → Option ℕ
-life_body app component None = None
-life_body app component (Some life) = body_named app component.class life.name life.descriptor
-
-abbrev pub callback_body : App → Component → Option Callback → Option ℕ
-callback_body app component None = None
-callback_body app component (Some callback) = find_body app component.class callback.name callback.proto
-
-abbrev pub click_body : App → Component → Option Name → Option ℕ
-click_body app component None = None
-click_body app component (Some name) = body_named app component.class name click_descriptor
-
+-- the body that an event runs on its component
 abbrev pub body_on : App → Lists → Ctx → Component → Option ℕ
-body_on app lists (Row c e) component = life_body app component (slice_get (life_events component.kind) e)
-body_on app lists (CallbackOf c q) component = callback_body app component (slice_get lists.callbacks q)
-body_on app lists (Click c i) component = click_body app component (slice_get app.clicks i)
+body_on app lists (Row c e) component = option_and_then (life_body app component.class) (slice_get (life_events component.kind) e)
+body_on app lists (CallbackOf c q) component = option_and_then (callback_body app component.class) (slice_get lists.callbacks q)
+body_on app lists (Click c i) component = option_and_then (click_body app component.class) (slice_get app.clicks i)
 body_on app lists _ component = None
 
 abbrev pub body_at : App → Lists → Ctx → Option Component → Option ℕ
@@ -56,8 +45,3 @@ event_types app lists (CallbackOf c q) = types_of app (body_at app lists (Callba
 event_types app lists (Click c i) = types_of app (body_at app lists (Click c i) (slice_get app.components c))
 event_types app lists (Handed q) = callback_types (slice_get lists.callbacks q)
 event_types app lists _ = []
-
--- the type of a position among the parameters, the receiver being 0
-abbrev pub parameter_type : List Name → ℕ → Option Name
-parameter_type types zero = None
-parameter_type types (suc i) = slice_get types i

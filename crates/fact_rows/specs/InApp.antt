@@ -20,7 +20,7 @@ use Rattle.app_machine.specs.Names.{Name, is_reference}
 use Rattle.app_machine.specs.Lookups.{StepAt, ActAt, IsNative}
 use Rattle.app_machine.specs.State.{result_register, exception_register}
 use Rattle.app_machine.specs.LifeEvents.{LifeEvent, life_events}
-use Rattle.app_machine.specs.Events.{LifeEventAt, CallbackAt, ClickAt, InitialiserAt}
+use Rattle.app_machine.specs.Events.{LifeEventAt, CallbackAt, ClickAt, InitialiserAt, parameter_type}
 use Rattle.fact_rows.specs.declared.context.Ctx.{Ctx}
 use Rattle.fact_rows.specs.declared.context.Ctx.TheVariants as ctx
 use Rattle.fact_rows.specs.declared.context.Activation.{Activation}
@@ -31,7 +31,7 @@ use Rattle.fact_rows.specs.declared.row.Row.{Row}
 use Rattle.fact_rows.specs.declared.field.Field.{Field}
 use Rattle.fact_rows.specs.declared.field.Field.TheVariants as field
 use Rattle.fact_rows.specs.Parts.{parts_of}
-use Rattle.fact_rows.specs.Contexts.{IsEvent, event_types, parameter_type}
+use Rattle.fact_rows.specs.Contexts.{IsEvent, event_types}
 
 -- the step is one before which or at which a method is entered
 pub data EntersAt (app : App) (method pc : ℕ) : Type 0 where

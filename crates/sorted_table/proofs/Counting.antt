@@ -61,15 +61,16 @@ bound_from_ends {K} {R} total test steady rows up n b = record { within = b.with
       | inr more ↦ let same : k ≡ n = omega arith in rw same (b.above (omega arith) d)
     ]
 
+-- the side of what is not counted
+greater_side : (a : Ordering) → counts true a ≡ false → a ≡ Greater
+greater_side Less h = cc
+greater_side Equal h = cc
+greater_side Greater h = refl
+
 module _ {K : Type 0} {R : K → K → Ordering} (o : IsTotalOrder R) where
-  -- the sides of a row that is counted, and of one that is not
+  -- the side of a row that is counted
   counted_side : (a : Ordering) → counts true a ≡ true → (a ≡ Greater → ⊥)
   counted_side a h g = let e : counts true Greater ≡ true = ap (counts true) (sym g) ∙ h in true≢false (sym e)
-
-  greater_side : (a : Ordering) → counts true a ≡ false → a ≡ Greater
-  greater_side Less h = cc
-  greater_side Equal h = cc
-  greater_side Greater h = refl
 
   module _ (rows : List K) (up : Ascends R rows) (x : K) (n : ℕ) (b : IsBound (counted (λ y. R y x) true) rows n) where
     -- a row is there where it is the last of those that are not above it
@@ -173,7 +174,7 @@ range_from_bounds {K} side rows from to b c = record {
   within = c.within;
   front = λ k d lt. let less : k < from = omega (arith, length-take from rows) in rw (get_or-take from rows k d less) (front (side (get_or rows k d)) (b.below k d less));
   inside = λ k d lt. let less : from + k < to = omega (arith, length-between rows from to c.within) in rw (get_or-between rows from to k d less) (inside (side (get_or rows (from + k) d)) (c.below (from + k) d less) (b.above (from + k) d (omega arith) (omega (arith, c.within))));
-  behind = λ k d lt. rw (get_or-drop to rows k d) (behind (side (get_or rows (to + k) d)) (c.above (to + k) d (omega arith) (omega (arith, length-drop to rows))));
+  behind = λ k d lt. rw (get_or-drop to rows k d) (greater_side (side (get_or rows (to + k) d)) (c.above (to + k) d (omega arith) (omega (arith, length-drop to rows))));
 }
   where
     front : (a : Ordering) → counts false a ≡ true → a ≡ Less
@@ -185,11 +186,6 @@ range_from_bounds {K} side rows from to b c = record {
     inside Less h k = cc
     inside Equal h k = refl
     inside Greater h k = cc
-
-    behind : (a : Ordering) → counts true a ≡ false → a ≡ Greater
-    behind Less h = cc
-    behind Equal h = cc
-    behind Greater h = refl
 
     both : (a : Ordering) → counts false a ≡ true → counts true a ≡ false → ⊥
     both Less h k = cc

@@ -27,7 +27,6 @@ use Rattle.office_forms.specs.Layouts.{layouts_form}
 use Rattle.office_forms.specs.Declaration.{declaration_form}
 use Rattle.office_forms.specs.Lists.{lists_form}
 use Rattle.office_forms.specs.Sound.{SoundManifest, SoundLayouts}
-use Rattle.straight_line.specs.Straight.{is_straight}
 use Rattle.verdict.specs.declared.outcome.Part.TheVariants as part
 use Rattle.verdict.specs.declared.outcome.Reason.TheVariants as reason
 use Rattle.verdict.specs.declared.papers.Papers.{Papers}
@@ -36,7 +35,7 @@ use Rattle.verdict.specs.declared.parts.Parts.{Parts}
 use Rattle.verdict.specs.Halts.{Halts, HaltsForm, HaltsFault, HaltsLink}
 use Rattle.verdict.specs.OneVerdict.{LowerLaws, RefusesOnly}
 use Rattle.verdict.specs.Refuses.{HasManifest, HasPapers, AreDex, Refuses, bad_manifest, other_count, bad_layouts, bad_declaration, bad_lists, bad_dex, bad_app}
-use Rattle.verdict.proofs.OneVerdict.{fault_only, unbuilt_only}
+use Rattle.verdict.proofs.OneVerdict.{fault_only}
 
 -- a refusal that is this one
 is_this : (parts : Parts) (r this : Refusal) → r ≡ this → RefusesOnly parts this.part this.reason → RefusesOnly parts r.part r.reason
@@ -44,26 +43,26 @@ is_this parts r this same refuses = let P : Refusal → Type 0 = λ x. RefusesOn
 
 pub of_manifest : (laws : LowerLaws) (parts : Parts) (e : FormFault) (h : Stop Refusal) → (e ≢ told.Memory → FirstFormFault manifest_form parts.manifest e) → HaltsForm part.Manifest e h → Halts (RefusesOnly parts) h
 of_manifest laws parts e stops.Memory first halts = tt
-of_manifest laws parts e (stops.Fault r) first halts = is_this parts r _ halts.1 (fault_only laws parts part.Manifest (reason.Form e) tt (bad_manifest e (first halts.0)))
+of_manifest laws parts e (stops.Fault r) first halts = is_this parts r _ halts.1 (fault_only laws parts part.Manifest (reason.Form e) (bad_manifest e (first halts.0)))
 
 pub of_count : (laws : LowerLaws) (parts : Parts) (m : Manifest) (key : List ℕ) → IsForm manifest_form parts.manifest m → m.dex_files ≢ length parts.dex → key ≡ codes "dex_files" → RefusesOnly parts part.Manifest (reason.Form (told.Range key))
 of_count laws parts m key form other is =
     let P : List ℕ → Type 0 = λ k. RefusesOnly parts part.Manifest (reason.Form (told.Range k)) in
-    subst P (sym is) (fault_only laws parts part.Manifest (reason.Form (told.Range (codes "dex_files"))) tt (other_count m form other))
+    subst P (sym is) (fault_only laws parts part.Manifest (reason.Form (told.Range (codes "dex_files"))) (other_count m form other))
 
 pub of_layouts : (laws : LowerLaws) (parts : Parts) (m : Manifest) (e : FormFault) (h : Stop Refusal) → HasManifest parts m → (e ≢ told.Memory → FirstFormFault layouts_form parts.layouts e) → HaltsForm part.Layouts e h → Halts (RefusesOnly parts) h
 of_layouts laws parts m e stops.Memory manifest first halts = tt
-of_layouts laws parts m e (stops.Fault r) manifest first halts = is_this parts r _ halts.1 (fault_only laws parts part.Layouts (reason.Form e) tt (bad_layouts m e manifest (first halts.0)))
+of_layouts laws parts m e (stops.Fault r) manifest first halts = is_this parts r _ halts.1 (fault_only laws parts part.Layouts (reason.Form e) (bad_layouts m e manifest (first halts.0)))
 
 pub of_declaration : (laws : LowerLaws) (parts : Parts) (m : Manifest) (l : Layouts) (e : FormFault) (h : Stop Refusal) → HasManifest parts m → IsForm layouts_form parts.layouts l
     → (e ≢ told.Memory → FirstFormFault declaration_form parts.declaration e) → HaltsForm part.Declaration e h → Halts (RefusesOnly parts) h
 of_declaration laws parts m l e stops.Memory manifest layouts first halts = tt
-of_declaration laws parts m l e (stops.Fault r) manifest layouts first halts = is_this parts r _ halts.1 (fault_only laws parts part.Declaration (reason.Form e) tt (bad_declaration m l e manifest layouts (first halts.0)))
+of_declaration laws parts m l e (stops.Fault r) manifest layouts first halts = is_this parts r _ halts.1 (fault_only laws parts part.Declaration (reason.Form e) (bad_declaration m l e manifest layouts (first halts.0)))
 
 pub of_lists : (laws : LowerLaws) (parts : Parts) (m : Manifest) (l : Layouts) (d : Declaration) (e : FormFault) (h : Stop Refusal) → HasManifest parts m → IsForm layouts_form parts.layouts l → IsForm declaration_form parts.declaration d
     → (e ≢ told.Memory → FirstFormFault lists_form parts.lists e) → HaltsForm part.Lists e h → Halts (RefusesOnly parts) h
 of_lists laws parts m l d e stops.Memory manifest layouts declaration first halts = tt
-of_lists laws parts m l d e (stops.Fault r) manifest layouts declaration first halts = is_this parts r _ halts.1 (fault_only laws parts part.Lists (reason.Form e) tt (bad_lists m l d e manifest layouts declaration (first halts.0)))
+of_lists laws parts m l d e (stops.Fault r) manifest layouts declaration first halts = is_this parts r _ halts.1 (fault_only laws parts part.Lists (reason.Form e) (bad_lists m l d e manifest layouts declaration (first halts.0)))
 
 -- one DEX file more
 pub one_more : (files : List (List ℕ)) (i : ℕ) (file : List ℕ) (dexes : List Dex) (dex : Dex) → AreDex (take i files) dexes → i < length files → file ≡ get_or files i file → IsDex file dex
@@ -90,16 +89,12 @@ pub of_dex : (laws : LowerLaws) (parts : Parts) (papers : Papers) (dexes : List 
     → file ≡ get_or parts.dex i file → IsToldOf file fault → HaltsFault i fault h → Halts (RefusesOnly parts) h
 of_dex laws parts papers dexes i file fault stops.Memory has stand lt is told halts = tt
 of_dex laws parts papers dexes i file fault (stops.Fault r) has stand lt is told halts =
-    is_this parts r _ halts.1 (fault_only laws parts (part.Dex i) (reason.Dex fault) tt (told_of parts papers dexes i file fault has stand (slice_get_read parts.dex (length parts.dex) i file refl lt is) halts.0 told))
+    is_this parts r _ halts.1 (fault_only laws parts (part.Dex i) (reason.Dex fault) (told_of parts papers dexes i file fault has stand (slice_get_read parts.dex (length parts.dex) i file refl lt is) halts.0 told))
 
 pub of_link : (laws : LowerLaws) (parts : Parts) (papers : Papers) (dexes : List Dex) (fault : LinkFault) (h : Stop Refusal) → HasPapers parts papers → AreDex parts.dex dexes
     → (fault ≢ link_fault.Memory → FirstLinkFault dexes papers.manifest papers.layouts fault) → HaltsLink fault h → Halts (RefusesOnly parts) h
 of_link laws parts papers dexes fault stops.Memory has stand first halts = tt
-of_link laws parts papers dexes fault (stops.Fault r) has stand first halts = is_this parts r _ halts.1 (fault_only laws parts part.App (reason.Link fault) tt (bad_app papers dexes fault (record { forms = has; files = stand }) (first halts.0)))
-
-pub of_unbuilt : (laws : LowerLaws) (parts : Parts) (papers : Papers) (dexes : List Dex) (app : App) → HasPapers parts papers → AreDex parts.dex dexes → IsApp dexes papers.manifest papers.layouts app → OnlyApp dexes papers.manifest papers.layouts app
-    → is_straight app papers.lists ≡ false → RefusesOnly parts part.App reason.Unbuilt
-of_unbuilt laws parts papers dexes app has stand is_app only bent = unbuilt_only laws parts papers dexes app (record { forms = has; files = stand }) only is_app bent
+of_link laws parts papers dexes fault (stops.Fault r) has stand first halts = is_this parts r _ halts.1 (fault_only laws parts part.App (reason.Link fault) (bad_app papers dexes fault (record { forms = has; files = stand }) (first halts.0)))
 
 -- the files are no other app where each is the one that was linked
 pub only_linked : (dexes : List Dex) (manifest : Manifest) (layouts : Layouts) (app : App)

@@ -1,9 +1,5 @@
-pub mod Called
-pub mod Found
 pub mod Halting
 pub mod OneReading
 pub mod OneVerdict
 pub mod Outcomes
-pub mod Pairs
-pub mod Sorting
 pub mod Texts

@@ -24,7 +24,6 @@ use Rattle.office_forms.specs.Manifest.{manifest_form}
 use Rattle.office_forms.specs.Layouts.{layouts_form}
 use Rattle.office_forms.specs.Declaration.{declaration_form}
 use Rattle.office_forms.specs.Lists.{lists_form}
-use Rattle.straight_line.specs.Straight.{is_straight}
 use Rattle.verdict.specs.declared.outcome.Outcome.{Outcome}
 use Rattle.verdict.specs.declared.outcome.Outcome.TheVariants.{Refused}
 use Rattle.verdict.specs.declared.outcome.Part.{Part}
@@ -34,8 +33,8 @@ use Rattle.verdict.specs.declared.outcome.Reason.TheVariants as reason
 use Rattle.verdict.specs.declared.papers.Papers.{Papers}
 use Rattle.verdict.specs.declared.parts.Parts.{Parts}
 use Rattle.verdict.specs.OneVerdict.{LowerLaws, OnlyOutcome, RefusesOnly}
-use Rattle.verdict.specs.Refuses.{HasManifest, HasPapers, AreDex, IsFirstBad, Reads, Refuses, bad_manifest, other_count, bad_layouts, bad_declaration, bad_lists, bad_dex, bad_app, unbuilt}
-use Rattle.verdict.specs.Verdict.{Verdict, refused, judged, outcome_for}
+use Rattle.verdict.specs.Refuses.{HasManifest, HasPapers, AreDex, IsFirstBad, Reads, Refuses, bad_manifest, other_count, bad_layouts, bad_declaration, bad_lists, bad_dex, bad_app}
+use Rattle.verdict.specs.Verdict.{ComesTo, Verdict, refused, judged, outcome_by}
 use Rattle.verdict.proofs.OneReading.{one_list, all_or_bad, one_bad}
 
 -- a step that stops with the outcome, or goes on with a value
@@ -62,15 +61,6 @@ module _ {A : Type 0} (form : Members → Script FormFailure A) (text : List ℕ
       one : (o p : Outcome) → BadForm form text part o → BadForm form text part p → o ≡ p
       one o p a b = a.2 ∙ (ap (λ (e : FormFault). Refused part (reason.Form e)) (law.one_fault a.0 b.0 a.1 b.1) ∙ sym b.2)
 
--- every reason but `Unbuilt`
-abbrev pub IsFault : Reason → Type 0
-IsFault reason.Absent = Unit {0}
-IsFault (reason.TooLong limit) = Unit {0}
-IsFault (reason.Form e) = Unit {0}
-IsFault (reason.Dex e) = Unit {0}
-IsFault (reason.Link e) = Unit {0}
-IsFault reason.Unbuilt = ⊥
-
 -- parts that are read make one app at most
 abbrev OneApp : Parts → Type 0
 OneApp parts = (papers : Papers) (dexes : List Dex) (a b : App) → Reads parts papers dexes → IsApp dexes papers.manifest papers.layouts a → IsApp dexes papers.manifest papers.layouts b → a ≡ b
@@ -80,9 +70,7 @@ papers_of manifest layouts declaration lists = record { manifest = manifest; lay
 
 -- the steps of a judgement, the last first
 abbrev AtFlow : Papers → App → Outcome → Type 0
-AtFlow papers app o =
-    ((is_straight app papers.lists ≡ false) × (o ≡ Refused part.App reason.Unbuilt))
-    ⊎ ((is_straight app papers.lists ≡ true) × (o ≡ outcome_for app papers.lists papers.declaration))
+AtFlow papers app o = ComesTo app papers.lists papers.declaration o
 
 abbrev BadLink : Papers → List Dex → Outcome → Type 0
 BadLink papers dexes o = (fault : LinkFault) × FirstLinkFault dexes papers.manifest papers.layouts fault × (o ≡ Refused part.App (reason.Link fault))
@@ -136,18 +124,14 @@ module _ (laws : LowerLaws) (parts : Parts) where
   of_refusal _ _ (bad_lists m l d e has layouts declaration first) = with_manifest m _ has (goes l _ layouts (goes d _ declaration (stops _ (e, first, refl))))
   of_refusal _ _ (bad_dex papers i fault has first) = with_papers papers _ has (stops _ (i, fault, first, refl))
   of_refusal _ _ (bad_app papers dexes fault reads first) = with_files papers dexes _ reads (stops _ (fault, first, refl))
-  of_refusal _ _ (unbuilt papers dexes app reads is bent) = with_files papers dexes _ reads (goes app _ is (inl (bent, refl)))
 
   of_verdict : (o : Outcome) → Verdict parts o → AtManifest o
   of_verdict _ (refused part why refuses) = of_refusal part why refuses
-  of_verdict _ (judged papers dexes app reads is straight) = with_files papers dexes _ reads (goes app _ is (inr (straight, refl)))
+  of_verdict o (judged papers dexes app reads is comes) = with_files papers dexes o reads (goes app o is comes)
 
   -- each step has one outcome
   one_flow : (papers : Papers) (app : App) (o p : Outcome) → AtFlow papers app o → AtFlow papers app p → o ≡ p
-  one_flow papers app o p (inl a) (inl b) = a.1 ∙ sym b.1
-  one_flow papers app o p (inl a) (inr b) = let both : false ≡ true = sym a.0 ∙ b.0 in absurd cc
-  one_flow papers app o p (inr a) (inl b) = let both : true ≡ false = sym a.0 ∙ b.0 in absurd cc
-  one_flow papers app o p (inr a) (inr b) = a.1 ∙ sym b.1
+  one_flow papers app o p a b = a.same ∙ (ap (outcome_by app papers.lists papers.declaration) (laws.flows app papers.lists a.flow b.flow a.is_flow b.is_flow) ∙ sym b.same)
 
   module _ (one_app : OneApp parts) where
     one_link : (papers : Papers) (dexes : List Dex) → Reads parts papers dexes → (o p : Outcome) → AtLink papers dexes o → AtLink papers dexes p → o ≡ p
@@ -205,26 +189,21 @@ module _ (laws : LowerLaws) (parts : Parts) where
   one_app_of : (papers : Papers) (dexes : List Dex) (app : App) → Reads parts papers dexes → OnlyApp dexes papers.manifest papers.layouts app → OneApp parts
   one_app_of papers dexes app reads only others files a b too one two = only.only a (as_read others papers files dexes a too reads one) ∙ sym (only.only b (as_read others papers files dexes b too reads two))
 
-  fault_alone : (part : Part) (why : Reason) → IsFault why → Refuses parts part why → OneApp parts
-  fault_alone _ _ told (bad_manifest e first) = no_app (λ papers dexes app reads is. (laws.forms.manifest parts.manifest).not_both papers.manifest e reads.forms.manifest.form first)
-  fault_alone _ _ told (other_count m form other) =
+  fault_alone : (part : Part) (why : Reason) → Refuses parts part why → OneApp parts
+  fault_alone _ _ (bad_manifest e first) = no_app (λ papers dexes app reads is. (laws.forms.manifest parts.manifest).not_both papers.manifest e reads.forms.manifest.form first)
+  fault_alone _ _ (other_count m form other) =
       no_app (λ papers dexes app reads is. other (ap (λ (n : Manifest). n.dex_files) ((laws.forms.manifest parts.manifest).one_form m papers.manifest form reads.forms.manifest.form) ∙ reads.forms.manifest.count))
-  fault_alone _ _ told (bad_layouts m e has first) = no_app (λ papers dexes app reads is. (laws.forms.layouts parts.layouts).not_both papers.layouts e reads.forms.layouts first)
-  fault_alone _ _ told (bad_declaration m l e has layouts first) = no_app (λ papers dexes app reads is. (laws.forms.declaration parts.declaration).not_both papers.declaration e reads.forms.declaration first)
-  fault_alone _ _ told (bad_lists m l d e has layouts declaration first) = no_app (λ papers dexes app reads is. (laws.forms.lists parts.lists).not_both papers.lists e reads.forms.lists first)
-  fault_alone _ _ told (bad_dex papers i fault has first) = no_app (λ others files app reads is. all_or_bad laws.files parts.dex files i fault reads.files first)
-  fault_alone _ _ told (bad_app papers dexes fault reads first) =
+  fault_alone _ _ (bad_layouts m e has first) = no_app (λ papers dexes app reads is. (laws.forms.layouts parts.layouts).not_both papers.layouts e reads.forms.layouts first)
+  fault_alone _ _ (bad_declaration m l e has layouts first) = no_app (λ papers dexes app reads is. (laws.forms.declaration parts.declaration).not_both papers.declaration e reads.forms.declaration first)
+  fault_alone _ _ (bad_lists m l d e has layouts declaration first) = no_app (λ papers dexes app reads is. (laws.forms.lists parts.lists).not_both papers.lists e reads.forms.lists first)
+  fault_alone _ _ (bad_dex papers i fault has first) = no_app (λ others files app reads is. all_or_bad laws.files parts.dex files i fault reads.files first)
+  fault_alone _ _ (bad_app papers dexes fault reads first) =
       no_app (λ others files app too is. (laws.links dexes papers.manifest papers.layouts).not_both app fault (as_read others papers files dexes app too reads is) first)
-  fault_alone _ _ told (unbuilt papers dexes app reads is bent) = absurd told
 
   -- a fault is the only outcome
-  pub fault_only : (part : Part) (why : Reason) → IsFault why → Refuses parts part why → RefusesOnly parts part why
-  fault_only part why told refuses = refuses_only (fault_alone part why told refuses) part why refuses
+  pub fault_only : (part : Part) (why : Reason) → Refuses parts part why → RefusesOnly parts part why
+  fault_only part why refuses = refuses_only (fault_alone part why refuses) part why refuses
 
   -- and so is what comes of the only app
-  pub unbuilt_only : (papers : Papers) (dexes : List Dex) (app : App) → Reads parts papers dexes → OnlyApp dexes papers.manifest papers.layouts app → IsApp dexes papers.manifest papers.layouts app → is_straight app papers.lists ≡ false
-      → RefusesOnly parts part.App reason.Unbuilt
-  unbuilt_only papers dexes app reads only is bent = refuses_only (one_app_of papers dexes app reads only) part.App reason.Unbuilt (unbuilt papers dexes app reads is bent)
-
   pub judged_only : (papers : Papers) (dexes : List Dex) (app : App) (o : Outcome) → Reads parts papers dexes → OnlyApp dexes papers.manifest papers.layouts app → Verdict parts o → OnlyOutcome parts o
   judged_only papers dexes app o reads only is = outcome_only (one_app_of papers dexes app reads only) o is

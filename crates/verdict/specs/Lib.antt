@@ -1,10 +1,6 @@
-pub mod Ascending
-pub mod Causes
-pub mod Findings
 pub mod Halts
 pub mod OneVerdict
 pub mod Outcome
-pub mod Places
 pub mod Printed
 pub mod Reasons
 pub mod Refuses

@@ -1,6 +1,7 @@
 -- That the parts of an app come to one outcome.
 use Rattle.std.specs.Prelude.{◌≡◌}
 use Rattle.dex_reader.specs.Dex.{OneDexOrFault}
+use Rattle.app_flow.specs.Flow.{OneFlow}
 use Rattle.app_link.specs.OneAnswer.{OneAppOrFault}
 use Rattle.office_forms.specs.OneForm.{OneFormOrFault}
 use Rattle.verdict.specs.declared.outcome.Outcome.{Outcome}
@@ -11,11 +12,12 @@ use Rattle.verdict.specs.declared.parts.Parts.{Parts}
 use Rattle.verdict.specs.Refuses.{Refuses}
 use Rattle.verdict.specs.Verdict.{Verdict}
 
--- a form, a DEX file and the files of an app each have one value, or one first fault
+-- a form, a DEX file and the files of an app each have one value, or one first fault; and an app has one flow
 pub record LowerLaws : Type 0 where
   pub forms : OneFormOrFault
   pub files : OneDexOrFault
   pub links : OneAppOrFault
+  pub flows : OneFlow
 
 -- the parts come to no other outcome
 abbrev pub OnlyOutcome : Parts → Outcome → Type 0

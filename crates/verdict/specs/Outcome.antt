@@ -1,7 +1,7 @@
 -- The outcome of causes and findings, and the status that says it.
 use Rattle.std.specs.Prelude.{ℕ, List, [], ◌∷◌}
-use Rattle.verdict.specs.declared.outcome.Cause.{Cause}
-use Rattle.verdict.specs.declared.outcome.Finding.{Finding}
+use Rattle.outcomes.specs.declared.outcome.Cause.{Cause}
+use Rattle.outcomes.specs.declared.outcome.Finding.{Finding}
 use Rattle.verdict.specs.declared.outcome.Outcome.{Outcome}
 use Rattle.verdict.specs.declared.outcome.Outcome.TheVariants.{Clear, Flagged, Undecided, Refused}
 

@@ -4,8 +4,8 @@ use Rattle.std.specs.List.{flat_map}
 use Rattle.std.specs.Fmt.{decimal}
 use Rattle.app_machine.specs.declared.call.MethodRef.{MethodRef}
 use Rattle.app_machine.specs.Names.{Name, descriptor_of}
-use Rattle.verdict.specs.declared.outcome.Finding.{Finding}
-use Rattle.verdict.specs.declared.outcome.Place.{Place}
+use Rattle.outcomes.specs.declared.outcome.Finding.{Finding}
+use Rattle.outcomes.specs.declared.outcome.Place.{Place}
 
 -- a digit of the base 16, in small letters
 unfoldable pub hexadecimal : ℕ → ℕ

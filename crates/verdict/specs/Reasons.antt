@@ -85,4 +85,3 @@ reason_text (reason.TooLong limit) = codes "longer than " ++ decimal limit
 reason_text (reason.Form fault) = form_reason fault
 reason_text (reason.Dex fault) = dex_reason fault
 reason_text (reason.Link fault) = link_reason fault
-reason_text reason.Unbuilt = codes "unbuilt"

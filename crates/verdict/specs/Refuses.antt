@@ -1,6 +1,6 @@
 -- The first refusal of the parts of an app: the manifest's form and the number of DEX files, the forms of layouts, declaration
 -- and lists, each DEX file, and then the app that they make.
-use Rattle.std.specs.Prelude.{◌≡◌, ◌≢◌, ℕ, false, List, [], ◌∷◌, length, take, Some, slice_get, codes}
+use Rattle.std.specs.Prelude.{◌≡◌, ◌≢◌, ℕ, List, [], ◌∷◌, length, take, Some, slice_get, codes}
 use Rattle.dex_reader.specs.declared.dex.Dex.{Dex}
 use Rattle.dex_reader.specs.declared.fault.Fault.{Fault}
 use Rattle.dex_reader.specs.Dex.{IsDex}
@@ -20,7 +20,6 @@ use Rattle.office_forms.specs.Manifest.{manifest_form}
 use Rattle.office_forms.specs.Layouts.{layouts_form}
 use Rattle.office_forms.specs.Declaration.{declaration_form}
 use Rattle.office_forms.specs.Lists.{lists_form}
-use Rattle.straight_line.specs.Straight.{is_straight}
 use Rattle.verdict.specs.declared.outcome.Part.{Part}
 use Rattle.verdict.specs.declared.outcome.Part.TheVariants as part
 use Rattle.verdict.specs.declared.outcome.Reason.{Reason}
@@ -69,5 +68,3 @@ pub data Refuses (parts : Parts) : Part → Reason → Type 0 where
       Refuses parts part.Lists (reason.Form e)
   bad_dex : (papers : Papers) (i : ℕ) (fault : Fault) → HasPapers parts papers → IsFirstBad parts.dex i fault → Refuses parts (part.Dex i) (reason.Dex (shown fault))
   bad_app : (papers : Papers) (dexes : List Dex) (fault : LinkFault) → Reads parts papers dexes → FirstLinkFault dexes papers.manifest papers.layouts fault → Refuses parts part.App (reason.Link fault)
-  -- an app whose flow is not told yet
-  unbuilt : (papers : Papers) (dexes : List Dex) (app : App) → Reads parts papers dexes → IsApp dexes papers.manifest papers.layouts app → is_straight app papers.lists ≡ false → Refuses parts part.App reason.Unbuilt

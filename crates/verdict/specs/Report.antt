@@ -1,9 +1,9 @@
 -- The text that says an outcome. Each line ends with a line feed.
 use Rattle.std.specs.Prelude.{ℕ, List, ◌++◌, length, codes}
 use Rattle.std.specs.List.{flat_map}
-use Rattle.verdict.specs.declared.outcome.Cause.{Cause}
-use Rattle.verdict.specs.declared.outcome.Cause.TheVariants.{NoSummary, Provider, LayoutClass}
-use Rattle.verdict.specs.declared.outcome.Finding.{Finding}
+use Rattle.outcomes.specs.declared.outcome.Cause.{Cause}
+use Rattle.outcomes.specs.declared.outcome.Cause.TheVariants.{NoSummary, Native, Reflective, Provider, LayoutClass, TooLarge}
+use Rattle.outcomes.specs.declared.outcome.Finding.{Finding}
 use Rattle.verdict.specs.declared.outcome.Outcome.{Outcome}
 use Rattle.verdict.specs.declared.outcome.Outcome.TheVariants.{Clear, Flagged, Undecided, Refused}
 use Rattle.verdict.specs.declared.outcome.Part.{Part}
@@ -13,8 +13,11 @@ use Rattle.verdict.specs.Reasons.{part_name, reason_text}
 
 unfoldable pub cause_line : Cause → List ℕ
 cause_line (NoSummary place) = place_line (codes "no summary: ") place
+cause_line (Native place) = place_line (codes "native: ") place
+cause_line (Reflective place) = place_line (codes "reflective: ") place
 cause_line (Provider class) = class_line (codes "provider: ") class
 cause_line (LayoutClass class) = class_line (codes "layout class: ") class
+cause_line (TooLarge limit) = counted_line (codes "too large: ") limit
 
 unfoldable pub cause_lines : List Cause → List ℕ
 cause_lines causes = flat_map cause_line causes

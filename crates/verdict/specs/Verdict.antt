@@ -1,39 +1,40 @@
 -- What the parts of an app come to, and when they make an app that is safe.
-use Rattle.std.specs.Prelude.{◌≡◌, true, List, map}
+use Rattle.std.specs.Prelude.{◌≡◌, List, []}
 use Rattle.dex_reader.specs.declared.dex.Dex.{Dex}
 use Rattle.app_machine.specs.declared.app.App.{App}
 use Rattle.app_machine.specs.declared.lists.Lists.{Lists}
 use Rattle.app_machine.specs.declared.papers.Declaration.{Declaration}
 use Rattle.app_machine.specs.Safe.{Safe}
+use Rattle.app_flow.specs.declared.flow.Flow.{Flow}
+use Rattle.app_flow.specs.declared.flow.Flow.TheVariants.{Rows, TooLarge}
+use Rattle.app_flow.specs.Flow.{IsFlow}
 use Rattle.app_link.specs.IsApp.{IsApp}
-use Rattle.straight_line.specs.Flow.{findings, unknown}
-use Rattle.straight_line.specs.Straight.{is_straight}
+use Rattle.outcomes.specs.Causes.{causes_of, causes_too_large}
+use Rattle.outcomes.specs.Findings.{findings_of}
 use Rattle.verdict.specs.declared.outcome.Outcome.{Outcome}
-use Rattle.verdict.specs.declared.outcome.Outcome.TheVariants.{Refused}
+use Rattle.verdict.specs.declared.outcome.Outcome.TheVariants.{Refused, Undecided}
 use Rattle.verdict.specs.declared.outcome.Part.{Part}
-use Rattle.verdict.specs.declared.outcome.Place.{Place}
 use Rattle.verdict.specs.declared.outcome.Reason.{Reason}
 use Rattle.verdict.specs.declared.papers.Papers.{Papers}
 use Rattle.verdict.specs.declared.parts.Parts.{Parts}
-use Rattle.verdict.specs.Causes.{causes_of}
-use Rattle.verdict.specs.Findings.{findings_of}
 use Rattle.verdict.specs.Outcome.{outcome_of}
-use Rattle.verdict.specs.Places.{place_in}
 use Rattle.verdict.specs.Refuses.{Refuses, Reads}
 
--- where the app's one method calls something of which the lists say nothing
-unfoldable pub unknown_places : App → Lists → List Place
-unknown_places app lists = map (place_in app 0) (unknown app lists)
+-- what the causes and findings of the rows that follow make of an app; of one that is too large nothing is found
+abbrev pub outcome_by : App → Lists → Declaration → Flow → Outcome
+outcome_by app lists declaration (Rows rows) = outcome_of (causes_of app rows) (findings_of app lists declaration rows)
+outcome_by app lists declaration (TooLarge limit) = Undecided (causes_too_large app limit) []
 
--- what an app comes to, by the flow along its one straight line
-abbrev pub outcome_for : App → Lists → Declaration → Outcome
-outcome_for app lists declaration = outcome_of (causes_of app (unknown_places app lists)) (findings_of app lists declaration (findings app lists))
+-- what an app comes to, by its flow
+pub record ComesTo (app : App) (lists : Lists) (declaration : Declaration) (o : Outcome) : Type 0 where
+  pub flow : Flow
+  pub is_flow : IsFlow app lists flow
+  pub same : o ≡ outcome_by app lists declaration flow
 
 -- the first refusal, or else what the app comes to
 pub data Verdict (parts : Parts) : Outcome → Type 0 where
   refused : (part : Part) (reason : Reason) → Refuses parts part reason → Verdict parts (Refused part reason)
-  judged : (papers : Papers) (dexes : List Dex) (app : App) → Reads parts papers dexes → IsApp dexes papers.manifest papers.layouts app → is_straight app papers.lists ≡ true →
-      Verdict parts (outcome_for app papers.lists papers.declaration)
+  judged : {o : Outcome} (papers : Papers) (dexes : List Dex) (app : App) → Reads parts papers dexes → IsApp dexes papers.manifest papers.layouts app → ComesTo app papers.lists papers.declaration o → Verdict parts o
 
 -- The bytes are forms and DEX files that make an app, and that app is safe by these lists and this declaration: no run of the
 -- machine brings a label to a sink unless that pair is declared, and none comes to what is not modelled.

@@ -8,24 +8,28 @@ ghost use Rattle.office_forms.specs.Sound.{SoundManifest, SoundLayouts};
 ghost use Rattle.app_machine.specs.SoundLists.{SoundLists};
 ghost use Rattle.app_machine.specs.Safe.{Safe};
 ghost use Rattle.app_machine.specs.Sound.{SoundApp};
-ghost use Rattle.straight_line.specs.Straight.{IsStraight};
+ghost use Rattle.app_flow.specs.Flow.{IsGoodFlow};
+ghost use Rattle.outcomes.specs.Causes.{causes_of};
+ghost use Rattle.outcomes.specs.Findings.{findings_of};
+ghost use Rattle.outcomes.specs.Within.{AreWithin};
 ghost use Rattle.verdict.specs.Halts.{Halts, HaltsLink};
 ghost use Rattle.verdict.specs.OneVerdict.{OnlyOutcome, RefusesOnly};
 ghost use Rattle.verdict.specs.Outcome.{outcome_of};
 ghost use Rattle.verdict.specs.Refuses.{AreDex, HasPapers};
-ghost use Rattle.verdict.specs.Verdict.{Verdict, IsSafeApp, outcome_for};
+ghost use Rattle.verdict.specs.Verdict.{ComesTo, Verdict, IsSafeApp, outcome_by};
 
-use crate::causes::causes_of;
 use crate::dexes::dexes_of;
-use crate::findings::findings_of;
 use crate::laws::lower_laws;
 use crate::papers::{Halt, Papers, Refusal, papers_of};
 use crate::{Cause, Finding, Outcome, Part, Parts, Reason};
+use app_flow::{Flow, flow_of};
 use app_link::{LinkFault, link};
 use app_model::App;
 use dex_reader::Dex;
+use fact_rows::Row;
+use flow_proof::every_good_table_covers_every_run;
+use outcomes::{causes_of, causes_too_large, findings_of, nothing_is_left_out};
 use std::alloc::Global;
-use straight_line::{flow_of, is_straight};
 use vet_base::{Memory, Seq, Stop};
 
 fn halt_of(fault: LinkFault) -> Halt
@@ -60,27 +64,6 @@ fn linked_app(alloc: Global, parts: &Parts, papers: &Papers, dexes: &[Dex]) -> R
     }
 }
 
-/// That the flow of the app can be told.
-fn check_straight(parts: &Parts, papers: &Papers, dexes: &[Dex], app: &App) -> Result<(), Halt>
-    requires papers { HasPapers parts.now papers.now }
-    requires files { AreDex parts.now.dex dexes.now }
-    requires app { IsApp dexes.now papers.now.manifest papers.now.layouts app.now }
-    requires only { OnlyApp dexes.now papers.now.manifest papers.now.layouts app.now }
-    requires sound { SoundApp app.now }
-    requires lists { SoundLists papers.now.lists }
-    ensures straight { OnOk result (IsStraight app.now papers.now.lists) }
-    ensures err { IfErr result (λ h. Halts (RefusesOnly parts.now) h) }
-{
-    lower_laws();
-    if !is_straight(app, &papers.lists) {
-        return Err(Stop::Fault(Refusal {
-            part: Part::App,
-            reason: Reason::Unbuilt,
-        }));
-    }
-    Ok(())
-}
-
 fn outcome_with(causes: Vec<Cause>, findings: Vec<Finding>) -> Outcome
     ensures { result ≡ outcome_of causes.items findings.items }
 {
@@ -93,30 +76,54 @@ fn outcome_with(causes: Vec<Cause>, findings: Vec<Finding>) -> Outcome
     }
 }
 
-/// What an app comes to.
-#[tactic(auto, using(crate::proofs::Outcomes::has_method, crate::proofs::Outcomes::outcome_is))]
-fn outcome_in(alloc: Global, app: &App, papers: &Papers) -> Result<Outcome, Memory>
-    requires straight { IsStraight app.now papers.now.lists }
+/// What an app comes to by the rows that follow.
+fn outcome_of_rows(
+    alloc: Global,
+    app: &App,
+    papers: &Papers,
+    rows: &[Row],
+) -> Result<Outcome, Memory>
     requires sound { SoundApp app.now }
-    requires lists { SoundLists papers.now.lists }
-    ensures value { IfOk result (λ o. o ≡ outcome_for app.now papers.now.lists papers.now.declaration) }
-    ensures safe { IfOk result (λ o. o ≡ Outcome.Clear → Safe app.now papers.now.lists papers.now.declaration) }
+    requires within { AreWithin app.now rows.now }
+    ensures { IfOk result (λ o. o ≡ outcome_of (causes_of app.now rows.now) (findings_of app.now papers.now.lists papers.now.declaration rows.now)) }
 {
-    let flow = flow_of(alloc, app, &papers.lists)?;
-    let at = &app.methods.at(0).at;
-    let causes = causes_of(alloc, app, at, flow.unknown.as_slice())?;
-    let findings = findings_of(
-        alloc,
-        &papers.lists,
-        &papers.declaration,
-        at,
-        flow.findings.as_slice(),
-    )?;
+    let causes = causes_of(alloc, app, rows)?;
+    let findings = findings_of(alloc, app, &papers.lists, &papers.declaration, rows)?;
     Ok(outcome_with(causes, findings))
 }
 
+/// What an app comes to by its flow.
+fn outcome_by(alloc: Global, app: &App, papers: &Papers, flow: &Flow) -> Result<Outcome, Memory>
+    requires sound { SoundApp app.now }
+    requires good { IsGoodFlow app.now papers.now.lists flow.now }
+    ensures { IfOk result (λ o. o ≡ outcome_by app.now papers.now.lists papers.now.declaration flow.now) }
+{
+    match flow {
+        Flow::Rows(rows) => outcome_of_rows(alloc, app, papers, rows.as_slice()),
+        Flow::TooLarge(limit) => {
+            let causes = causes_too_large(alloc, app, *limit)?;
+            let none = Vec::new(alloc);
+            Ok(Outcome::Undecided(Seq::from_vec(causes), Seq::from_vec(none)))
+        }
+    }
+}
+
+/// What an app comes to.
+#[tactic(auto, using(crate::proofs::Outcomes::clear_is_safe))]
+fn outcome_in(alloc: Global, app: &App, papers: &Papers, seed: u64) -> Result<Outcome, Memory>
+    requires sound { SoundApp app.now }
+    requires lists { SoundLists papers.now.lists }
+    ensures value { IfOk result (λ o. ComesTo app.now papers.now.lists papers.now.declaration o) }
+    ensures safe { IfOk result (λ o. o ≡ Outcome.Clear → Safe app.now papers.now.lists papers.now.declaration) }
+{
+    nothing_is_left_out();
+    every_good_table_covers_every_run();
+    let flow = flow_of(alloc, app, &papers.lists, seed)?;
+    outcome_by(alloc, app, papers, &flow)
+}
+
 #[tactic(auto, using(crate::proofs::Outcomes::verdict_on, crate::proofs::Outcomes::safe_parts))]
-fn judged(alloc: Global, parts: &Parts) -> Result<Outcome, Halt>
+fn judged(alloc: Global, parts: &Parts, seed: u64) -> Result<Outcome, Halt>
     ensures value { IfOk result (λ o. Verdict parts.now o) }
     ensures one { IfOk result (λ o. OnlyOutcome parts.now o) }
     ensures safe { IfOk result (λ o. o ≡ Outcome.Clear → IsSafeApp parts.now) }
@@ -126,30 +133,31 @@ fn judged(alloc: Global, parts: &Parts) -> Result<Outcome, Halt>
     let papers = papers_of(alloc, parts)?;
     let dexes = dexes_of(alloc, parts, &papers)?;
     let app = linked_app(alloc, parts, &papers, &dexes)?;
-    check_straight(parts, &papers, &dexes, &app)?;
-    Ok(outcome_in(alloc, &app, &papers)?)
+    Ok(outcome_in(alloc, &app, &papers, seed)?)
 }
 
 /// What the parts of an app come to.
 ///
 /// Refused with the first fault: that of the manifest's form, a number of DEX files that is not the manifest's (a range
 /// fault of its `dex_files`), those of the forms of layouts, declaration and lists, that of each DEX file, and then that of
-/// the app that they are. Else undecided where something unknown is called, where there is a content provider, or where a
-/// layout names a class of the app; else flagged where a value of a source may come to a sink and the declaration does not
-/// name the pair; else clear, and then no run of the app brings one there.
+/// the app that they are. Else undecided where a run may come to a call without a row of the lists, to native code or to
+/// reflection, where there is a content provider, where a layout names a class of the app, or where more rows follow than the
+/// lists allow; else flagged where a value of a source may come to a sink and the declaration does not name the pair; else
+/// clear, and then no run of the app brings one there.
 ///
-/// Causes and findings stand in ascending order and each once: calls by place, providers and classes by name; findings
+/// Causes and findings stand in ascending order and each once: places by cause, providers and classes by name; findings
 /// by the names of source and sink and then by place. A place goes by class, name and descriptor of the method, and
-/// address.
+/// address. Of an app that is too large only that, its providers and its layouts' classes are told. The outcome does not depend
+/// on the seed, which says where rows are stored meanwhile.
 #[tactic(auto, using(crate::proofs::Outcomes::refused_with, crate::proofs::Outcomes::no_clear_refusal))]
-pub fn judge(alloc: Global, parts: &Parts) -> Result<Outcome, Memory>
+pub fn judge(alloc: Global, parts: &Parts, seed: u64) -> Result<Outcome, Memory>
     ensures value { IfOk result (λ o. Verdict parts.now o) }
 
     // The parts come to nothing else.
     ensures one { (o : Outcome) → Verdict parts.now o → (result ≡ Ok o) ⊎ IsErr result }
     ensures safe { IfOk result (λ o. o ≡ Outcome.Clear → IsSafeApp parts.now) }
 {
-    match judged(alloc, parts) {
+    match judged(alloc, parts, seed) {
         Ok(outcome) => Ok(outcome),
         Err(Stop::Memory) => Err(Memory),
         Err(Stop::Fault(refusal)) => Ok(Outcome::Refused(refusal.part, refusal.reason)),

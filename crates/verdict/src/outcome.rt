@@ -3,37 +3,11 @@
 ghost use Rattle.std.specs.Prelude.{◌≡◌};
 ghost use Rattle.verdict.specs.Outcome.{status_of};
 
+use crate::{Cause, Finding};
 use app_link::LinkFault;
-use app_model::MethodRef;
 use dex_reader::DexFault;
 use office_forms::FormFault;
-use vet_base::{Name, Seq};
-
-/// An instruction: its method and its address there.
-#[derive(Debug, Drop)]
-pub struct Place {
-    pub at: MethodRef,
-    pub pc: u32,
-}
-
-/// Data of a source category may come to a sink category at a place. The declaration does not name the pair.
-#[derive(Debug, Drop)]
-pub struct Finding {
-    pub source: Name,
-    pub sink: Name,
-    pub at: Place,
-}
-
-/// Why nothing certain can be said of an app.
-#[derive(Debug, Drop)]
-pub enum Cause {
-    /// The lists say nothing of what is called here.
-    NoSummary(Place),
-    /// The manifest has a content provider, of this class.
-    Provider(Name),
-    /// A layout names this class of the app.
-    LayoutClass(Name),
-}
+use vet_base::Seq;
 
 /// What is refused.
 #[derive(Clone, Copy, Debug, PartialEq, Eq)]
@@ -58,8 +32,6 @@ pub enum Reason {
     Form(FormFault),
     Dex(DexFault),
     Link(LinkFault),
-    /// The flow of such an app is not told yet.
-    Unbuilt,
 }
 
 /// What the parts of an app come to.

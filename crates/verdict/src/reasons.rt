@@ -182,6 +182,5 @@ pub fn put_reason(alloc: Global, text: &mut Text, reason: &Reason) -> Result<(),
         Reason::Form(fault) => put_form_reason(text, fault),
         Reason::Dex(fault) => put_dex_reason(alloc, text, fault),
         Reason::Link(fault) => put_link_reason(alloc, text, fault),
-        Reason::Unbuilt => put(text, b"unbuilt".as_slice()),
     }
 }

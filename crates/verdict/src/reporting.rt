@@ -27,8 +27,16 @@ fn put_cause(alloc: Global, text: &mut Text, cause: &Cause) -> Result<(), Memory
 {
     match cause {
         Cause::NoSummary(place) => put_place_line(alloc, text, b"no summary: ".as_slice(), place),
+        Cause::Native(place) => put_place_line(alloc, text, b"native: ".as_slice(), place),
+        Cause::Reflective(place) => put_place_line(alloc, text, b"reflective: ".as_slice(), place),
         Cause::Provider(class) => put_class_line(text, b"provider: ".as_slice(), class),
         Cause::LayoutClass(class) => put_class_line(text, b"layout class: ".as_slice(), class),
+        Cause::TooLarge(limit) => put_counted(
+            alloc,
+            text,
+            b"too large: ".as_slice(),
+            *limit as usize,
+        ),
     }
 }
 

@@ -4,6 +4,7 @@
 use std::alloc::Global;
 use std::env::Env;
 use std::process::ExitCode;
+use std::random::RandomSource;
 use std::{env, io};
 use vetting_desk::{HostFiles, StandardSink, Status, vet};
 
@@ -16,12 +17,22 @@ fn words_of(rt: &(impl Env + AllocGlobal), alloc: Global) -> io::Result<Vec<Stri
     Ok(words)
 }
 
+/// A number that nobody outside can guess; a fixed one where the system gives none.
+fn seed_of(rt: &impl RandomSource) -> u64 {
+    let mut bytes = [0; 8];
+    match rt.fill_bytes(&mut bytes) {
+        Ok(()) => u64::from_le_bytes(bytes),
+        Err(_) => 0,
+    }
+}
+
 fn main(rt: HostRuntime) -> ExitCode {
     let alloc = rt.alloc();
     // Words that cannot be read are no command.
     let words = words_of(&rt, alloc).unwrap_or(Vec::new(alloc));
+    let seed = seed_of(&rt);
     let mut files = HostFiles::new(rt);
     let mut out = StandardSink::new(rt);
-    let Status(status) = vet(alloc, &words, &mut files, &mut out);
+    let Status(status) = vet(alloc, &words, &mut files, &mut out, seed);
     ExitCode::from(status)
 }

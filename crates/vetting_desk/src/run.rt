@@ -26,13 +26,19 @@ pub enum Found {
 }
 
 /// What `check` finds in a folder.
-fn found_in_folder<F: Files>(alloc: Global, dir: &str, workers: u8, files: &mut F) -> Found
+fn found_in_folder<F: Files>(
+    alloc: Global,
+    dir: &str,
+    workers: u8,
+    files: &mut F,
+    seed: u64,
+) -> Found
     ensures { IsFound (Some (Check dir.now workers)) (F.told files.old) (F.told files.new)
         (F.fault_count files.old) (F.fault_count files.new) result }
 {
     one_form_or_fault();
     match parts_in(alloc, files, dir) {
-        Ok(parts) => match judge(alloc, &parts) {
+        Ok(parts) => match judge(alloc, &parts, seed) {
             Ok(outcome) => Found::Said(Answer::Vetted(outcome)),
             Err(_) => Found::Memory,
         },
@@ -44,13 +50,13 @@ fn found_in_folder<F: Files>(alloc: Global, dir: &str, workers: u8, files: &mut 
     }
 }
 
-fn found_in<F: Files>(alloc: Global, words: &[String], files: &mut F) -> Found
+fn found_in<F: Files>(alloc: Global, words: &[String], files: &mut F, seed: u64) -> Found
     ensures { IsFound (parse (map string_bytes words.now)) (F.told files.old) (F.told files.new)
         (F.fault_count files.old) (F.fault_count files.new) result }
 {
     match command_in(words) {
         None => Found::Said(Answer::Usage),
-        Some(Command::Check(dir, workers)) => found_in_folder(alloc, dir, workers, files),
+        Some(Command::Check(dir, workers)) => found_in_folder(alloc, dir, workers, files, seed),
     }
 }
 
@@ -69,7 +75,16 @@ fn printed<O: Sink>(alloc: Global, out: &mut O, status: Status, text: &[u8]) -> 
 /// Status 0 says: the folder that the words name gives the parts of an app that is safe, that is, no run of the machine
 /// brings a value of a listed source to a listed sink unless the declaration names that pair, or comes to what is not
 /// modelled. Where the files tell what they hold, those parts are the files of the folder.
-pub fn vet<F: Files, O: Sink>(alloc: Global, words: &[String], files: &mut F, out: &mut O) -> Status
+///
+/// The seed, any number that a stranger cannot guess, says where rows are stored while an app is judged. No answer depends
+/// on it.
+pub fn vet<F: Files, O: Sink>(
+    alloc: Global,
+    words: &[String],
+    files: &mut F,
+    out: &mut O,
+    seed: u64,
+) -> Status
     // Clear is a theorem about the very bytes handed in.
     ensures sound { result ≡ status 0 → IsSafe (parse (map string_bytes words.now)) (F.told files.old) }
 
@@ -97,7 +112,7 @@ pub fn vet<F: Files, O: Sink>(alloc: Global, words: &[String], files: &mut F, ou
     ensures known { IsKnown result }
     ensures files { SameFiles (F.told files.old) (F.told files.new) }
 {
-    match found_in(alloc, words, files) {
+    match found_in(alloc, words, files, seed) {
         Found::Said(answer) => match text_saying(alloc, &answer) {
             Ok(text) => printed(alloc, out, status_saying(&answer), &text),
             Err(_) => Status(7),

@@ -51,7 +51,7 @@ fn answer(
         line.push(String::from_str(alloc, word)?)?;
     }
     let mut out = MemSink::new(alloc, failing);
-    let Status(status) = vet(alloc, &line, &mut files, &mut out);
+    let Status(status) = vet(alloc, &line, &mut files, &mut out, 1);
     Ok((status, out.taken().to_vec(alloc)?))
 }
 

@@ -5,7 +5,7 @@ ghost use Rattle.app_machine.specs.Lookups.{initialisers};
 ghost use Rattle.app_machine.specs.Sound.{SoundApp};
 ghost use Rattle.app_model.specs.Initialisers.{MayBeInitialiser, class_initialisers, component_initialisers, initialisers_left};
 
-use crate::lookups::classes::class_of;
+use crate::lookups::class_walk::{ClassWalk, classes_above, next_class};
 use crate::lookups::methods::{initialiser_name, initialiser_of};
 use crate::{Act, App};
 use app_parts::class_initialised;
@@ -15,10 +15,8 @@ use vet_base::Name;
 /// superclasses.
 #[derive(Clone, Copy)]
 pub struct InitialiserWalk<'a> {
-    /// The class that comes next, where there is one.
-    class: Option<&'a Name>,
-    /// To how many classes the walk may still come.
-    steps: usize,
+    /// The classes to which it still comes.
+    classes: ClassWalk<'a>,
 }
 
 /// The initialisers that may run before the act: of the class that it initialises, and of those
@@ -47,13 +45,12 @@ fn class_initialisers<'a>(app: &App, class: Option<&'a Name>) -> InitialiserWalk
     ensures { initialisers_left app.now result ≡ class_initialisers app.now (option_copied class.entry) }
 {
     InitialiserWalk {
-        class,
-        steps: app.classes.len(),
+        classes: classes_above(app, class),
     }
 }
 
 /// The first initialiser of the walk, and the walk behind it. None where there are no more.
-#[tactic(auto, using(crate::proofs::Initialising::walked_none, crate::proofs::Initialising::walked_found, crate::proofs::Initialising::walked_on, crate::proofs::Initialising::walked_outside, crate::proofs::Initialising::walked_over_top, crate::proofs::Initialising::walked_all))]
+#[tactic(auto, using(crate::proofs::Initialising::walked_none, crate::proofs::Initialising::walked_found, crate::proofs::Initialising::walked_on, crate::proofs::Initialising::walked_all))]
 pub fn next_initialiser<'a>(
     app: &'a App,
     walk: InitialiserWalk<'a>,
@@ -61,20 +58,11 @@ pub fn next_initialiser<'a>(
     requires { SoundApp app.now }
     ensures { MatchOption result (initialisers_left app.now walk.entry ≡ []) (λ next. initialisers_left app.now walk.entry ≡ next.0 ∷ initialisers_left app.now next.1) }
 {
-    let mut class = walk.class;
-    for step in 0..walk.steps {
-        match class {
-            None => return None,
-            Some(name) => match class_of(app, name.as_bytes()) {
-                None => return None,
-                Some(found) => {
-                    class = found.superclass.as_ref();
-                    if let Some(body) = initialiser_of(app, found.name.as_bytes()) {
-                        let steps = walk.steps - step - 1;
-                        return Some((body, InitialiserWalk { class, steps }));
-                    }
-                }
-            },
+    let mut classes = walk.classes;
+    while let Some((class, rest)) = next_class(app, classes) {
+        classes = rest;
+        if let Some(body) = initialiser_of(app, class.name.as_bytes()) {
+            return Some((body, InitialiserWalk { classes }));
         }
     }
     None

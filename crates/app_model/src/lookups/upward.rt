@@ -4,7 +4,7 @@ ghost use Rattle.app_machine.specs.Lookups.{find_body, body_named, instance_key,
 ghost use Rattle.app_machine.specs.Sound.{SoundApp};
 ghost use Rattle.app_model.specs.Upward.{defined};
 
-use crate::lookups::classes::class_of;
+use crate::lookups::class_walk::{classes_upward, next_class};
 use crate::lookups::fields::field_of;
 use crate::lookups::methods::{method_of, method_with};
 use crate::{App, Class, Proto};
@@ -62,25 +62,17 @@ pub fn instance_key(app: &App, class: &Name, name: &Name, kind: &Name) -> KeyId
 
 /// The number of the member of the first class, from this one upward along superclasses, that
 /// defines it.
-#[tactic(auto, using(crate::proofs::Upward::onward_begins, crate::proofs::Upward::onward_found, crate::proofs::Upward::onward_next, crate::proofs::Upward::onward_top, crate::proofs::Upward::onward_outside, crate::proofs::Upward::onward_end))]
+#[tactic(auto, using(vet_base::proofs::Firsts::first_begins, vet_base::proofs::Firsts::first_found, vet_base::proofs::Firsts::first_later, vet_base::proofs::Firsts::first_nowhere))]
 fn first_upward(app: &App, class: &[u8], member: Member) -> Option<u32>
     requires { SoundApp app.now }
     ensures { result ≡ first_given (defined app.now member.entry) (up app.now class.now) }
 {
-    let mut name = class;
-    for _step in 0..app.classes.len() {
-        match class_of(app, name) {
-            Some(class) => {
-                if let Some(number) = defined(app, class, member) {
-                    return Some(number);
-                }
-                match &class.superclass {
-                    Some(superclass) => name = superclass.as_bytes(),
-                    None => return None,
-                }
-            }
-            None => return None,
+    let mut walk = classes_upward(app, class);
+    while let Some((class, rest)) = next_class(app, walk) {
+        if let Some(number) = defined(app, class, member) {
+            return Some(number);
         }
+        walk = rest;
     }
     None
 }

@@ -1,6 +1,12 @@
+use Rattle.std.proofs.Common.{length}
+use Rattle.vet_base.proofs.Firsts.{SameFirst}
+use Rattle.app_machine.specs.Lookups.{up}
+use Rattle.app_model.specs.ClassWalks.{classes_left}
 use Rattle.app_link.specs.Statics.{own_name}
-use Rattle.app_link.proofs.Climbing.{Asks}
 use Rattle.app_link.proofs.statics.class_upward.Given as goal
 
-abbrev pub invariant-loop-step : goal.invariant-loop-step
-invariant-loop-step l = Asks (own_name l.fields.entries l.at.1 l.at.2) l.app l.at.0 l.name l._step
+abbrev pub invariant-loop-class : goal.invariant-loop-class
+invariant-loop-class l = SameFirst (own_name l.fields.entries l.at.1 l.at.2) (up l.app l.at.0) (classes_left l.app l.walk)
+
+abbrev pub decreases-loop-class : goal.decreases-loop-class
+decreases-loop-class l = length (classes_left l.app l.walk)

@@ -1,5 +1,11 @@
-use Rattle.app_link.proofs.Climbing.{Gathers}
+use Rattle.std.proofs.Common.{length}
+use Rattle.app_machine.specs.Lookups.{up}
+use Rattle.app_model.specs.ClassWalks.{classes_left}
+use Rattle.app_link.proofs.Gathering.{Gathers}
 use Rattle.app_link.proofs.statics.interfaces_upward.Given as goal
 
-abbrev pub invariant-loop-step : goal.invariant-loop-step
-invariant-loop-step l = Gathers l.app l.class l.at l._step l.queue.items
+abbrev pub invariant-loop-class : goal.invariant-loop-class
+invariant-loop-class l = Gathers (up l.app l.class) (classes_left l.app l.walk) l.queue.items
+
+abbrev pub decreases-loop-class : goal.decreases-loop-class
+decreases-loop-class l = length (classes_left l.app l.walk)

@@ -1,0 +1,16 @@
+//! The flow in an app: the solver and the checker over its rules.
+#![tactic(auto)]
+
+ghost use Rattle.app_flow.specs.Flow.{OneFlow};
+
+mod flow;
+
+use fact_rows::rows_stand_in_order;
+pub use flow::{Flow, flow_of};
+
+/// An app has one flow by its lists.
+pub fn one_flow()
+    ensures { OneFlow }
+{
+    rows_stand_in_order();
+}

@@ -1,0 +1,3 @@
+pub mod AllExact
+pub mod AllGiven
+pub mod Ready

@@ -1,0 +1,10 @@
+pub mod CallGiven
+pub mod CallsExact
+pub mod Complete
+pub mod ExitExact
+pub mod ExitGiven
+pub mod InitExact
+pub mod InitGiven
+pub mod Initialised
+pub mod PassExact
+pub mod PassGiven

@@ -1,0 +1,4 @@
+pub mod EnterComplete
+pub mod EnterGiven
+pub mod EnterSound
+pub mod Meaning

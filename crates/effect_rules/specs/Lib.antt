@@ -1,0 +1,4 @@
+pub mod Complete
+pub mod EffectGiven
+pub mod EffectsExact
+pub mod Sound

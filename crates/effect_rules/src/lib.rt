@@ -1,0 +1,9 @@
+//! Rules 14 to 21 in code: what an effect on a site does to all that leads to its objects.
+#![tactic(auto)]
+
+mod effects;
+mod methods;
+mod rules;
+mod takers;
+
+pub use rules::{EffectRules, effect_consequences, effect_missing};

@@ -1,0 +1,300 @@
+//! Rules 17, 20 and 21: what follows from the effects of activations.
+ghost use Rattle.std.specs.Prelude.{◌≡◌, OnOk, fold, slice_get};
+ghost use Rattle.effect_rules.specs.EffectGiven.{caller_has, called_has, state_in, own_to, own_gives, is_beside, stays, component_gives, method_gives, live_takes, live_gives};
+
+use access_path::Path;
+use app_machine::App;
+use app_model::event_rows;
+use fact_rows::{Activation, Ctx, Node, Row, Site};
+use rule_ground::{Conclusion, Facts, Join, Key, Premises, Sink, for_each_hit};
+
+/// Who enters the activation has its effect.
+#[derive(Drop)]
+struct Callers {
+    by: Activation,
+    site: Site,
+    path: Path,
+    label: u8,
+}
+
+impl Join for Callers {
+    ghost ready = { λ j. Unit {0} };
+
+    ghost gives = { λ j row. caller_has j.by j.site j.path j.label row };
+
+    fn give<S: Sink>(&self, row: Row, out: &mut S) -> Result<(), S::Refusal> {
+        match row {
+            Row::CalledBy(_, node) => out.put(Conclusion {
+                rule: 17,
+                premises: Premises::Two(
+                    Row::MethodEffect(self.by, self.site, self.path, self.label),
+                    row,
+                ),
+                row: Row::Effect(node, self.site, self.path, self.label),
+            }),
+            _ => Ok(()),
+        }
+    }
+}
+
+/// The node has the effects of the activation that it enters.
+#[derive(Drop)]
+pub struct Called {
+    pub by: Activation,
+    pub node: Node,
+}
+
+impl Join for Called {
+    ghost ready = { λ j. Unit {0} };
+
+    ghost gives = { λ j row. called_has j.by j.node row };
+
+    fn give<S: Sink>(&self, row: Row, out: &mut S) -> Result<(), S::Refusal> {
+        match row {
+            Row::MethodEffect(_, site, path, label) => out.put(Conclusion {
+                rule: 17,
+                premises: Premises::Two(row, Row::CalledBy(self.by, self.node)),
+                row: Row::Effect(self.node, site, path, label),
+            }),
+            _ => Ok(()),
+        }
+    }
+}
+
+/// The state to which the event of the component leads.
+fn state_after(app: &App, component: u32, event: u32) -> Option<u8>
+    ensures { result ≡ state_in (slice_get app.now.components component) event }
+{
+    match app.components.get(component as usize) {
+        None => None,
+        Some(component) => match event_rows(component.kind).get(event as usize) {
+            None => None,
+            Some(row) => Some(row.to),
+        },
+    }
+}
+
+/// The component holds it in the state, where it is there.
+fn comes_to<S: Sink>(
+    to: Option<u8>,
+    by: Activation,
+    component: u32,
+    path: Path,
+    label: u8,
+    out: &mut S,
+) -> Result<(), S::Refusal>
+    ensures { OnOk result (out.new ≡ fold S.then out.old (own_to to by component path label)) }
+{
+    match to {
+        None => Ok(()),
+        Some(to) => {
+            if to == 0 {
+                Ok(())
+            } else {
+                out.put(Conclusion {
+                    rule: 20,
+                    premises: Premises::One(Row::MethodEffect(
+                        by,
+                        Site::Component(component),
+                        path,
+                        label,
+                    )),
+                    row: Row::CompTaint(component, to, path, label),
+                })
+            }
+        }
+    }
+}
+
+/// The effect of an event in the component's own life.
+fn own<S: Sink>(
+    app: &App,
+    by: Activation,
+    component: u32,
+    path: Path,
+    label: u8,
+    out: &mut S,
+) -> Result<(), S::Refusal>
+    ensures { OnOk result (out.new ≡ fold S.then out.old (own_gives app.now by.ctx by component path label)) }
+{
+    match by.ctx {
+        Ctx::Row(own, event) => {
+            if own == component {
+                comes_to(
+                    state_after(app, component, event),
+                    by,
+                    component,
+                    path,
+                    label,
+                    out,
+                )
+            } else {
+                Ok(())
+            }
+        }
+        _ => Ok(()),
+    }
+}
+
+/// Whether the context is that of an event, but of none in the component's own life.
+fn beside(ctx: Ctx, component: u32) -> bool
+    ensures { result ≡ is_beside ctx component }
+{
+    match ctx {
+        Ctx::Row(own, _) => own != component,
+        Ctx::Callback(_, _) | Ctx::Click(_, _) | Ctx::Handed(_) | Ctx::Init(_) => true,
+        Ctx::Call(_, _) | Ctx::Call2(_, _, _, _) => false,
+    }
+}
+
+/// The component keeps the effect in each of its states.
+#[derive(Drop)]
+struct States {
+    by: Activation,
+    component: u32,
+    path: Path,
+    label: u8,
+}
+
+impl Join for States {
+    ghost ready = { λ j. Unit {0} };
+
+    ghost gives = { λ j row. stays j.by j.component j.path j.label row };
+
+    fn give<S: Sink>(&self, row: Row, out: &mut S) -> Result<(), S::Refusal> {
+        match row {
+            Row::Live(_, state) => {
+                if state == 0 {
+                    Ok(())
+                } else {
+                    out.put(Conclusion {
+                        rule: 21,
+                        premises: Premises::Two(
+                            Row::MethodEffect(
+                                self.by,
+                                Site::Component(self.component),
+                                self.path,
+                                self.label,
+                            ),
+                            row,
+                        ),
+                        row: Row::CompTaint(self.component, state, self.path, self.label),
+                    })
+                }
+            }
+            _ => Ok(()),
+        }
+    }
+}
+
+/// An effect on a component comes to it.
+fn on_component<F: Facts, S: Sink>(
+    app: &App,
+    facts: &F,
+    by: Activation,
+    site: Site,
+    path: Path,
+    label: u8,
+    out: &mut S,
+) -> Result<(), S::Refusal>
+    ensures { OnOk result (out.new ≡ fold S.then out.old (component_gives app.now (F.hits facts.now) by site path label)) }
+{
+    match site {
+        Site::Component(component) => {
+            own(app, by, component, path, label, out)?;
+            if beside(by.ctx, component) {
+                for_each_hit(
+                    facts,
+                    &Key::LivesOf(component),
+                    &States {
+                        by,
+                        component,
+                        path,
+                        label,
+                    },
+                    out,
+                )
+            } else {
+                Ok(())
+            }
+        }
+        _ => Ok(()),
+    }
+}
+
+/// What follows from the effect of an activation.
+pub fn method_effect<F: Facts, S: Sink>(
+    app: &App,
+    facts: &F,
+    by: Activation,
+    site: Site,
+    path: Path,
+    label: u8,
+    out: &mut S,
+) -> Result<(), S::Refusal>
+    ensures { OnOk result (out.new ≡ fold S.then out.old (method_gives app.now (F.hits facts.now) by site path label)) }
+{
+    for_each_hit(
+        facts,
+        &Key::CallersOf(by),
+        &Callers {
+            by,
+            site,
+            path,
+            label,
+        },
+        out,
+    )?;
+    on_component(app, facts, by, site, path, label, out)
+}
+
+/// The component is in the state.
+#[derive(Drop)]
+struct State {
+    component: u32,
+    state: u8,
+}
+
+impl Join for State {
+    ghost ready = { λ j. Unit {0} };
+
+    ghost gives = { λ j row. live_takes j.component j.state row };
+
+    fn give<S: Sink>(&self, row: Row, out: &mut S) -> Result<(), S::Refusal> {
+        match row {
+            Row::MethodEffect(by, _, path, label) => {
+                if beside(by.ctx, self.component) {
+                    out.put(Conclusion {
+                        rule: 21,
+                        premises: Premises::Two(row, Row::Live(self.component, self.state)),
+                        row: Row::CompTaint(self.component, self.state, path, label),
+                    })
+                } else {
+                    Ok(())
+                }
+            }
+            _ => Ok(()),
+        }
+    }
+}
+
+/// What follows where a component is in a state.
+pub fn live<F: Facts, S: Sink>(
+    facts: &F,
+    component: u32,
+    state: u8,
+    out: &mut S,
+) -> Result<(), S::Refusal>
+    ensures { OnOk result (out.new ≡ fold S.then out.old (live_gives (F.hits facts.now) component state)) }
+{
+    if state == 0 {
+        Ok(())
+    } else {
+        for_each_hit(
+            facts,
+            &Key::MethodEffectsOn(Site::Component(component)),
+            &State { component, state },
+            out,
+        )
+    }
+}

@@ -1,0 +1,273 @@
+//! Rule 45, joined: which handed objects come back to which events.
+ghost use Rattle.std.specs.Prelude.{◌≡◌, OnOk, fold, flat_map};
+ghost use Rattle.std.specs.Option.{option_copied};
+ghost use Rattle.app_machine.specs.Sound.{SoundApp};
+ghost use Rattle.event_rules.specs.GivenBack.{any_handed, entry_gives, entry_takes, handed_back, is_handed, label_back, label_handed, label_takes, pair_gives};
+
+use crate::given_back::{Back, give_back};
+use crate::handed::HandedObject;
+use crate::known::Known;
+use app_machine::{App, Lists};
+use fact_rows::{Activation, Row, Site};
+use rule_ground::{Facts, Join, Key, Sink, for_each_hit};
+use site_classes::site_class;
+use vet_base::Name;
+
+/// A site of handed objects with its class.
+#[derive(Clone, Copy)]
+struct Objects<'a> {
+    app: &'a App,
+    lists: &'a Lists,
+    site: Site,
+    class: &'a Name,
+}
+
+impl<'a> Objects<'a> {
+    /// What is known of them comes back to an event.
+    fn back(&self, known: Known, by: Activation) -> Back<'a>
+        ensures { result ≡ record { app = self.now.app; lists = self.now.lists; object = record { site = self.now.site; known = known }; class = self.now.class; by = by } }
+    {
+        Back {
+            app: self.app,
+            lists: self.lists,
+            object: HandedObject {
+                site: self.site,
+                known,
+            },
+            class: self.class,
+            by,
+        }
+    }
+}
+
+/// Each label to which they lead comes back to the event.
+#[derive(Drop)]
+struct Labels<'a> {
+    objects: Objects<'a>,
+    by: Activation,
+}
+
+impl<'a> Join for Labels<'a> {
+    ghost ready = { λ j. SoundApp j.objects.app.now };
+
+    ghost gives = { λ j row. label_back j.objects.app.now j.objects.lists.now j.objects.site j.objects.class.now j.by row };
+
+    fn give<S: Sink>(&self, row: Row, out: &mut S) -> Result<(), S::Refusal> {
+        match row {
+            Row::HandedTaint(_, path, label) => give_back(
+                &self.objects.back(Known::Leads(path, label), self.by),
+                out,
+            ),
+            _ => Ok(()),
+        }
+    }
+}
+
+/// They come back to the event, with all to which they lead.
+fn pair<F: Facts, S: Sink>(
+    facts: &F,
+    objects: &Objects<'_>,
+    by: Activation,
+    out: &mut S,
+) -> Result<(), S::Refusal>
+    requires { SoundApp objects.now.app.now }
+    ensures { OnOk result (out.new ≡ fold S.then out.old (pair_gives objects.now.app.now objects.now.lists.now (F.hits facts.now) objects.now.site objects.now.class.now by)) }
+{
+    give_back(&objects.back(Known::There, by), out)?;
+    for_each_hit(
+        facts,
+        &Key::HandedTaintsOf(objects.site),
+        &Labels {
+            objects: *objects,
+            by,
+        },
+        out,
+    )
+}
+
+/// Handed objects come back to the event.
+#[derive(Drop)]
+struct ToEvent<'a, F> {
+    facts: &'a F,
+    app: &'a App,
+    lists: &'a Lists,
+    by: Activation,
+}
+
+impl<'a, F: Facts> Join for ToEvent<'a, F> {
+    ghost ready = { λ j. SoundApp j.app.now };
+
+    ghost gives = { λ j row. any_handed j.app.now j.lists.now (F.hits j.facts.now) j.by row };
+
+    fn give<S: Sink>(&self, row: Row, out: &mut S) -> Result<(), S::Refusal> {
+        let (app, lists) = (self.app, self.lists);
+        match row {
+            Row::Handed(site) => match site_class(app, lists, site) {
+                None => Ok(()),
+                Some(class) => pair(
+                    self.facts,
+                    &Objects {
+                        app,
+                        lists,
+                        site,
+                        class,
+                    },
+                    self.by,
+                    out,
+                ),
+            },
+            _ => Ok(()),
+        }
+    }
+}
+
+/// What follows where the event is reached.
+pub fn reach_event<F: Facts, S: Sink>(
+    app: &App,
+    lists: &Lists,
+    facts: &F,
+    by: Activation,
+    out: &mut S,
+) -> Result<(), S::Refusal>
+    requires { SoundApp app.now }
+    ensures { OnOk result (out.new ≡ fold S.then out.old (entry_gives app.now lists.now (F.hits facts.now) by)) }
+{
+    for_each_hit(
+        facts,
+        &Key::AnyHanded,
+        &ToEvent {
+            facts,
+            app,
+            lists,
+            by,
+        },
+        out,
+    )
+}
+
+/// The objects come back to events.
+#[derive(Drop)]
+struct FromObjects<'a, F> {
+    facts: &'a F,
+    objects: Objects<'a>,
+}
+
+impl<'a, F: Facts> Join for FromObjects<'a, F> {
+    ghost ready = { λ j. SoundApp j.objects.app.now };
+
+    ghost gives = { λ j row. entry_takes j.objects.app.now j.objects.lists.now (F.hits j.facts.now) j.objects.site j.objects.class.now row };
+
+    fn give<S: Sink>(&self, row: Row, out: &mut S) -> Result<(), S::Refusal> {
+        match row {
+            Row::Reached(node) => pair(self.facts, &self.objects, node.by, out),
+            _ => Ok(()),
+        }
+    }
+}
+
+/// What comes back to events where objects of the site are handed.
+pub fn hand_back<F: Facts, S: Sink>(
+    app: &App,
+    lists: &Lists,
+    facts: &F,
+    site: Site,
+    out: &mut S,
+) -> Result<(), S::Refusal>
+    requires { SoundApp app.now }
+    ensures { OnOk result (out.new ≡ fold S.then out.old (handed_back app.now lists.now (F.hits facts.now) site)) }
+{
+    match site_class(app, lists, site) {
+        None => Ok(()),
+        Some(class) => {
+            let objects = Objects {
+                app,
+                lists,
+                site,
+                class,
+            };
+            for_each_hit(
+                facts,
+                &Key::EventEntries,
+                &FromObjects { facts, objects },
+                out,
+            )
+        }
+    }
+}
+
+/// The label comes back to events.
+#[derive(Drop)]
+struct FromLabel<'a> {
+    objects: Objects<'a>,
+    known: Known,
+}
+
+impl<'a> Join for FromLabel<'a> {
+    ghost ready = { λ j. SoundApp j.objects.app.now };
+
+    ghost gives = { λ j row. label_takes j.objects.app.now j.objects.lists.now (record { site = j.objects.site; known = j.known }) j.objects.class.now row };
+
+    fn give<S: Sink>(&self, row: Row, out: &mut S) -> Result<(), S::Refusal> {
+        match row {
+            Row::Reached(node) => give_back(&self.objects.back(self.known, node.by), out),
+            _ => Ok(()),
+        }
+    }
+}
+
+/// It does so where the objects are handed.
+#[derive(Drop)]
+struct WhereHanded<'a, F> {
+    facts: &'a F,
+    objects: Objects<'a>,
+    known: Known,
+}
+
+impl<'a, F: Facts> Join for WhereHanded<'a, F> {
+    ghost ready = { λ j. SoundApp j.objects.app.now };
+
+    ghost gives = { λ j row. is_handed j.objects.app.now j.objects.lists.now (F.hits j.facts.now) (record { site = j.objects.site; known = j.known }) j.objects.class.now row };
+
+    fn give<S: Sink>(&self, row: Row, out: &mut S) -> Result<(), S::Refusal> {
+        match row {
+            Row::Handed(_) => {
+                let with = FromLabel {
+                    objects: self.objects,
+                    known: self.known,
+                };
+                for_each_hit(self.facts, &Key::EventEntries, &with, out)
+            }
+            _ => Ok(()),
+        }
+    }
+}
+
+/// What comes back to events where handed objects lead to a label.
+pub fn hand_label_back<F: Facts, S: Sink>(
+    app: &App,
+    lists: &Lists,
+    facts: &F,
+    object: HandedObject,
+    out: &mut S,
+) -> Result<(), S::Refusal>
+    requires { SoundApp app.now }
+    ensures { OnOk result (out.new ≡ fold S.then out.old (label_handed app.now lists.now (F.hits facts.now) object)) }
+{
+    match site_class(app, lists, object.site) {
+        None => Ok(()),
+        Some(class) => {
+            let objects = Objects {
+                app,
+                lists,
+                site: object.site,
+                class,
+            };
+            let with = WhereHanded {
+                facts,
+                objects,
+                known: object.known,
+            };
+            for_each_hit(facts, &Key::HandedOf(object.site), &with, out)
+        }
+    }
+}

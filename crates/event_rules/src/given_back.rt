@@ -1,0 +1,122 @@
+//! Rule 45: handed objects come back as parameters of events.
+ghost use Rattle.std.specs.Prelude.{◌≡◌, ◌+◌, ◌-◌, ◌<◌, ◌^◌, OnOk, fold};
+ghost use Rattle.std.specs.Option.{option_copied};
+ghost use Rattle.app_machine.specs.Sound.{SoundApp};
+ghost use Rattle.rule_ground.specs.Below.{for_below};
+ghost use Rattle.event_rules.specs.GivenBack.{back, back_index, back_premises, back_register, takes, type_at};
+
+use crate::handed::HandedObject;
+use crate::known::Known;
+use app_machine::{App, Lists, Method};
+use app_model::below;
+use app_parts::{is_reference, parameter_type, position_at};
+use begin_rules::first_argument;
+use fact_rows::{Activation, Row};
+use rule_ground::{Conclusion, Premises, Sink};
+use rule_nodes::entry;
+use vet_base::Name;
+
+/// A handed object of a class that comes back to an event.
+#[derive(Clone, Copy)]
+pub struct Back<'a> {
+    pub app: &'a App,
+    pub lists: &'a Lists,
+    pub object: HandedObject,
+    pub class: &'a Name,
+    pub by: Activation,
+}
+
+/// The type of the position of the argument register, where it has one.
+fn type_at(params: &[Name], index: u32) -> Option<&Name>
+    ensures { option_copied result ≡ type_at params.now index }
+{
+    match position_at(params, index) {
+        None => None,
+        Some(position) => parameter_type(params, position),
+    }
+}
+
+/// Whether a parameter of the type may be an object of the class.
+fn takes(app: &App, lists: &Lists, class: &Name, kind: Option<&Name>) -> bool
+    requires { SoundApp app.now }
+    ensures { result ≡ takes app.now lists.now class.now (option_copied kind.entry) }
+{
+    match kind {
+        None => false,
+        Some(kind) => is_reference(kind) && below(app, lists, class, kind),
+    }
+}
+
+fn premises(object: HandedObject, by: Activation) -> Premises
+    ensures { result ≡ back_premises object by }
+{
+    let reached = Row::Reached(entry(by));
+    let handed = Row::Handed(object.site);
+    match object.known {
+        Known::There => Premises::Two(reached, handed),
+        Known::Leads(_, _) => Premises::Three(reached, handed, object.known.handed(object.site)),
+    }
+}
+
+/// The register holds what is known of the object.
+fn to_register<S: Sink>(
+    object: HandedObject,
+    by: Activation,
+    register: u32,
+    out: &mut S,
+) -> Result<(), S::Refusal>
+    ensures { OnOk result (out.new ≡ S.then out.old (back_register object by register)) }
+{
+    out.put(Conclusion {
+        rule: 45,
+        premises: premises(object, by),
+        row: object.known.content(object.site).held(entry(by), register),
+    })
+}
+
+/// The register of this index among those of the arguments, where its type takes the class.
+fn to_index<S: Sink>(
+    with: &Back<'_>,
+    method: &Method,
+    index: u32,
+    out: &mut S,
+) -> Result<(), S::Refusal>
+    requires sound { SoundApp with.now.app.now }
+    requires fits { (method.now.registers - method.now.ins) + index < 2 ^ 32 }
+    ensures { OnOk result (out.new ≡ fold S.then out.old (back_index with.now.app.now with.now.lists.now with.now.object with.now.class.now with.now.by method.now index)) }
+{
+    let kind = type_at(method.at.proto.params.as_slice(), index);
+    if takes(with.app, with.lists, with.class, kind) {
+        to_register(with.object, with.by, first_argument(method) + index, out)
+    } else {
+        Ok(())
+    }
+}
+
+fn to_indices<S: Sink>(with: &Back<'_>, method: &Method, out: &mut S) -> Result<(), S::Refusal>
+    requires sound { SoundApp with.now.app.now }
+    requires fits { (method.now.registers - method.now.ins) + method.now.ins < 2 ^ 32 }
+    ensures { OnOk result (out.new ≡ fold S.then out.old (for_below (back_index with.now.app.now with.now.lists.now with.now.object with.now.class.now with.now.by method.now) method.now.ins)) }
+{
+    for index in 0..method.ins {
+        to_index(with, method, index, out)?;
+    }
+    Ok(())
+}
+
+/// Each parameter whose type takes the class holds what is known of the object.
+pub fn give_back<S: Sink>(with: &Back<'_>, out: &mut S) -> Result<(), S::Refusal>
+    requires { SoundApp with.now.app.now }
+    ensures { OnOk result (out.new ≡ fold S.then out.old (back with.now.app.now with.now.lists.now with.now.object with.now.class.now with.now.by)) }
+{
+    match with.app.methods.get(with.by.method as usize) {
+        None => Ok(()),
+        Some(method) => {
+            if method.is_native {
+                Ok(())
+            } else {
+                to_indices(with, method, out)
+            }
+        }
+    }
+}

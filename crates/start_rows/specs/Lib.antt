@@ -1,0 +1,3 @@
+pub mod Application
+pub mod StartLaws
+pub mod StartRows

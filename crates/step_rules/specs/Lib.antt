@@ -1,0 +1,5 @@
+pub mod Complete
+pub mod Lifted
+pub mod Sound
+pub mod StepGiven
+pub mod StepsExact

@@ -1,0 +1,208 @@
+//! Rules 2, 3, 8 and 10 to 12: what follows from a register, whatever it holds.
+ghost use Rattle.std.specs.Prelude.{◌≡◌, OnOk, fold};
+ghost use Rattle.step_rules.specs.StepGiven.{keeps, passes, thrown, put_gives, puts, content_on};
+
+use crate::{EXCEPTION, RESULT};
+use app_machine::{Act, Step};
+use app_parts::writes;
+use fact_rows::{Node, Row};
+use rule_ground::{
+    Conclusion, Content, Facts, Join, Key, Premises, Sink, for_each_hit, put_all, put_each,
+};
+use vet_base::KeyId;
+
+/// It keeps the content, where the act does not write it, and at each handler.
+fn keep<S: Sink>(
+    step: &Step,
+    node: Node,
+    register: u32,
+    content: Content,
+    out: &mut S,
+) -> Result<(), S::Refusal>
+    ensures { OnOk result (out.new ≡ fold S.then out.old (keeps step.now node register content)) }
+{
+    let premises = Premises::One(content.held(node, register));
+    if !writes(&step.act, register) {
+        put_each(
+            2,
+            premises,
+            content,
+            node,
+            register,
+            step.next.as_slice(),
+            out,
+        )?;
+    }
+    if register != EXCEPTION {
+        put_each(
+            2,
+            premises,
+            content,
+            node,
+            register,
+            step.catches.as_slice(),
+            out,
+        )?;
+    }
+    Ok(())
+}
+
+/// The content is thrown: out of the activation, and to each handler.
+fn throw<S: Sink>(
+    catches: &[u32],
+    node: Node,
+    register: u32,
+    content: Content,
+    out: &mut S,
+) -> Result<(), S::Refusal>
+    ensures { OnOk result (out.new ≡ fold S.then out.old (thrown catches.now node register content)) }
+{
+    let premises = Premises::One(content.held(node, register));
+    out.put(Conclusion {
+        rule: 11,
+        premises,
+        row: content.leaves(node.by, 1),
+    })?;
+    put_each(11, premises, content, node, EXCEPTION, catches, out)
+}
+
+/// The content goes to registers, to a static or out of the activation.
+fn pass<S: Sink>(
+    step: &Step,
+    node: Node,
+    register: u32,
+    content: Content,
+    out: &mut S,
+) -> Result<(), S::Refusal>
+    ensures { OnOk result (out.new ≡ fold S.then out.old (passes step.now.act step.now.next step.now.catches node register content)) }
+{
+    let premises = Premises::One(content.held(node, register));
+    match &step.act {
+        Act::Move(targets, from) if *from == register => {
+            put_all(
+                3,
+                premises,
+                content,
+                node,
+                targets.as_slice(),
+                step.next.as_slice(),
+                out,
+            )
+        }
+        Act::TakeResult(targets) if register == RESULT => {
+            put_all(
+                3,
+                premises,
+                content,
+                node,
+                targets.as_slice(),
+                step.next.as_slice(),
+                out,
+            )
+        }
+        Act::TakeException(target) if register == EXCEPTION => {
+            put_each(
+                3,
+                premises,
+                content,
+                node,
+                *target,
+                step.next.as_slice(),
+                out,
+            )
+        }
+        Act::PutStatic(field, from) if *from == register => {
+            out.put(Conclusion {
+                rule: 10,
+                premises,
+                row: content.held_static(*field),
+            })
+        }
+        Act::Throw(from) if *from == register => throw(
+            step.catches.as_slice(),
+            node,
+            register,
+            content,
+            out,
+        ),
+        Act::Return(Some(from)) if *from == register => {
+            out.put(Conclusion {
+                rule: 12,
+                premises,
+                row: content.leaves(node.by, 0),
+            })
+        }
+        _ => Ok(()),
+    }
+}
+
+/// Each object of the put's register is one that holds the content.
+#[derive(Drop)]
+struct IntoObject {
+    node: Node,
+    key: KeyId,
+    register: u32,
+    content: Content,
+}
+
+impl Join for IntoObject {
+    ghost ready = { λ j. Unit {0} };
+
+    ghost gives = { λ j row. put_gives j.node j.key j.register j.content row };
+
+    fn give<S: Sink>(&self, row: Row, out: &mut S) -> Result<(), S::Refusal> {
+        match row {
+            Row::Points(_, _, site) => out.put(Conclusion {
+                rule: 8,
+                premises: Premises::Two(row, self.content.held(self.node, self.register)),
+                row: self.content.stored(self.node, site, self.key),
+            }),
+            _ => Ok(()),
+        }
+    }
+}
+
+/// The content goes into the objects of a put.
+fn put<F: Facts, S: Sink>(
+    facts: &F,
+    act: &Act,
+    node: Node,
+    register: u32,
+    content: Content,
+    out: &mut S,
+) -> Result<(), S::Refusal>
+    ensures { OnOk result (out.new ≡ fold S.then out.old (puts (F.hits facts.now) act.now node register content)) }
+{
+    match act {
+        Act::Put(object, key, from) => {
+            if *from == register {
+                let with = IntoObject {
+                    node,
+                    key: *key,
+                    register,
+                    content,
+                };
+                for_each_hit(facts, &Key::PointsAt(node, *object), &with, out)
+            } else {
+                Ok(())
+            }
+        }
+        _ => Ok(()),
+    }
+}
+
+/// What follows from the register that holds the content.
+pub fn content<F: Facts, S: Sink>(
+    facts: &F,
+    step: &Step,
+    node: Node,
+    register: u32,
+    content: Content,
+    out: &mut S,
+) -> Result<(), S::Refusal>
+    ensures { OnOk result (out.new ≡ fold S.then out.old (content_on (F.hits facts.now) step.now node register content)) }
+{
+    keep(step, node, register, content, out)?;
+    pass(step, node, register, content, out)?;
+    put(facts, &step.act, node, register, content, out)
+}

@@ -1,0 +1,60 @@
+//! Rules 1 and 5: what follows where control comes.
+ghost use Rattle.std.specs.Prelude.{◌≡◌, OnOk, fold};
+ghost use Rattle.app_machine.specs.Sound.{SoundApp};
+ghost use Rattle.step_rules.specs.StepGiven.{goes_on, made, reached_on, step_here};
+
+use crate::RESULT;
+use crate::statics::read_statics;
+use app_machine::{Act, App};
+use app_model::step_at;
+use fact_rows::{Node, Row, Site};
+use rule_ground::{Conclusion, Content, Facts, Premises, Sink, put_each};
+use rule_nodes::at_pc;
+
+/// Control goes on to each of the pcs.
+fn go_on<S: Sink>(pcs: &[u32], node: Node, out: &mut S) -> Result<(), S::Refusal>
+    ensures { OnOk result (out.new ≡ fold S.then out.old (goes_on pcs.now node)) }
+{
+    for pc in pcs {
+        out.put(Conclusion {
+            rule: 1,
+            premises: Premises::One(Row::Reached(node)),
+            row: Row::Reached(at_pc(node, *pc)),
+        })?;
+    }
+    Ok(())
+}
+
+/// What the act makes is held.
+fn make<S: Sink>(act: &Act, next: &[u32], node: Node, out: &mut S) -> Result<(), S::Refusal>
+    ensures { OnOk result (out.new ≡ fold S.then out.old (made act.now next.now node)) }
+{
+    let made = Content::Object(Site::At(node));
+    let premises = Premises::One(Row::Reached(node));
+    match act {
+        Act::New(target, _) => put_each(5, premises, made, node, *target, next, out),
+        Act::Fill(_, _) => put_each(5, premises, made, node, RESULT, next, out),
+        _ => Ok(()),
+    }
+}
+
+/// What follows where control comes to the node.
+pub fn reached<F: Facts, S: Sink>(
+    app: &App,
+    facts: &F,
+    node: Node,
+    out: &mut S,
+) -> Result<(), S::Refusal>
+    requires { SoundApp app.now }
+    ensures { OnOk result (out.new ≡ fold S.then out.old (reached_on (step_here app.now node) (F.hits facts.now) node)) }
+{
+    match step_at(app, node.by.method, node.pc) {
+        None => Ok(()),
+        Some(step) => {
+            go_on(step.next.as_slice(), node, out)?;
+            go_on(step.catches.as_slice(), node, out)?;
+            make(&step.act, step.next.as_slice(), node, out)?;
+            read_statics(facts, step, node, out)
+        }
+    }
+}

@@ -1,4 +1,0 @@
-pub mod Coverage
-pub mod Flow
-pub mod Found
-pub mod Straight

@@ -1,6 +1,0 @@
-use Rattle.std.proofs.Common.{◌∙◌}
-use Rattle.verdict.proofs.Pairs.{contains_pair}
-use Rattle.verdict.proofs.findings.has_pair.Goals as goal
-
-pub returns : goal.returns
-returns c = c.contains.ensures ∙ contains_pair c.args.pairs.now.keys c.args.pair.now

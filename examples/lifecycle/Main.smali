@@ -1,0 +1,20 @@
+# Keeps the device id when it is paused, and posts it when it is resumed.
+.class public La/Main;
+.super Landroid/app/Activity;
+
+.field private id:Ljava/lang/String;
+
+.method public onPause()V
+    .registers 2
+    invoke-static {}, Lvendor/Device;->id()Ljava/lang/String;
+    move-result-object v0
+    iput-object v0, p0, La/Main;->id:Ljava/lang/String;
+    return-void
+.end method
+
+.method public onResume()V
+    .registers 2
+    iget-object v0, p0, La/Main;->id:Ljava/lang/String;
+    invoke-static {v0}, Lvendor/Net;->post(Ljava/lang/Object;)V
+    return-void
+.end method

@@ -1,0 +1,8 @@
+.class public La/Main;
+.super Landroid/app/Activity;
+.method public onCreate(Landroid/os/Bundle;)V
+    .registers 2
+    return-void
+.end method
+.method public static native go()V
+.end method
