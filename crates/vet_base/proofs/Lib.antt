@@ -4,6 +4,7 @@ pub mod Bools
 pub mod Eaches
 pub mod Every
 pub mod Firsts
+pub mod Fronts
 pub mod Halving
 pub mod Lists
 pub mod Members
@@ -14,5 +15,6 @@ pub mod Results
 pub mod Runs
 pub mod Scripts
 pub mod Stored
+pub mod Stretches
 pub mod Texts
 pub mod Throughs
