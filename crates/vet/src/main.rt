@@ -6,7 +6,7 @@ use std::env::Env;
 use std::process::ExitCode;
 use std::random::RandomSource;
 use std::{env, io};
-use vetting_desk::{HostFiles, StandardSink, Status, vet};
+use vetting_desk::{HostFiles, StandardSink, Status, vet, words_given};
 
 /// The words behind the program's name.
 fn words_of(rt: &(impl Env + AllocGlobal), alloc: Global) -> io::Result<Vec<String>> {
@@ -28,8 +28,10 @@ fn seed_of(rt: &impl RandomSource) -> u64 {
 
 fn main(rt: HostRuntime) -> ExitCode {
     let alloc = rt.alloc();
-    // Words that cannot be read are no command.
-    let words = words_of(&rt, alloc).unwrap_or(Vec::new(alloc));
+    let words = match words_given(alloc, words_of(&rt, alloc)) {
+        Ok(words) => words,
+        Err(Status(status)) => return ExitCode::from(status),
+    };
     let seed = seed_of(&rt);
     let mut files = HostFiles::new(rt);
     let mut out = StandardSink::new(rt);

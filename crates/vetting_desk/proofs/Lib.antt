@@ -1,5 +1,5 @@
+pub mod Ending
 pub mod Folders
 pub mod Holding
 pub mod OneFolder
-pub mod Printing
 pub mod Safety

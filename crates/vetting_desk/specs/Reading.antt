@@ -50,6 +50,13 @@ Leaves old new before after (Err (Refused part reason)) = (new ≡ old) × (afte
 Leaves old new before after (Err (ReadFault name)) = HasRisen before after × TellsRead new (string_bytes name) × SameFiles old new
 Leaves old new before after (Err Memory) = (new ≡ old) × (after ≡ before)
 
+-- where a read failed, it was that of such a file
+abbrev pub FailsAt : {X : Type 0} → (List ℕ → Type 0) → Result X Halt → Type 0
+FailsAt IsName (Ok x) = Unit {0}
+FailsAt IsName (Err (Refused part reason)) = Unit {0}
+FailsAt IsName (Err (ReadFault name)) = IsName (string_bytes name)
+FailsAt IsName (Err Memory) = Unit {0}
+
 -- the manifest says so many DEX files, or is not of its form
 abbrev pub CountsDex : List ℕ → Result ℕ Halt → Type 0
 CountsDex text (Ok count) = (manifest : Manifest) × IsForm manifest_form text manifest × (manifest.dex_files ≡ count)

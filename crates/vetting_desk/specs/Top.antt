@@ -1,77 +1,80 @@
--- What a run does to the files and the sink.
-use Rattle.std.specs.Prelude.{◌≡◌, ◌⊎◌, ℕ, ◌≤◌, List, ◌++◌, take, Option, None, string_bytes, IsTrue, is_some}
+-- How a run ends.
+use Rattle.std.specs.Prelude.{◌≡◌, ◌⊎◌, ℕ, List, ◌++◌, take, Option, Some, None, Ok}
 use Rattle.std.specs.Option.{option_map}
-use Rattle.vet_base.specs.Outside.{HasRisen, Told}
+use Rattle.vet_base.specs.Outside.{HasRisen, Told, WritesFile}
 use Rattle.vetting_desk.specs.declared.answer.Status.{Status}
-use Rattle.vetting_desk.specs.declared.answer.Answer.{Answer}
-use Rattle.vetting_desk.specs.declared.run.Found.{Found}
-use Rattle.vetting_desk.specs.declared.run.Found.TheVariants.{Said, ReadFault, Memory}
 use Rattle.vetting_desk.specs.declared.words.Words.{Words}
-use Rattle.vetting_desk.specs.Answer.{Answers, IsSafe, status_of, text_of, read_fault_text}
-use Rattle.vetting_desk.specs.Reading.{TellsRead, SameFiles}
+use Rattle.vetting_desk.specs.Answer.{Answers, SaysClear, IsSafe}
+use Rattle.vetting_desk.specs.Due.{Due, read_fault_text}
+use Rattle.vetting_desk.specs.Found.{ReadFails}
+use Rattle.vetting_desk.specs.Outside.{Tells, TellsInput, Outside}
 
 abbrev pub status : ℕ → Status
 status n = record { 0 = n }
 
--- An answer was found: it is that to the words and the files, and the only one where the files are told; it is a usage fault
--- just where the words are no command; nothing failed; and where it is clear the app is safe.
-pub record IsSaid (words : Option Words) (old new : Option Told) (before after : ℕ) (answer : Answer) : Type 0 where
-  pub answers : Answers words old answer
-  pub only : IsTrue (is_some old) → (other : Answer) → Answers words old other → other ≡ answer
-  pub usage : status_of answer ≡ 4 → words ≡ None
-  pub no_command : words ≡ None → status_of answer ≡ 4
-  pub safe : status_of answer ≡ 0 → IsSafe words old
-  pub told : SameFiles old new
-  pub count : after ≡ before
+-- no file changed but one, if any, that was written whole
+abbrev pub Writes : Option (List ℕ × List ℕ) → Option Told → Option Told → Type 0
+Writes None old new = new ≡ old
+Writes (Some file) old new = WritesFile old new file.0 file.1 (Ok tt)
 
--- A read failed.
-pub record IsReadFault (words : Option Words) (old new : Option Told) (before after : ℕ) (name : List ℕ) : Type 0 where
-  pub command : IsTrue (is_some words)
-  pub risen : HasRisen before after
-  pub failed : TellsRead new name
-  pub told : SameFiles old new
+-- No call of the files failed, and this alone was written.
+pub record NoFault (written : Option (List ℕ × List ℕ)) (old new : Outside) : Type 0 where
+  pub files : Writes written old.tells.files new.tells.files
+  pub count : new.faults.files ≡ old.faults.files
 
-abbrev pub IsFound : Option Words → Option Told → Option Told → ℕ → ℕ → Found → Type 0
-IsFound words old new before after (Said answer) = IsSaid words old new before after answer
-IsFound words old new before after (ReadFault name) = IsReadFault words old new before after (string_bytes name)
-IsFound words old new before after Memory = (after ≡ before) × SameFiles old new
+abbrev pub ReadFault : Option Words → Outside → Outside → List ℕ → Type 0
+ReadFault words old new name = ReadFails words old.tells.files new.tells.files old.faults.files new.faults.files name
 
--- The text went out and the status stands; or the sink failed, having taken a front of the text; or memory ran out.
-abbrev pub Prints : Option (List ℕ) → Option (List ℕ) → ℕ → ℕ → Status → List ℕ → Status → Type 0
-Prints old new before after said text result =
-    ((result ≡ said) × (new ≡ option_map (λ taken. taken ++ text) old) × (after ≡ before))
+-- A run comes to a status and a text before it prints: those that are due, or those of a read that failed.
+pub data ComesToSay (IsDue : Due → Type 0) (words : Option Words) (old new : Outside) : ℕ → List ℕ → Type 0 where
+  answer : (due : Due) → IsDue due → NoFault due.written old new → ComesToSay IsDue words old new due.status due.text
+  read_fault : (name : List ℕ) → ReadFault words old new name → ComesToSay IsDue words old new 5 (read_fault_text name)
+
+-- Memory ran out on the way there: nothing failed before, or a read had.
+pub data RunsOut (words : Option Words) (old new : Outside) : Type 0 where
+  no_fault : NoFault None old new → RunsOut words old new
+  read_fault : (name : List ℕ) → ReadFault words old new name → RunsOut words old new
+
+-- the whole text was printed
+pub record Prints (text : List ℕ) (old new : Outside) : Type 0 where
+  pub printed : new.tells.printed ≡ option_map (λ taken. taken ++ text) old.tells.printed
+  pub count : new.faults.sink ≡ old.faults.sink
+
+-- the sink failed, having taken a front of the text
+pub record PrintsFront (text : List ℕ) (old new : Outside) : Type 0 where
+  pub length : ℕ
+  pub printed : new.tells.printed ≡ option_map (λ taken. taken ++ take length text) old.tells.printed
+  pub risen : HasRisen old.faults.sink new.faults.sink
+
+pub record PrintsNothing (old new : Outside) : Type 0 where
+  pub printed : new.tells.printed ≡ old.tells.printed
+  pub count : new.faults.sink ≡ old.faults.sink
+
+-- How a run ends, and with which status, where this is due: what it came to say was printed; or the sink failed meanwhile; or
+-- memory ran out.
+pub data Ends (IsDue : Due → Type 0) (words : Option Words) (old new : Outside) : ℕ → Type 0 where
+  said : (n : ℕ) (text : List ℕ) → ComesToSay IsDue words old new n text → Prints text old new → Ends IsDue words old new n
+  put_failed : (n : ℕ) (text : List ℕ) → ComesToSay IsDue words old new n text → PrintsFront text old new → Ends IsDue words old new 6
+  memory : RunsOut words old new → PrintsNothing old new → Ends IsDue words old new 7
+
+-- It ends with what is due to the words and the outside.
+abbrev pub EndsAsDue : Option Words → Outside → Outside → ℕ → Type 0
+EndsAsDue words old new n = Ends (Answers words old.tells) words old new n
+
+-- Where what is read is told, it ends with each due: there is one.
+abbrev pub EndsAsOnlyDue : Option Words → Outside → Outside → ℕ → Type 0
+EndsAsOnlyDue words old new n = TellsInput old.tells → (due : Due) → Answers words old.tells due → Ends (λ d. d ≡ due) words old new n
+
+-- the due to the words, with that there is one, and with what it says of safety
+pub record TheDue (words : Option Words) (tells : Tells) (due : Due) : Type 0 where
+  pub answers : Answers words tells due
+  pub only : TellsInput tells → (other : Due) → Answers words tells other → other ≡ due
+  pub safe : SaysClear words due.status → IsSafe words tells
+
+-- What a put of a text came to: the text went out and the status stands; or the sink failed, having taken a front of the text; or
+-- memory ran out.
+abbrev pub PutsText : Option (List ℕ) → Option (List ℕ) → ℕ → ℕ → Status → List ℕ → Status → Type 0
+PutsText old new before after due text result =
+    ((result ≡ due) × (new ≡ option_map (λ taken. taken ++ text) old) × (after ≡ before))
     ⊎ ((result ≡ status 6) × ((n : ℕ) × (new ≡ option_map (λ taken. taken ++ take n text) old)) × HasRisen before after)
     ⊎ ((result ≡ status 7) × (new ≡ old) × (after ≡ before))
-
--- The status and the printed bytes are those of the answer to the words and the files.
-abbrev pub IsAnswer : Option Words → Option Told → Option (List ℕ) → Option (List ℕ) → Status → Type 0
-IsAnswer words told old new result =
-    (answer : Answer) × Answers words told answer × (result ≡ status (status_of answer)) × (new ≡ option_map (λ taken. taken ++ text_of answer) old)
-
--- Where the files are told, the status and the printed bytes are those of each answer to the words and the files.
-abbrev pub IsOnlyAnswer : Option Words → Option Told → Option (List ℕ) → Option (List ℕ) → Status → Type 0
-IsOnlyAnswer words told old new result =
-    IsTrue (is_some told) → (answer : Answer) → Answers words told answer → (result ≡ status (status_of answer)) × (new ≡ option_map (λ taken. taken ++ text_of answer) old)
-
--- the status for words that are no command
-abbrev pub IsUsage : ℕ → ℕ → Status → Type 0
-IsUsage before after result = (result ≡ status 4) ⊎ ((result ≡ status 6) × HasRisen before after) ⊎ (result ≡ status 7)
-
--- the printed text names the read that failed last
-abbrev pub TellsPrinted : Option Told → Option (List ℕ) → Option (List ℕ) → Type 0
-TellsPrinted told old new = (name : List ℕ) × TellsRead told name × (new ≡ option_map (λ taken. taken ++ read_fault_text name) old)
-
--- the text that was due: that of the answer, or that of the read that failed
-abbrev pub IsDue : Option Words → Option Told → Option Told → List ℕ → Type 0
-IsDue words old new text = ((answer : Answer) × Answers words old answer × (text ≡ text_of answer)) ⊎ ((name : List ℕ) × TellsRead new name × (text ≡ read_fault_text name))
-
--- a front of the text that was due was printed
-abbrev pub PrintsPart : Option Words → Option Told → Option Told → Option (List ℕ) → Option (List ℕ) → Type 0
-PrintsPart words old_told new_told old new = (text : List ℕ) × IsDue words old_told new_told text × ((n : ℕ) × (new ≡ option_map (λ taken. taken ++ take n text) old))
-
-abbrev pub IsFaultStatus : Status → Type 0
-IsFaultStatus result = (result ≡ status 5) ⊎ (result ≡ status 6) ⊎ (result ≡ status 7)
-
--- the statuses that there are
-abbrev pub IsKnown : Status → Type 0
-IsKnown result = result.0 ≤ 7

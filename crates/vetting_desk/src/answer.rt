@@ -1,14 +1,14 @@
 //! What the words and the files come to, with the status and the text that say so.
 
 ghost use Rattle.std.specs.Prelude.{◌≡◌, ◌++◌, codes, IfOk};
-ghost use Rattle.vetting_desk.specs.Answer.{status_of, usage_text, text_of, read_fault_text};
+ghost use Rattle.vetting_desk.specs.Due.{usage_text, read_fault_text, due_of};
 
 use std::alloc::Global;
 use verdict::{Outcome, put_name, report, status_for};
 use vet_base::Memory;
 
 /// The exit status of the program: 0 clear, 1 flagged, 2 undecided, 3 refused, 4 the words are no command, 5 a file
-/// could not be read, 6 a text could not be printed, 7 want of memory.
+/// could not be read, 6 a text could not be printed, 7 want of memory. `vet` says when each comes.
 #[derive(Clone, Copy, Debug, PartialEq, Eq)]
 pub struct Status(pub u8);
 
@@ -23,7 +23,7 @@ pub enum Answer {
 
 /// The status that says the answer.
 pub fn status_saying(answer: &Answer) -> Status
-    ensures { result ≡ record { 0 = status_of answer.now } }
+    ensures { result.0 ≡ (due_of answer.now).status }
 {
     match answer {
         Answer::Usage => Status(4),
@@ -31,7 +31,7 @@ pub fn status_saying(answer: &Answer) -> Status
     }
 }
 
-#[tactic(auto, unfolding(crate::specs::Answer::usage_text))]
+#[tactic(auto, unfolding(crate::specs::Due::usage_text))]
 fn usage(alloc: Global) -> Result<Vec<u8>, Memory>
     ensures { IfOk result (λ text. text.items ≡ usage_text) }
 {
@@ -40,7 +40,7 @@ fn usage(alloc: Global) -> Result<Vec<u8>, Memory>
 
 /// The text that says the answer. It ends with one line feed.
 pub fn text_saying(alloc: Global, answer: &Answer) -> Result<Vec<u8>, Memory>
-    ensures { IfOk result (λ text. text.items ≡ text_of answer.now) }
+    ensures { IfOk result (λ text. text.items ≡ (due_of answer.now).text) }
 {
     match answer {
         Answer::Usage => usage(alloc),
@@ -49,7 +49,7 @@ pub fn text_saying(alloc: Global, answer: &Answer) -> Result<Vec<u8>, Memory>
 }
 
 /// The text that says which file could not be read.
-#[tactic(auto, unfolding(crate::specs::Answer::read_fault_text))]
+#[tactic(auto, unfolding(crate::specs::Due::read_fault_text))]
 pub fn read_fault(alloc: Global, name: &[u8]) -> Result<Vec<u8>, Memory>
     ensures { IfOk result (λ text. text.items ≡ read_fault_text name.now) }
 {

@@ -4,7 +4,8 @@ ghost use Rattle.std.specs.Prelude.{◌≡◌, ◌++◌, codes, string_bytes, If
 ghost use Rattle.vet_base.specs.Outside.{held_by};
 ghost use Rattle.verdict.specs.Reasons.{dex_name, part_name};
 ghost use Rattle.vetting_desk.specs.Folder.{file_name, part_at, dexes_at, parts_at};
-ghost use Rattle.vetting_desk.specs.Reading.{ReadsAs, Leaves, CountsDex, GathersAs};
+ghost use Rattle.vetting_desk.specs.Answer.{IsFileIn};
+ghost use Rattle.vetting_desk.specs.Reading.{ReadsAs, Leaves, FailsAt, CountsDex, GathersAs};
 
 use office_forms::{FormFault, read_manifest};
 use std::alloc::{AllocError, AllocFailed, Global};
@@ -85,6 +86,7 @@ fn name_of(alloc: Global, dir: &str, part: Part) -> Result<String, AllocError>
 fn part_in<F: Files>(alloc: Global, files: &mut F, dir: &str, part: Part) -> Result<Seq<u8>, Halt>
     ensures value { ReadsAs (F.told files.old) (λ bytes. bytes) result (part_at (held_by (F.told files.old)) dir.now part) }
     ensures leaves { Leaves (F.told files.old) (F.told files.new) (F.fault_count files.old) (F.fault_count files.new) result }
+    ensures file { FailsAt (λ name. name ≡ file_name dir.now part) result }
 {
     let name = name_of(alloc, dir, part)?;
     match files.read(alloc, name.as_str(), FILE_LIMIT) {
@@ -106,6 +108,7 @@ fn dexes_in<F: Files>(
 ) -> Result<Seq<Seq<u8>>, Halt>
     ensures value { ReadsAs (F.told files.old) (λ dexes. (dexes, tt)) result (dexes_at (held_by (F.told files.old)) dir.now count) }
     ensures leaves { Leaves (F.told files.old) (F.told files.new) (F.fault_count files.old) (F.fault_count files.new) result }
+    ensures file { FailsAt (IsFileIn dir.now) result }
 {
     let mut dexes = Vec::new(alloc);
     for i in 0..count {
@@ -126,6 +129,7 @@ fn parts_with<F: Files>(
 ) -> Result<Parts, Halt>
     ensures value { ReadsAs (F.told files.old) (λ parts. parts) result (parts_at (held_by (F.told files.old)) dir.now manifest count) }
     ensures leaves { Leaves (F.told files.old) (F.told files.new) (F.fault_count files.old) (F.fault_count files.new) result }
+    ensures file { FailsAt (IsFileIn dir.now) result }
 {
     let layouts = part_in(alloc, files, dir, Part::Layouts)?;
     let declaration = part_in(alloc, files, dir, Part::Declaration)?;
@@ -159,6 +163,7 @@ fn dex_count(alloc: Global, manifest: &[u8]) -> Result<u32, Halt>
 pub fn parts_in<F: Files>(alloc: Global, files: &mut F, dir: &str) -> Result<Parts, Halt>
     ensures value { GathersAs (F.told files.old) dir.now result }
     ensures leaves { Leaves (F.told files.old) (F.told files.new) (F.fault_count files.old) (F.fault_count files.new) result }
+    ensures file { FailsAt (IsFileIn dir.now) result }
 {
     let manifest = part_in(alloc, files, dir, Part::Manifest)?;
     let count = dex_count(alloc, manifest.as_slice())?;

@@ -1,6 +1,6 @@
 //! The adapters to the system: a few lines each, which tell nothing of content and count their failures.
 
-ghost use Rattle.std.specs.Prelude.{None};
+ghost use Rattle.std.specs.Prelude.{◌≡◌, None};
 
 use std::alloc::Global;
 use std::fs::File;
@@ -17,7 +17,10 @@ pub struct HostFiles<R: SystemFiles + AllocGlobal + Drop> {
 }
 
 impl<R: SystemFiles + AllocGlobal + Drop> HostFiles<R> {
-    pub fn new(rt: R) -> Self {
+    /// The files that this runtime reaches. No call of them failed yet.
+    pub fn new(rt: R) -> Self
+        ensures { result.faults ≡ 0 }
+    {
         HostFiles { rt, faults: 0 }
     }
 }
@@ -78,7 +81,10 @@ pub struct StandardSink<R: Print + Drop> {
 }
 
 impl<R: Print + Drop> StandardSink<R> {
-    pub fn new(rt: R) -> Self {
+    /// The output of this runtime. No call of it failed yet.
+    pub fn new(rt: R) -> Self
+        ensures { result.faults ≡ 0 }
+    {
         StandardSink { rt, faults: 0 }
     }
 }

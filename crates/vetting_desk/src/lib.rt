@@ -12,7 +12,7 @@ mod words;
 pub use answer::Status;
 pub use host::{HostFiles, StandardSink};
 pub use run::vet;
-pub use words::{WordFault, Words, parse_words};
+pub use words::{WordFault, Words, parse_words, words_given};
 
 #[cfg(test)]
 mod tests;

@@ -1,12 +1,12 @@
 //! The top call.
 
-ghost use Rattle.std.specs.Prelude.{◌≡◌, ◌≢◌, ◌<◌, Some, map, string_bytes, IsNone};
-ghost use Rattle.vet_base.specs.Outside.{HasRisen, HasNotRisen};
+ghost use Rattle.std.specs.Prelude.{Some, map, string_bytes, IfOk};
 ghost use Rattle.vetting_desk.specs.declared.words.Words.TheVariants.{Check};
 ghost use Rattle.vetting_desk.specs.Words.{parse};
-ghost use Rattle.vetting_desk.specs.Answer.{IsSafe};
-ghost use Rattle.vetting_desk.specs.Reading.{SameFiles};
-ghost use Rattle.vetting_desk.specs.Top.{IsFound, Prints, IsAnswer, IsOnlyAnswer, IsUsage, TellsPrinted, PrintsPart, IsFaultStatus, IsKnown, status};
+ghost use Rattle.vetting_desk.specs.Answer.{SaysClear, IsSafe};
+ghost use Rattle.vetting_desk.specs.Found.{IsFound, SaysFound};
+ghost use Rattle.vetting_desk.specs.Outside.{outside};
+ghost use Rattle.vetting_desk.specs.Top.{PutsText, TheDue, Ends, EndsAsDue, EndsAsOnlyDue};
 
 use crate::answer::{Answer, Status, read_fault, status_saying, text_saying};
 use crate::folder::{Halt, parts_in};
@@ -14,7 +14,7 @@ use crate::words::{Command, command_in};
 use office_forms::one_form_or_fault;
 use std::alloc::Global;
 use verdict::{Outcome, judge};
-use vet_base::{Files, PutFault, Sink};
+use vet_base::{Files, Memory, PutFault, Sink};
 
 /// What a run found before it prints.
 #[derive(Debug, Drop)]
@@ -60,8 +60,19 @@ fn found_in<F: Files>(alloc: Global, words: &[String], files: &mut F, seed: u64)
     }
 }
 
+/// The status and the text that say what was found.
+fn saying(alloc: Global, found: &Found) -> Result<(Status, Vec<u8>), Memory>
+    ensures { IfOk result (λ said. SaysFound found.now said.0.0 said.1.items) }
+{
+    match found {
+        Found::Said(answer) => Ok((status_saying(answer), text_saying(alloc, answer)?)),
+        Found::ReadFault(name) => Ok((Status(5), read_fault(alloc, name.as_bytes())?)),
+        Found::Memory => Err(Memory),
+    }
+}
+
 fn printed<O: Sink>(alloc: Global, out: &mut O, status: Status, text: &[u8]) -> Status
-    ensures { Prints (O.taken out.old) (O.taken out.new) (O.fault_count out.old) (O.fault_count out.new) status text.now result }
+    ensures { PutsText (O.taken out.old) (O.taken out.new) (O.fault_count out.old) (O.fault_count out.new) status text.now result }
 {
     match out.put(alloc, text) {
         Ok(()) => status,
@@ -70,11 +81,41 @@ fn printed<O: Sink>(alloc: Global, out: &mut O, status: Status, text: &[u8]) -> 
     }
 }
 
-/// Runs the words over files, and prints the answer to a sink as one text that ends with one line feed.
+/// Finds what the words and the files come to, and prints it.
+fn run<F: Files, O: Sink>(
+    alloc: Global,
+    words: &[String],
+    files: &mut F,
+    out: &mut O,
+    seed: u64,
+) -> Status
+    ensures { Ends (TheDue (parse (map string_bytes words.now)) (record { files = F.told files.old; printed = O.taken out.old }))
+        (parse (map string_bytes words.now))
+        (outside (F.told files.old) (F.fault_count files.old) (O.taken out.old) (O.fault_count out.old))
+        (outside (F.told files.new) (F.fault_count files.new) (O.taken out.new) (O.fault_count out.new)) result.0 }
+{
+    let found = found_in(alloc, words, files, seed);
+    match saying(alloc, &found) {
+        Ok((status, text)) => printed(alloc, out, status, &text),
+        Err(_) => Status(7),
+    }
+}
+
+/// Runs the words over files, and prints the answer to a sink as one text that ends with one line feed and goes out in
+/// one put.
 ///
-/// Status 0 says: the folder that the words name gives the parts of an app that is safe, that is, no run of the machine
-/// brings a value of a listed source to a listed sink unless the declaration names that pair, or comes to what is not
-/// modelled. Where the files tell what they hold, those parts are the files of the folder.
+/// The status is:
+/// - 0, clear: the folder that the words name gives the parts of an app that is safe, that is, no run of the machine
+///   brings a value of a listed source to a listed sink unless the declaration names that pair, or comes to what is not
+///   modelled. Where the files tell what they hold, those parts are the files of the folder. The report is printed, as
+///   it is for 1 to 3.
+/// - 1, flagged: a value of a source may come to a sink, and the declaration does not name the pair.
+/// - 2, undecided: a run may come to what is not modelled, or the app is too large.
+/// - 3, refused: a file is absent or too long, or the parts are no app.
+/// - 4: the words are no command. A line that says so is printed.
+/// - 5: a read of a file of this command failed in this call. A line with the file's name is printed.
+/// - 6: the put failed in this call. A front of the text that was due was printed.
+/// - 7: memory ran out. Nothing was printed.
 ///
 /// The seed, any number that a stranger cannot guess, says where rows are stored while an app is judged. No answer depends
 /// on it.
@@ -85,42 +126,20 @@ pub fn vet<F: Files, O: Sink>(
     out: &mut O,
     seed: u64,
 ) -> Status
+    // The status, the printed text and the files are those that are due to the words, unless a read or the put failed in
+    // this very call, or memory ran out.
+    ensures ends { EndsAsDue (parse (map string_bytes words.now))
+        (outside (F.told files.old) (F.fault_count files.old) (O.taken out.old) (O.fault_count out.old))
+        (outside (F.told files.new) (F.fault_count files.new) (O.taken out.new) (O.fault_count out.new)) result.0 }
+
+    // Nothing else is due, where the files tell what they hold.
+    ensures only { EndsAsOnlyDue (parse (map string_bytes words.now))
+        (outside (F.told files.old) (F.fault_count files.old) (O.taken out.old) (O.fault_count out.old))
+        (outside (F.told files.new) (F.fault_count files.new) (O.taken out.new) (O.fault_count out.new)) result.0 }
+
     // Clear is a theorem about the very bytes handed in.
-    ensures sound { result ≡ status 0 → IsSafe (parse (map string_bytes words.now)) (F.told files.old) }
-
-    // Where neither count rose and memory was there, the status and the text are the answer to the words and the files.
-    ensures answer { result ≢ status 7 →
-        HasNotRisen (F.fault_count files.old) (F.fault_count files.new) → HasNotRisen (O.fault_count out.old) (O.fault_count out.new) →
-        IsAnswer (parse (map string_bytes words.now)) (F.told files.old) (O.taken out.old) (O.taken out.new) result }
-
-    // There is no other answer, where the files tell what they hold.
-    ensures only { result ≢ status 7 →
-        HasNotRisen (F.fault_count files.old) (F.fault_count files.new) → HasNotRisen (O.fault_count out.old) (O.fault_count out.new) →
-        IsOnlyAnswer (parse (map string_bytes words.now)) (F.told files.old) (O.taken out.old) (O.taken out.new) result }
-
-    ensures usage { result ≡ status 4 → IsNone (parse (map string_bytes words.now)) }
-    ensures no_command { IsNone (parse (map string_bytes words.now)) → IsUsage (O.fault_count out.old) (O.fault_count out.new) result }
-    ensures read_fault { result ≡ status 5 → HasRisen (F.fault_count files.old) (F.fault_count files.new)
-        × TellsPrinted (F.told files.new) (O.taken out.old) (O.taken out.new) }
-    ensures write_fault { result ≡ status 6 → HasRisen (O.fault_count out.old) (O.fault_count out.new)
-        × PrintsPart (parse (map string_bytes words.now)) (F.told files.old) (F.told files.new) (O.taken out.old) (O.taken out.new) }
-    ensures memory { result ≡ status 7 → O.taken out.new ≡ O.taken out.old }
-
-    // A fault of the outside is never passed over.
-    ensures put_failed { O.fault_count out.old < O.fault_count out.new → result ≡ status 6 }
-    ensures read_failed { F.fault_count files.old < F.fault_count files.new → IsFaultStatus result }
-    ensures known { IsKnown result }
-    ensures files { SameFiles (F.told files.old) (F.told files.new) }
+    ensures sound { SaysClear (parse (map string_bytes words.now)) result.0 →
+        IsSafe (parse (map string_bytes words.now)) (record { files = F.told files.old; printed = O.taken out.old }) }
 {
-    match found_in(alloc, words, files, seed) {
-        Found::Said(answer) => match text_saying(alloc, &answer) {
-            Ok(text) => printed(alloc, out, status_saying(&answer), &text),
-            Err(_) => Status(7),
-        },
-        Found::ReadFault(name) => match read_fault(alloc, name.as_bytes()) {
-            Ok(text) => printed(alloc, out, Status(5), &text),
-            Err(_) => Status(7),
-        },
-        Found::Memory => Status(7),
-    }
+    run(alloc, words, files, out, seed)
 }

@@ -1,8 +1,12 @@
-use crate::{HostFiles, StandardSink, Status, vet};
+ghost use Rattle.std.specs.Prelude.{None};
+
+use crate::{HostFiles, StandardSink, Status, vet, words_given};
 use std::alloc::Global;
+use std::io::ErrorKind;
 use std::process::Abort;
 use std::test::Fail;
-use vet_base::{FileFault, Files, MemFiles, MemSink, Name, Sink};
+use std::{fs, io};
+use vet_base::{FileFault, Files, MemFiles, MemSink, Name, PutFault, Sink};
 
 /// The files of an app with one DEX file, in the order in which they are read.
 const FILES: [&str; 5] = [
@@ -146,24 +150,123 @@ fn a_sink_that_fails(rt: HostRuntime) -> Result<(), Fail> {
 }
 
 #[test]
+fn a_sink_that_fails_after_a_read_that_failed(rt: HostRuntime) -> Result<(), Fail> {
+    let alloc = rt.alloc();
+    let files = folder(alloc, "", None, vec![in alloc; 2]?)?;
+    let words = ["check", "D", "1"];
+    let (status, text) = answer(alloc, words.as_slice(), files, vec![in alloc; 1]?)?;
+    assert_eq!(rt; text.as_slice(), [].as_slice());
+    assert_eq!(rt; status, 6);
+    Ok(())
+}
+
+/// A sink that counts its puts, and of the first keeps the bytes.
+#[derive(Drop)]
+struct CountingSink {
+    puts: u64,
+    first: Vec<u8>,
+}
+
+impl Sink for CountingSink {
+    ghost taken = { λ _. None };
+
+    ghost fault_count = { λ _. 0 };
+
+    fn put(&mut self, _alloc: Global, bytes: &[u8]) -> Result<(), PutFault> {
+        if self.puts == 0 {
+            self.first.extend_from_slice(bytes)?;
+        }
+        self.puts = self.puts.saturating_add(1);
+        Ok(())
+    }
+
+    fn faults(&self) -> u64 {
+        0
+    }
+}
+
+/// That these words over this folder end with this status, and that this text is printed in one put.
+fn expect_one_put(
+    rt: &impl Abort,
+    alloc: Global,
+    words: &[&str],
+    mut files: MemFiles,
+    want: (u8, &str),
+) -> Result<(), Fail> {
+    let mut line = Vec::new(alloc);
+    for word in words {
+        line.push(String::from_str(alloc, word)?)?;
+    }
+    let mut out = CountingSink {
+        puts: 0,
+        first: Vec::new(alloc),
+    };
+    let Status(status) = vet(alloc, &line, &mut files, &mut out, 1);
+    assert_eq!(rt; status, want.0);
+    assert_eq!(rt; out.puts, 1);
+    assert_eq!(rt; out.first.as_slice(), want.1.as_bytes());
+    Ok(())
+}
+
+#[test]
+fn each_text_is_printed_in_one_put(rt: HostRuntime) -> Result<(), Fail> {
+    let alloc = rt.alloc();
+    let check = ["check", "D", "1"];
+    let whole = folder(alloc, "", None, Vec::new(alloc))?;
+    expect_one_put(&rt, alloc, &[], whole, (4, USAGE))?;
+    let gone = folder(alloc, "lists.toml", None, Vec::new(alloc))?;
+    let refused = (3, "refused lists.toml: absent\n");
+    expect_one_put(&rt, alloc, check.as_slice(), gone, refused)?;
+    let failing = folder(alloc, "", None, vec![in alloc; 2]?)?;
+    let fault = (5, "read fault D/layouts.toml\n");
+    expect_one_put(&rt, alloc, check.as_slice(), failing, fault)
+}
+
+#[test]
+fn words_that_the_system_gives_or_not(rt: HostRuntime) -> Result<(), Fail> {
+    let alloc = rt.alloc();
+    let word = String::from_str(alloc, "check")?;
+    let given = words_given(alloc, Ok(vec![in alloc; word]?));
+    assert_eq!(rt; given.map(|words| words.len()), Ok(1));
+    let unread = io::Error::from(ErrorKind::InvalidData);
+    assert_eq!(rt;
+        words_given(alloc, Err(unread)).map(|words| words.len()),
+        Ok(0)
+    );
+    let want = io::Error::from(ErrorKind::OutOfMemory);
+    assert_eq!(rt; words_given(alloc, Err(want)).err(), Some(Status(7)));
+    Ok(())
+}
+
+/// The folder that a test makes for its files, and removes.
+const FOLDER: &str = "files_of_a_test";
+
+#[test]
 fn files_of_the_system(rt: HostRuntime) -> Result<(), Fail> {
     let alloc = rt.alloc();
+    if fs::exists(&rt, FOLDER)? {
+        fs::remove_dir_all(&rt, FOLDER)?;
+    }
+    fs::create_dir(&rt, FOLDER)?;
     let mut files = HostFiles::new(rt);
+    assert_eq!(rt; files.faults(), 0);
     assert_eq!(rt;
         files.read(alloc, "no_such_file", 9).err(),
         Some(FileFault::Absent)
     );
-    files.write(alloc, "written", b"abc".as_slice())?;
+    files.write(alloc, "files_of_a_test/written", b"abc".as_slice())?;
     assert_eq!(rt;
-        files.read(alloc, "written", 3)?.as_slice(),
+        files.read(alloc, "files_of_a_test/written", 3)?.as_slice(),
         b"abc".as_slice()
     );
     assert_eq!(rt;
-        files.read(alloc, "written", 2).err(),
+        files.read(alloc, "files_of_a_test/written", 2).err(),
         Some(FileFault::TooLong)
     );
     assert_eq!(rt;
-        files.read(alloc, "written/classes.dex", 3).err(),
+        files
+            .read(alloc, "files_of_a_test/written/classes.dex", 3)
+            .err(),
         Some(FileFault::Absent)
     );
     assert_eq!(rt; files.faults(), 0);
@@ -173,12 +276,14 @@ fn files_of_the_system(rt: HostRuntime) -> Result<(), Fail> {
         Some(FileFault::Failed)
     );
     assert_eq!(rt; files.faults(), 2);
+    fs::remove_dir_all(&rt, FOLDER)?;
     Ok(())
 }
 
 #[test]
 fn the_standard_output(rt: HostRuntime) -> Result<(), Fail> {
     let mut out = StandardSink::new(rt);
+    assert_eq!(rt; out.faults(), 0);
     out.put(rt.alloc(), b"clear\n".as_slice())?;
     assert_eq!(rt; out.faults(), 0);
     Ok(())
