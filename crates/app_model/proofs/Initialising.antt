@@ -1,7 +1,6 @@
 -- The initialisers of a class and of those above it, as a walk comes to them.
-use Rattle.std.proofs.Common.{◌≡◌, ◌↔◌, inl, inr, ℕ, zero, suc, ◌+◌, ◌-◌, ◌<◌, ◌≤◌, Bool, true, false, ◌&&◌, List, [], ◌∷◌, length, Option, Some, None, slice_get, filter_map, refl, sym, ap, subst, ◌∙◌, arith}
+use Rattle.std.proofs.Common.{◌≡◌, ◌↔◌, inl, inr, ℕ, Bool, true, false, ◌&&◌, List, [], ◌∷◌, Option, Some, None, slice_get, filter_map, refl, sym, ap, subst, ◌∙◌}
 use Rattle.std.specs.List.{cons_option}
-use Rattle.std.specs.Option.{option_copied}
 use Rattle.std.proofs.lemmas.Option.{same_Some, none-some}
 use Rattle.vet_base.specs.Members.{In}
 use Rattle.vet_base.proofs.Bools.{and_three}
@@ -12,7 +11,7 @@ use Rattle.app_machine.specs.declared.app.Class.{Class}
 use Rattle.app_machine.specs.declared.method.Act.{Act}
 use Rattle.app_machine.specs.declared.method.Method.{Method}
 use Rattle.app_machine.specs.Names.{Name, same_name, same_proto, initialiser_name, initialiser_proto}
-use Rattle.app_machine.specs.Lookups.{class_named, class_initialised, initialiser_of, initialisers, initialisers_from, method_of, up, up_within}
+use Rattle.app_machine.specs.Lookups.{class_initialised, initialiser_of, initialisers, initialisers_from, method_of, up}
 use Rattle.app_model.specs.declared.lookups.initialisers.InitialiserWalk.{InitialiserWalk}
 use Rattle.app_model.specs.Initialisers.{class_initialisers, initialisers_among, initialisers_left, MayBeInitialiser}
 use Rattle.app_model.specs.ClassWalks.{classes_from, classes_left}

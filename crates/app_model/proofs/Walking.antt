@@ -1,10 +1,10 @@
 -- One step of a walk over classes upward along superclasses.
-use Rattle.std.proofs.Common.{◌≡◌, ℕ, zero, suc, ◌-◌, ◌<◌, List, [], ◌∷◌, Option, Some, None, refl, sym, ◌∙◌, ap, arith}
+use Rattle.std.proofs.Common.{◌≡◌, ℕ, zero, suc, ◌-◌, ◌<◌, List, [], ◌∷◌, Some, None, refl, sym, ◌∙◌, ap, arith}
 use Rattle.std.specs.Option.{option_copied}
 use Rattle.app_machine.specs.declared.app.App.{App}
 use Rattle.app_machine.specs.declared.app.Class.{Class}
 use Rattle.app_machine.specs.Names.{Name}
-use Rattle.app_machine.specs.Lookups.{class_among, class_named, up_within}
+use Rattle.app_machine.specs.Lookups.{class_named, up_within}
 use Rattle.app_model.specs.declared.lookups.class_walk.ClassWalk.{ClassWalk}
 use Rattle.app_model.specs.ClassWalks.{classes_left}
 

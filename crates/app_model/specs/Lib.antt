@@ -5,7 +5,6 @@ pub mod EventBodies
 pub mod EventLaws
 pub mod EventTable
 pub mod Initialisers
-pub mod LibraryWalk
 pub mod Marks
 pub mod Met
 pub mod Search

@@ -22,5 +22,5 @@ pub use lookups::{
     CalledBack, ClassWalk, ComponentEvent, InitialiserWalk, act_initialisers, below, body_named,
     callback, class_of, classes_upward, click, component_initialisers, event_rows,
     events_are_exact, find_body, handed_callback, instance_key, is_application, is_initialiser,
-    library_key, life_event, next_class, next_initialiser, step_at, summary_of, target,
+    life_event, next_class, next_initialiser, step_at, summary_of, target,
 };

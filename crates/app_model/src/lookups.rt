@@ -26,7 +26,7 @@ pub use events::{
 pub use initialisers::{
     InitialiserWalk, act_initialisers, component_initialisers, is_initialiser, next_initialiser,
 };
-pub use library::{library_key, summary_of};
+pub use library::summary_of;
 pub use life::event_rows;
 pub use steps::step_at;
 pub use targets::target;

@@ -6,10 +6,11 @@ ghost use Rattle.app_machine.specs.SoundLists.{SoundLists};
 ghost use Rattle.app_machine.specs.Summaries.{summary};
 ghost use Rattle.call_targets.specs.EnterGiven.{with_code, enters, argument_of, argument_register as register_of, passed_to, uses_row, looks_up};
 
-use app_machine::{App, CallKind, Lists, Method, MethodRef, SummaryId};
-use app_model::{library_key, summary_of};
+use app_machine::{App, CallKind, Method, MethodRef, SummaryId};
+use app_model::summary_of;
 use app_parts::{SummaryView, is_reflective, is_static_call};
 use fact_rows::{Activation, Node, Row};
+use library_index::LibraryIndex;
 use rule_ground::{Conclusion, Content, Premises, Sink};
 use rule_nodes::{callee, entry};
 use vet_base::Name;
@@ -25,7 +26,7 @@ const REFLECTIVE: u8 = 3;
 #[derive(Clone, Copy)]
 pub struct Call<'a> {
     pub app: &'a App,
-    pub lists: &'a Lists,
+    pub lists: &'a LibraryIndex<'a>,
     pub node: Node,
     pub kind: CallKind,
     pub at: &'a MethodRef,
@@ -137,7 +138,7 @@ fn use_row<S: Sink>(
 ) -> Result<(), S::Refusal>
     ensures { OnOk result (out.new ≡ fold S.then out.old (uses_row premises call.now.node key (summary call.now.lists.now key call.now.at.now (is_static_of call.now.kind)))) }
 {
-    match summary_of(call.lists, key) {
+    match summary_of(call.lists.lists(), key) {
         None => Ok(()),
         Some(view) => {
             let row = if is_reflective(view) {
@@ -166,14 +167,10 @@ pub fn look_up<S: Sink>(
     ensures { OnOk result (out.new ≡ fold S.then out.old (looks_up call.now.app.now call.now.lists.now premises call.now.node call.now.kind call.now.at.now class.now)) }
 {
     let is_static = is_static_call(call.kind);
-    match library_key(
-        call.app,
-        call.lists,
-        class,
-        &call.at.name,
-        &call.at.proto,
-        is_static,
-    ) {
+    match call
+        .lists
+        .key(call.app, class, &call.at.name, &call.at.proto, is_static)
+    {
         None => out.put(Conclusion {
             rule: 27,
             premises,

@@ -7,10 +7,11 @@ ghost use Rattle.app_model.specs.Targets.{shown_target};
 ghost use Rattle.call_targets.specs.EnterGiven.{named_to, named, initialises, reached_on, step_here};
 
 use crate::enter::{Call, enter, look_up};
-use app_machine::{Act, App, Lists};
+use app_machine::{Act, App};
 use app_model::{Target, act_initialisers, next_initialiser, step_at, target};
 use app_parts::is_by_receiver;
 use fact_rows::{Node, Row};
+use library_index::LibraryIndex;
 use rule_ground::{Premises, Sink};
 
 /// The call comes to this by its name.
@@ -36,7 +37,7 @@ fn come_by_name<S: Sink>(call: &Call<'_>, to: Target, out: &mut S) -> Result<(),
 /// What a call comes to by its name.
 fn by_name<S: Sink>(
     app: &App,
-    lists: &Lists,
+    lists: &LibraryIndex<'_>,
     node: Node,
     act: &Act,
     out: &mut S,
@@ -76,7 +77,12 @@ fn initialise<S: Sink>(app: &App, node: Node, act: &Act, out: &mut S) -> Result<
 }
 
 /// What follows where control comes to the node.
-pub fn reached<S: Sink>(app: &App, lists: &Lists, node: Node, out: &mut S) -> Result<(), S::Refusal>
+pub fn reached<S: Sink>(
+    app: &App,
+    lists: &LibraryIndex<'_>,
+    node: Node,
+    out: &mut S,
+) -> Result<(), S::Refusal>
     requires sound { SoundApp app.now }
     requires lists { SoundLists lists.now }
     ensures { OnOk result (out.new ≡ fold S.then out.old (reached_on app.now lists.now node (step_here app.now node))) }

@@ -7,10 +7,11 @@ ghost use Rattle.std.specs.Option.{option_copied};
 ghost use Rattle.call_targets.specs.EnterGiven.{class_to, class_on, received as receives, is_register};
 
 use crate::enter::{Call, argument_register, enter, look_up, pass_to};
-use app_machine::{Act, App, Lists};
+use app_machine::{Act, App};
 use app_model::{Target, target};
 use app_parts::is_by_receiver;
 use fact_rows::{Node, Row, Site};
+use library_index::LibraryIndex;
 use rule_ground::{Content, Premises, Sink};
 use rule_nodes::callee;
 use site_classes::site_class;
@@ -93,7 +94,7 @@ fn by_class<S: Sink>(
 /// What follows where the receiver of a virtual or interface call may be an object of the site.
 pub fn received<S: Sink>(
     app: &App,
-    lists: &Lists,
+    lists: &LibraryIndex<'_>,
     receiver: Pointer,
     act: &Act,
     out: &mut S,
@@ -113,7 +114,8 @@ pub fn received<S: Sink>(
                     kind: *kind,
                     at,
                 };
-                by_class(&call, receiver, site_class(app, lists, receiver.site), out)
+                let class = site_class(app, lists.lists(), receiver.site);
+                by_class(&call, receiver, class, out)
             } else {
                 Ok(())
             }

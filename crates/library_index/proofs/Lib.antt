@@ -1,0 +1,4 @@
+pub mod ClassKeys
+pub mod First
+pub mod Numbering
+pub mod RowKeys
