@@ -1,5 +1,5 @@
 -- Causes in their order, and the classes of the app by a set of their names.
-use Rattle.std.proofs.Common.{◌≡◌, ◌==◌, ◌<◌, ℕ, Bool, true, false, List, [], ◌∷◌, map, Some, None, refl, sym, ◌∙◌, ap, inl, inr}
+use Rattle.std.proofs.Common.{◌≡◌, ◌==◌, ◌<◌, ℕ, Bool, true, false, List, [], ◌∷◌, map, Some, None, refl, ◌∙◌, ap, inl, inr}
 use Rattle.std.specs.Prelude.{length, filter_map, if◌then◌else◌, Option}
 use Rattle.std.specs.List.{list_any, AllByRecursion, cons_option}
 use Rattle.std.specs.BTreeMap.{is_at}
@@ -14,10 +14,10 @@ use Rattle.outcomes.specs.declared.outcome.Cause.{Cause}
 use Rattle.outcomes.specs.declared.outcome.Cause.TheVariants.{NoSummary, Native, Reflective}
 use Rattle.outcomes.specs.declared.outcome.Place.{Place}
 use Rattle.outcomes.specs.Ascending.{ascending}
-use Rattle.outcomes.specs.Causes.{is_app_class, place_of, unknown_places, no_summaries, natives, reflectives}
+use Rattle.outcomes.specs.Causes.{is_app_class, place_of, named_cause, unknown_places, no_summaries, natives, reflectives}
 use Rattle.outcomes.specs.Places.{place_in, place_order}
-use Rattle.outcomes.specs.Spots.{Spot, at_spot, named_cause, spot_order, unknown_spot}
-use Rattle.outcomes.specs.Within.{IsWithin, AreWithin}
+use Rattle.outcomes.specs.Spots.{Spot, at_spot, spot_order, unknown_spot}
+use Rattle.outcomes.specs.Within.{AreWithin}
 use Rattle.outcomes.proofs.Pairs.{name_of_set}
 use Rattle.outcomes.proofs.Sorting.{map_ascending}
 use Rattle.outcomes.proofs.Spots.{spots_in_order}
@@ -28,7 +28,7 @@ given b x = if b then Some x else None
 
 module _ (app : App) (cause : ℕ) where
   -- a place for each spot
-  at_spots : (rows : List Row) → map (at_spot app) (filter_map (unknown_spot cause) rows) ≡ unknown_places app cause rows
+  pub at_spots : (rows : List Row) → map (at_spot app) (filter_map (unknown_spot cause) rows) ≡ unknown_places app cause rows
   unfolding unknown_places unknown_spot
   at_spots [] = refl
   at_spots (Unknown n other ∷ rows) = by_test (other == cause) (at_spots rows)

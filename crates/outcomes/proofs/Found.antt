@@ -1,5 +1,5 @@
 -- What was found by numbers, in its order, is what is found by names.
-use Rattle.std.proofs.Common.{◌≡◌, ◌<◌, ℕ, Bool, true, false, ◌&&◌, List, [], ◌∷◌, map, filter, Some, None, Option, refl, sym, ◌∙◌, ap, inl, inr, not}
+use Rattle.std.proofs.Common.{◌≡◌, ◌<◌, ℕ, Bool, true, false, ◌&&◌, List, [], ◌∷◌, map, filter, Some, None, Option, refl, ◌∙◌, ap, inl, inr}
 use Rattle.std.specs.Prelude.{length, filter_map, option_map}
 use Rattle.std.specs.List.{AllByRecursion, cons_option}
 use Rattle.std.specs.Ordering.{ordering_then}
@@ -8,15 +8,12 @@ use Rattle.app_machine.specs.declared.lists.Lists.{Lists}
 use Rattle.app_machine.specs.declared.papers.Declaration.{Declaration}
 use Rattle.app_machine.specs.Names.{Name}
 use Rattle.app_machine.specs.Sound.{SoundApp, name_order}
-use Rattle.app_machine.specs.State.{Arrival}
 use Rattle.fact_rows.specs.declared.row.Row.{Row}
 use Rattle.fact_rows.specs.declared.row.Row.TheVariants.{Arrive}
-use Rattle.outcomes.specs.declared.outcome.Finding.{Finding}
 use Rattle.outcomes.specs.Ascending.{ascending}
 use Rattle.outcomes.specs.Findings.{category, are_listed, declares, arrival_of, arrivals_in, is_undeclared, finding_of, finding_order, findings_of}
-use Rattle.outcomes.specs.Places.{place_order}
-use Rattle.outcomes.specs.Spots.{Found, Spot, at_spot, found_order, finding_at, pair_if, spot_order, undeclared_at, undeclared_in, undeclared_pair}
-use Rattle.outcomes.specs.Within.{IsWithin, AreWithin}
+use Rattle.outcomes.specs.Spots.{Found, found_order, finding_at, pair_if, spot_order, undeclared_at, undeclared_in, undeclared_pair}
+use Rattle.outcomes.specs.Within.{AreWithin}
 use Rattle.outcomes.proofs.Pairs.{pair_order, pair_of_set}
 use Rattle.outcomes.proofs.Sorting.{map_ascending}
 use Rattle.outcomes.proofs.Spots.{spots_in_order}
@@ -49,7 +46,7 @@ module _ (app : App) (lists : Lists) (declaration : Declaration) where
   Same rows = map (finding_at app) (filter_map (undeclared_at lists declaration) rows) ≡ map (finding_of app lists) (filter (is_undeclared lists declaration) (filter_map arrival_of rows))
 
   -- each finding for what was found
-  found_named : (rows : List Row) → map (finding_at app) (undeclared_in lists declaration rows) ≡ map (finding_of app lists) (filter (is_undeclared lists declaration) (arrivals_in rows))
+  pub found_named : (rows : List Row) → map (finding_at app) (undeclared_in lists declaration rows) ≡ map (finding_of app lists) (filter (is_undeclared lists declaration) (arrivals_in rows))
   unfolding undeclared_in arrivals_in
   found_named [] = refl
   found_named (Arrive label sink n ∷ rows) = by_test (declares lists declaration label sink) refl (found_named rows)

@@ -1,6 +1,6 @@
 pub mod Called
 pub mod Found
-pub mod Nothing
+pub mod NothingLeftOut
 pub mod Pairs
 pub mod Sorting
 pub mod Spots

@@ -1,5 +1,5 @@
--- Ascending lists: under a map that keeps the order, what is in them, and when one is empty.
-use Rattle.std.proofs.Common.{◌≡◌, Bool, true, false, ◌||◌, List, [], ◌∷◌, ◌++◌, map, refl, sym, ◌∙◌, ap}
+-- Ascending lists: under a map that keeps the order, and what is in them.
+use Rattle.std.proofs.Common.{◌≡◌, Bool, true, false, ◌||◌, List, [], ◌∷◌, ◌++◌, map, refl, sym, ◌∙◌, ap, subst}
 use Rattle.std.proofs.Math.Bool.{or-false}
 use Rattle.std.specs.Prelude.{fold}
 use Rattle.std.specs.Cmp.{IsTotalOrder}
@@ -9,8 +9,12 @@ use Rattle.std.specs.declared.cmp.Ordering.{Ordering}
 use Rattle.std.specs.declared.cmp.Ordering.TheVariants.{Less, Equal, Greater}
 use Rattle.std.specs.BTreeSet.{insert_key}
 use Rattle.std.specs.BTreeMap.{is_at}
-use Rattle.std.proofs.lemmas.Cmp.{alike_right}
+use Rattle.std.proofs.lemmas.Cmp.{alike_right, tied_itself}
+use Rattle.std.proofs.lemmas.Map.Lookups.{CmpEqualImpliesEq}
 use Rattle.outcomes.specs.Ascending.{ascending}
+use Rattle.vet_base.specs.Members.{In}
+use Rattle.vet_base.proofs.Members.{one_passes, passes_if}
+use Rattle.vet_base.proofs.Orders.{is_equal}
 
 -- a map that keeps the order of elements of some kind, of which all are
 module _ {A B : Type 0} (R : A → A → Ordering) (S : B → B → Ordering) (g : A → B) (P : A → Type 0) (same : (a b : A) → P a → P b → S (g a) (g b) ≡ R a b) where
@@ -56,23 +60,6 @@ module _ {A : Type 0} (R : A → A → Ordering) where
   unfolding ascending
   one_more ks new xs x so_far added = added ∙ ap (λ (ys : List A). insert_key R ys x) so_far ∙ sym (fold_more [] xs x)
 
-  pub some_inserted : (ks : List A) (k : A) → insert_key R ks k ≡ [] → ⊥
-  some_inserted [] k none = cc
-  some_inserted (x ∷ xs) k none = at_order (R k x) none
-    where
-      at_order : (o : Ordering) → match_ordering o (k ∷ x ∷ xs) (x ∷ xs) (x ∷ insert_key R xs k) ≡ [] → ⊥
-      at_order Less none = cc
-      at_order Equal none = cc
-      at_order Greater none = cc
-
-  none_folded : (acc xs : List A) → fold (insert_key R) acc xs ≡ [] → (acc ≡ []) × (xs ≡ [])
-  none_folded acc [] none = (none, refl)
-  none_folded acc (x ∷ xs) none = let rest = none_folded (insert_key R acc x) xs none in absurd (some_inserted acc x rest.0)
-
-  pub none_ascending : (xs : List A) → ascending R xs ≡ [] → xs ≡ []
-  unfolding ascending
-  none_ascending xs none = (none_folded [] xs none).1
-
 module _ {A : Type 0} (R : A → A → Ordering) (total : IsTotalOrder R) (k : A) where
   said_twice : (a b : Bool) → (a || b) ≡ (a || (a || b))
   said_twice true b = refl
@@ -108,3 +95,10 @@ module _ {A : Type 0} (R : A → A → Ordering) (total : IsTotalOrder R) (k : A
   pub any_ascending : (xs : List A) → list_any (is_at (R k)) (ascending R xs) ≡ list_any (is_at (R k)) xs
   unfolding ascending
   any_ascending xs = any_folded [] xs
+
+  -- and each of its elements, where the order tells all elements apart
+  pub in_ascending : CmpEqualImpliesEq R → (xs : List A) → In k xs → In k (ascending R xs)
+  in_ascending exact xs is_in =
+      let tied : is_at (R k) k ≡ true = ap is_eq (tied_itself total k) in
+      let one = one_passes (is_at (R k)) (ascending R xs) (any_ascending xs ∙ passes_if (is_at (R k)) xs k is_in tied) in
+      subst (λ y. In y (ascending R xs)) (sym (exact k one.0 (is_equal (R k one.0) one.2))) one.1

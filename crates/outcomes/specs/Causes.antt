@@ -26,6 +26,10 @@ place_of app cause _ = None
 unfoldable pub unknown_places : App → ℕ → List Row → List Place
 unknown_places app cause rows = filter_map (place_of app cause) rows
 
+-- that a run may stand at the place for the cause
+abbrev pub named_cause : ℕ → Place → Cause
+named_cause cause place = if cause == no_summary then NoSummary place else if cause == native then Native place else Reflective place
+
 -- the causes by which a run may stand at these places
 unfoldable pub no_summaries : App → List Row → List Cause
 no_summaries app rows = map NoSummary (ascending place_order (unknown_places app no_summary rows))

@@ -1,7 +1,7 @@
 pub mod Ascending
 pub mod Causes
 pub mod Findings
-pub mod Nothing
+pub mod NothingLeftOut
 pub mod Places
 pub mod Spots
 pub mod Within

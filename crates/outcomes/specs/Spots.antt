@@ -1,17 +1,14 @@
 -- Places and findings by the numbers of their methods, as they are gathered before they are named.
-use Rattle.std.specs.Prelude.{◌==◌, ℕ, Bool, true, false, if◌then◌else◌, List, map, filter_map, Option, Some, None, option_map}
+use Rattle.std.specs.Prelude.{◌==◌, ℕ, Bool, true, false, if◌then◌else◌, List, filter_map, Option, Some, None, option_map}
 use Rattle.std.specs.Ordering.{nat_cmp, ordering_then}
 use Rattle.std.specs.declared.cmp.Ordering.{Ordering}
 use Rattle.app_machine.specs.declared.app.App.{App}
 use Rattle.app_machine.specs.declared.lists.Lists.{Lists}
 use Rattle.app_machine.specs.declared.papers.Declaration.{Declaration}
 use Rattle.app_machine.specs.Names.{Name}
-use Rattle.app_machine.specs.Safe.{no_summary, native}
 use Rattle.app_machine.specs.Sound.{name_order}
 use Rattle.fact_rows.specs.declared.row.Row.{Row}
 use Rattle.fact_rows.specs.declared.row.Row.TheVariants.{Arrive, Unknown}
-use Rattle.outcomes.specs.declared.outcome.Cause.{Cause}
-use Rattle.outcomes.specs.declared.outcome.Cause.TheVariants.{NoSummary, Native, Reflective}
 use Rattle.outcomes.specs.declared.outcome.Finding.{Finding}
 use Rattle.outcomes.specs.declared.outcome.Place.{Place}
 use Rattle.outcomes.specs.Findings.{category, declares}
@@ -30,9 +27,6 @@ at_spot app spot = place_in app spot.0 spot.1
 unfoldable pub unknown_spot : ℕ → Row → Option Spot
 unknown_spot cause (Unknown n other) = if other == cause then Some (n.by.method, n.pc) else None
 unknown_spot cause _ = None
-
-abbrev pub named_cause : ℕ → Place → Cause
-named_cause cause place = if cause == no_summary then NoSummary place else if cause == native then Native place else Reflective place
 
 -- the names of the categories of source and sink, and where
 abbrev pub Found : Type 0

@@ -1,5 +1,5 @@
 -- Rows that name only methods of the app.
-use Rattle.std.specs.Prelude.{◌<◌, ℕ, List, length}
+use Rattle.std.specs.Prelude.{◌<◌, List, length}
 use Rattle.app_machine.specs.declared.app.App.{App}
 use Rattle.fact_rows.specs.declared.row.Row.{Row}
 use Rattle.fact_rows.specs.declared.row.Row.TheVariants.{Arrive, Unknown}

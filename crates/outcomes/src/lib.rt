@@ -2,7 +2,7 @@
 //! ascending order and once.
 #![tactic(auto)]
 
-ghost use Rattle.outcomes.specs.Nothing.{AllAreDeclared, NoneStands};
+ghost use Rattle.outcomes.specs.NothingLeftOut.{EachIsFound, EachIsNamed};
 
 mod ascending;
 mod causes;
@@ -15,9 +15,9 @@ pub use causes::{causes_of, causes_too_large};
 pub use findings::findings_of;
 pub use outcome::{Cause, Finding, Place};
 
-/// Where there is no finding, the pair of each arrival is declared; and where there is no cause, no row
-/// says that a run may come to what is not modelled.
+/// The pair of each arrival that rows of an app tell of is declared, or the arrival is among the findings;
+/// and each place where they say that a run may come to what is not modelled is among the causes.
 pub fn nothing_is_left_out()
-    ensures findings { AllAreDeclared }
-    ensures causes { NoneStands }
+    ensures findings { EachIsFound }
+    ensures causes { EachIsNamed }
 {}

@@ -1,4 +1,4 @@
--- The parts of an app come to one outcome: each step of a judgement stops, or goes on with one value.
+-- The parts of an app come to one judgement: each step of a judgement stops, or goes on with one value.
 use Rattle.std.proofs.Common.{◌≡◌, ◌≢◌, ◌⊎◌, ℕ, true, false, List, length, refl, sym, ◌∙◌, ap, subst, inl, inr}
 use Rattle.std.specs.Prelude.{codes}
 use Rattle.toml.specs.Data.{Members}
@@ -24,42 +24,41 @@ use Rattle.office_forms.specs.Manifest.{manifest_form}
 use Rattle.office_forms.specs.Layouts.{layouts_form}
 use Rattle.office_forms.specs.Declaration.{declaration_form}
 use Rattle.office_forms.specs.Lists.{lists_form}
-use Rattle.verdict.specs.declared.outcome.Outcome.{Outcome}
-use Rattle.verdict.specs.declared.outcome.Outcome.TheVariants.{Refused}
+use Rattle.verdict.specs.declared.outcome.Judged.{Judged}
 use Rattle.verdict.specs.declared.outcome.Part.{Part}
 use Rattle.verdict.specs.declared.outcome.Part.TheVariants as part
 use Rattle.verdict.specs.declared.outcome.Reason.{Reason}
 use Rattle.verdict.specs.declared.outcome.Reason.TheVariants as reason
 use Rattle.verdict.specs.declared.papers.Papers.{Papers}
 use Rattle.verdict.specs.declared.parts.Parts.{Parts}
-use Rattle.verdict.specs.OneVerdict.{LowerLaws, OnlyOutcome, RefusesOnly}
+use Rattle.verdict.specs.OneVerdict.{LowerLaws, OnlyJudgement, RefusesOnly}
 use Rattle.verdict.specs.Refuses.{HasManifest, HasPapers, AreDex, IsFirstBad, Reads, Refuses, bad_manifest, other_count, bad_layouts, bad_declaration, bad_lists, bad_dex, bad_app}
-use Rattle.verdict.specs.Verdict.{ComesTo, Verdict, refused, judged, outcome_by}
+use Rattle.verdict.specs.Verdict.{ComesTo, Judgement, refused, linked, refusal, judged_by}
 use Rattle.verdict.proofs.OneReading.{one_list, all_or_bad, one_bad}
 
--- a step that stops with the outcome, or goes on with a value
-data Step {A : Type 0} (Good : A → Type 0) (Stops : Outcome → Type 0) (Rest : A → Outcome → Type 0) : Outcome → Type 0 where
-  stops : (o : Outcome) → Stops o → Step Good Stops Rest o
-  goes : (a : A) (o : Outcome) → Good a → Rest a o → Step Good Stops Rest o
+-- a step that stops with a judgement, or goes on with a value
+data Step {A : Type 0} (Good : A → Type 0) (Stops : Judged → Type 0) (Rest : A → Judged → Type 0) : Judged → Type 0 where
+  stops : (o : Judged) → Stops o → Step Good Stops Rest o
+  goes : (a : A) (o : Judged) → Good a → Rest a o → Step Good Stops Rest o
 
-module _ {A : Type 0} (Good : A → Type 0) (Stops : Outcome → Type 0) (Rest : A → Outcome → Type 0) where
-  one_step : ((o p : Outcome) → Stops o → Stops p → o ≡ p) → ((a : A) (o : Outcome) → Good a → Stops o → ⊥) → ((a b : A) → Good a → Good b → a ≡ b) → ((a : A) → Good a → (o p : Outcome) → Rest a o → Rest a p → o ≡ p)
-      → (o p : Outcome) → Step Good Stops Rest o → Step Good Stops Rest p → o ≡ p
+module _ {A : Type 0} (Good : A → Type 0) (Stops : Judged → Type 0) (Rest : A → Judged → Type 0) where
+  one_step : ((o p : Judged) → Stops o → Stops p → o ≡ p) → ((a : A) (o : Judged) → Good a → Stops o → ⊥) → ((a b : A) → Good a → Good b → a ≡ b) → ((a : A) → Good a → (o p : Judged) → Rest a o → Rest a p → o ≡ p)
+      → (o p : Judged) → Step Good Stops Rest o → Step Good Stops Rest p → o ≡ p
   one_step one both same rest o p (stops _ a) (stops _ b) = one o p a b
   one_step one both same rest o p (stops _ a) (goes y _ h s) = absurd (both y o h a)
   one_step one both same rest o p (goes x _ g r) (stops _ b) = absurd (both x p g b)
   one_step one both same rest o p (goes x _ g r) (goes y _ h s) = rest y h o p (subst (λ (z : A). Rest z o) (same x y g h) r) s
 
 -- a form that has a fault
-abbrev BadForm : {A : Type 0} → (Members → Script FormFailure A) → List ℕ → Part → Outcome → Type 0
-BadForm form text part o = (e : FormFault) × FirstFormFault form text e × (o ≡ Refused part (reason.Form e))
+abbrev BadForm : {A : Type 0} → (Members → Script FormFailure A) → List ℕ → Part → Judged → Type 0
+BadForm form text part o = (e : FormFault) × FirstFormFault form text e × (o ≡ refusal part (reason.Form e))
 
-module _ {A : Type 0} (form : Members → Script FormFailure A) (text : List ℕ) (part : Part) (Rest : A → Outcome → Type 0) (law : OneForm form text) where
-  one_form_step : ((a : A) → IsForm form text a → (o p : Outcome) → Rest a o → Rest a p → o ≡ p) → (o p : Outcome) → Step (IsForm form text) (BadForm form text part) Rest o → Step (IsForm form text) (BadForm form text part) Rest p → o ≡ p
+module _ {A : Type 0} (form : Members → Script FormFailure A) (text : List ℕ) (part : Part) (Rest : A → Judged → Type 0) (law : OneForm form text) where
+  one_form_step : ((a : A) → IsForm form text a → (o p : Judged) → Rest a o → Rest a p → o ≡ p) → (o p : Judged) → Step (IsForm form text) (BadForm form text part) Rest o → Step (IsForm form text) (BadForm form text part) Rest p → o ≡ p
   one_form_step rest = one_step (IsForm form text) (BadForm form text part) Rest one (λ a o is bad. law.not_both a bad.0 is bad.1) law.one_form rest
     where
-      one : (o p : Outcome) → BadForm form text part o → BadForm form text part p → o ≡ p
-      one o p a b = a.2 ∙ (ap (λ (e : FormFault). Refused part (reason.Form e)) (law.one_fault a.0 b.0 a.1 b.1) ∙ sym b.2)
+      one : (o p : Judged) → BadForm form text part o → BadForm form text part p → o ≡ p
+      one o p a b = a.2 ∙ (ap (λ (e : FormFault). refusal part (reason.Form e)) (law.one_fault a.0 b.0 a.1 b.1) ∙ sym b.2)
 
 -- parts that are read make one app at most
 abbrev OneApp : Parts → Type 0
@@ -69,54 +68,54 @@ abbrev papers_of : Manifest → Layouts → Declaration → Lists → Papers
 papers_of manifest layouts declaration lists = record { manifest = manifest; layouts = layouts; declaration = declaration; lists = lists }
 
 -- the steps of a judgement, the last first
-abbrev AtFlow : Papers → App → Outcome → Type 0
+abbrev AtFlow : Papers → App → Judged → Type 0
 AtFlow papers app o = ComesTo app papers.lists papers.declaration o
 
-abbrev BadLink : Papers → List Dex → Outcome → Type 0
-BadLink papers dexes o = (fault : LinkFault) × FirstLinkFault dexes papers.manifest papers.layouts fault × (o ≡ Refused part.App (reason.Link fault))
+abbrev BadLink : Papers → List Dex → Judged → Type 0
+BadLink papers dexes o = (fault : LinkFault) × FirstLinkFault dexes papers.manifest papers.layouts fault × (o ≡ refusal part.App (reason.Link fault))
 
-abbrev AtLink : Papers → List Dex → Outcome → Type 0
+abbrev AtLink : Papers → List Dex → Judged → Type 0
 AtLink papers dexes o = Step (IsApp dexes papers.manifest papers.layouts) (BadLink papers dexes) (AtFlow papers) o
 
 module _ (laws : LowerLaws) (parts : Parts) where
-  abbrev BadFile : Outcome → Type 0
-  BadFile o = (i : ℕ) × (fault : Fault) × IsFirstBad parts.dex i fault × (o ≡ Refused (part.Dex i) (reason.Dex (shown fault)))
+  abbrev BadFile : Judged → Type 0
+  BadFile o = (i : ℕ) × (fault : Fault) × IsFirstBad parts.dex i fault × (o ≡ refusal (part.Dex i) (reason.Dex (shown fault)))
 
-  abbrev AtFiles : Papers → Outcome → Type 0
+  abbrev AtFiles : Papers → Judged → Type 0
   AtFiles papers o = Step (AreDex parts.dex) BadFile (AtLink papers) o
 
-  abbrev AtLists : Manifest → Layouts → Declaration → Outcome → Type 0
+  abbrev AtLists : Manifest → Layouts → Declaration → Judged → Type 0
   AtLists m l d o = Step (IsForm lists_form parts.lists) (BadForm lists_form parts.lists part.Lists) (λ ls. AtFiles (papers_of m l d ls)) o
 
-  abbrev AtDeclaration : Manifest → Layouts → Outcome → Type 0
+  abbrev AtDeclaration : Manifest → Layouts → Judged → Type 0
   AtDeclaration m l o = Step (IsForm declaration_form parts.declaration) (BadForm declaration_form parts.declaration part.Declaration) (AtLists m l) o
 
-  abbrev AtLayouts : Manifest → Outcome → Type 0
+  abbrev AtLayouts : Manifest → Judged → Type 0
   AtLayouts m o = Step (IsForm layouts_form parts.layouts) (BadForm layouts_form parts.layouts part.Layouts) (AtDeclaration m) o
 
   abbrev IsCounted : Manifest → Unit {0} → Type 0
   IsCounted m _ = m.dex_files ≡ length parts.dex
 
-  abbrev BadCount : Manifest → Outcome → Type 0
-  BadCount m o = (m.dex_files ≢ length parts.dex) × (o ≡ Refused part.Manifest (reason.Form (Range (codes "dex_files"))))
+  abbrev BadCount : Manifest → Judged → Type 0
+  BadCount m o = (m.dex_files ≢ length parts.dex) × (o ≡ refusal part.Manifest (reason.Form (Range (codes "dex_files"))))
 
-  abbrev AtCount : Manifest → Outcome → Type 0
+  abbrev AtCount : Manifest → Judged → Type 0
   AtCount m o = Step (IsCounted m) (BadCount m) (λ _. AtLayouts m) o
 
-  abbrev AtManifest : Outcome → Type 0
+  abbrev AtManifest : Judged → Type 0
   AtManifest o = Step (IsForm manifest_form parts.manifest) (BadForm manifest_form parts.manifest part.Manifest) AtCount o
 
-  -- a verdict goes these steps
-  with_manifest : (m : Manifest) (o : Outcome) → HasManifest parts m → AtLayouts m o → AtManifest o
+  -- a judgement goes these steps
+  with_manifest : (m : Manifest) (o : Judged) → HasManifest parts m → AtLayouts m o → AtManifest o
   with_manifest m o has rest = goes m o has.form (goes tt o has.count rest)
 
-  with_papers : (papers : Papers) (o : Outcome) → HasPapers parts papers → AtFiles papers o → AtManifest o
+  with_papers : (papers : Papers) (o : Judged) → HasPapers parts papers → AtFiles papers o → AtManifest o
   with_papers papers o has rest = with_manifest papers.manifest o has.manifest (goes papers.layouts o has.layouts (goes papers.declaration o has.declaration (goes papers.lists o has.lists rest)))
 
-  with_files : (papers : Papers) (dexes : List Dex) (o : Outcome) → Reads parts papers dexes → AtLink papers dexes o → AtManifest o
+  with_files : (papers : Papers) (dexes : List Dex) (o : Judged) → Reads parts papers dexes → AtLink papers dexes o → AtManifest o
   with_files papers dexes o reads rest = with_papers papers o reads.forms (goes dexes o reads.files rest)
 
-  of_refusal : (part : Part) (why : Reason) → Refuses parts part why → AtManifest (Refused part why)
+  of_refusal : (part : Part) (why : Reason) → Refuses parts part why → AtManifest (refusal part why)
   of_refusal _ _ (bad_manifest e first) = stops _ (e, first, refl)
   of_refusal _ _ (other_count m form other) = goes m _ form (stops _ (other, refl))
   of_refusal _ _ (bad_layouts m e has first) = with_manifest m _ has (stops _ (e, first, refl))
@@ -125,53 +124,53 @@ module _ (laws : LowerLaws) (parts : Parts) where
   of_refusal _ _ (bad_dex papers i fault has first) = with_papers papers _ has (stops _ (i, fault, first, refl))
   of_refusal _ _ (bad_app papers dexes fault reads first) = with_files papers dexes _ reads (stops _ (fault, first, refl))
 
-  of_verdict : (o : Outcome) → Verdict parts o → AtManifest o
-  of_verdict _ (refused part why refuses) = of_refusal part why refuses
-  of_verdict o (judged papers dexes app reads is comes) = with_files papers dexes o reads (goes app o is comes)
+  of_judgement : (o : Judged) → Judgement parts o → AtManifest o
+  of_judgement _ (refused part why refuses) = of_refusal part why refuses
+  of_judgement o (linked papers dexes app reads is comes) = with_files papers dexes o reads (goes app o is comes)
 
-  -- each step has one outcome
-  one_flow : (papers : Papers) (app : App) (o p : Outcome) → AtFlow papers app o → AtFlow papers app p → o ≡ p
-  one_flow papers app o p a b = a.same ∙ (ap (outcome_by app papers.lists papers.declaration) (laws.flows app papers.lists a.flow b.flow a.is_flow b.is_flow) ∙ sym b.same)
+  -- each step has one judgement
+  one_flow : (papers : Papers) (app : App) (o p : Judged) → AtFlow papers app o → AtFlow papers app p → o ≡ p
+  one_flow papers app o p a b = a.same ∙ (ap (judged_by app papers.lists papers.declaration) (laws.flows app papers.lists a.flow b.flow a.is_flow b.is_flow) ∙ sym b.same)
 
   module _ (one_app : OneApp parts) where
-    one_link : (papers : Papers) (dexes : List Dex) → Reads parts papers dexes → (o p : Outcome) → AtLink papers dexes o → AtLink papers dexes p → o ≡ p
+    one_link : (papers : Papers) (dexes : List Dex) → Reads parts papers dexes → (o p : Judged) → AtLink papers dexes o → AtLink papers dexes p → o ≡ p
     one_link papers dexes reads = one_step (IsApp dexes papers.manifest papers.layouts) (BadLink papers dexes) (AtFlow papers) one
         (λ app o is bad. (laws.links dexes papers.manifest papers.layouts).not_both app bad.0 is bad.1) (λ a b. one_app papers dexes a b reads) (λ app is. one_flow papers app)
       where
-        one : (o p : Outcome) → BadLink papers dexes o → BadLink papers dexes p → o ≡ p
-        one o p a b = a.2 ∙ (ap (λ (e : LinkFault). Refused part.App (reason.Link e)) ((laws.links dexes papers.manifest papers.layouts).one_fault a.0 b.0 a.1 b.1) ∙ sym b.2)
+        one : (o p : Judged) → BadLink papers dexes o → BadLink papers dexes p → o ≡ p
+        one o p a b = a.2 ∙ (ap (λ (e : LinkFault). refusal part.App (reason.Link e)) ((laws.links dexes papers.manifest papers.layouts).one_fault a.0 b.0 a.1 b.1) ∙ sym b.2)
 
-    one_files : (papers : Papers) → HasPapers parts papers → (o p : Outcome) → AtFiles papers o → AtFiles papers p → o ≡ p
+    one_files : (papers : Papers) → HasPapers parts papers → (o p : Judged) → AtFiles papers o → AtFiles papers p → o ≡ p
     one_files papers has = one_step (AreDex parts.dex) BadFile (AtLink papers) one (λ dexes o stand bad. all_or_bad laws.files parts.dex dexes bad.0 bad.1 stand bad.2) (one_list laws.files parts.dex)
         (λ dexes stand. one_link papers dexes (record { forms = has; files = stand }))
       where
-        one : (o p : Outcome) → BadFile o → BadFile p → o ≡ p
+        one : (o p : Judged) → BadFile o → BadFile p → o ≡ p
         one o p a b =
             let same = one_bad laws.files parts.dex a.0 b.0 a.1 b.1 a.2 b.2 in
-            a.3 ∙ (ap (λ (i : ℕ). Refused (part.Dex i) (reason.Dex (shown a.1))) same.0 ∙ (ap (λ (f : Fault). Refused (part.Dex b.0) (reason.Dex (shown f))) same.1 ∙ sym b.3))
+            a.3 ∙ (ap (λ (i : ℕ). refusal (part.Dex i) (reason.Dex (shown a.1))) same.0 ∙ (ap (λ (f : Fault). refusal (part.Dex b.0) (reason.Dex (shown f))) same.1 ∙ sym b.3))
 
-    one_lists : (m : Manifest) (l : Layouts) (d : Declaration) → HasManifest parts m → IsForm layouts_form parts.layouts l → IsForm declaration_form parts.declaration d → (o p : Outcome) → AtLists m l d o → AtLists m l d p → o ≡ p
+    one_lists : (m : Manifest) (l : Layouts) (d : Declaration) → HasManifest parts m → IsForm layouts_form parts.layouts l → IsForm declaration_form parts.declaration d → (o p : Judged) → AtLists m l d o → AtLists m l d p → o ≡ p
     one_lists m l d has layouts declaration = one_form_step lists_form parts.lists part.Lists (λ ls. AtFiles (papers_of m l d ls)) (laws.forms.lists parts.lists)
         (λ ls lists. one_files (papers_of m l d ls) (record { manifest = has; layouts = layouts; declaration = declaration; lists = lists }))
 
-    one_declaration : (m : Manifest) (l : Layouts) → HasManifest parts m → IsForm layouts_form parts.layouts l → (o p : Outcome) → AtDeclaration m l o → AtDeclaration m l p → o ≡ p
+    one_declaration : (m : Manifest) (l : Layouts) → HasManifest parts m → IsForm layouts_form parts.layouts l → (o p : Judged) → AtDeclaration m l o → AtDeclaration m l p → o ≡ p
     one_declaration m l has layouts = one_form_step declaration_form parts.declaration part.Declaration (AtLists m l) (laws.forms.declaration parts.declaration) (λ d declaration. one_lists m l d has layouts declaration)
 
-    one_layouts : (m : Manifest) → HasManifest parts m → (o p : Outcome) → AtLayouts m o → AtLayouts m p → o ≡ p
+    one_layouts : (m : Manifest) → HasManifest parts m → (o p : Judged) → AtLayouts m o → AtLayouts m p → o ≡ p
     one_layouts m has = one_form_step layouts_form parts.layouts part.Layouts (AtDeclaration m) (laws.forms.layouts parts.layouts) (λ l layouts. one_declaration m l has layouts)
 
-    one_count : (m : Manifest) → IsForm manifest_form parts.manifest m → (o p : Outcome) → AtCount m o → AtCount m p → o ≡ p
+    one_count : (m : Manifest) → IsForm manifest_form parts.manifest m → (o p : Judged) → AtCount m o → AtCount m p → o ≡ p
     one_count m form = one_step (IsCounted m) (BadCount m) (λ _. AtLayouts m) (λ o p a b. a.1 ∙ sym b.1) (λ _ o is bad. bad.0 is) (λ _ _ a b. refl)
         (λ _ count. one_layouts m (record { form = form; count = count }))
 
-    one_outcome : (o p : Outcome) → Verdict parts o → Verdict parts p → o ≡ p
-    one_outcome o p a b = one_form_step manifest_form parts.manifest part.Manifest AtCount (laws.forms.manifest parts.manifest) one_count o p (of_verdict o a) (of_verdict p b)
+    one_judgement : (o p : Judged) → Judgement parts o → Judgement parts p → o ≡ p
+    one_judgement o p a b = one_form_step manifest_form parts.manifest part.Manifest AtCount (laws.forms.manifest parts.manifest) one_count o p (of_judgement o a) (of_judgement p b)
 
     refuses_only : (part : Part) (why : Reason) → Refuses parts part why → RefusesOnly parts part why
-    refuses_only part why refuses = record { refuses = refuses; only = λ other is. one_outcome other (Refused part why) is (refused part why refuses) }
+    refuses_only part why refuses = record { refuses = refuses; only = λ other is. one_judgement other (refusal part why) is (refused part why refuses) }
 
-    outcome_only : (o : Outcome) → Verdict parts o → OnlyOutcome parts o
-    outcome_only o is other too = one_outcome other o too is
+    judgement_only : (o : Judged) → Judgement parts o → OnlyJudgement parts o
+    judgement_only o is other too = one_judgement other o too is
 
   no_app : ((papers : Papers) (dexes : List Dex) (app : App) → Reads parts papers dexes → IsApp dexes papers.manifest papers.layouts app → ⊥) → OneApp parts
   no_app none papers dexes a b reads one two = absurd (none papers dexes a reads one)
@@ -200,10 +199,10 @@ module _ (laws : LowerLaws) (parts : Parts) where
   fault_alone _ _ (bad_app papers dexes fault reads first) =
       no_app (λ others files app too is. (laws.links dexes papers.manifest papers.layouts).not_both app fault (as_read others papers files dexes app too reads is) first)
 
-  -- a fault is the only outcome
+  -- a fault is the only judgement
   pub fault_only : (part : Part) (why : Reason) → Refuses parts part why → RefusesOnly parts part why
   fault_only part why refuses = refuses_only (fault_alone part why refuses) part why refuses
 
   -- and so is what comes of the only app
-  pub judged_only : (papers : Papers) (dexes : List Dex) (app : App) (o : Outcome) → Reads parts papers dexes → OnlyApp dexes papers.manifest papers.layouts app → Verdict parts o → OnlyOutcome parts o
-  judged_only papers dexes app o reads only is = outcome_only (one_app_of papers dexes app reads only) o is
+  pub judged_only : (papers : Papers) (dexes : List Dex) (app : App) (o : Judged) → Reads parts papers dexes → OnlyApp dexes papers.manifest papers.layouts app → Judgement parts o → OnlyJudgement parts o
+  judged_only papers dexes app o reads only is = judgement_only (one_app_of papers dexes app reads only) o is

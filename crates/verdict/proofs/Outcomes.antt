@@ -1,37 +1,45 @@
--- What an app comes to, and that a clear app is safe.
-use Rattle.std.proofs.Common.{◌≡◌, ◌<◌, ℕ, List, [], ◌∷◌, refl, sym, ◌∙◌, subst}
+-- What an app comes to, that it tells of every run, and that a clear app is safe.
+use Rattle.std.proofs.Common.{◌≡◌, ◌==◌, ◌<◌, ℕ, true, List, [], ◌∷◌, ◌++◌, Option, Some, refl, sym, ◌∙◌, ap, subst, inl, inr}
 use Rattle.std.specs.Prelude.{length}
+use Rattle.std.proofs.lemmas.Bool.{eq-eqb}
 use Rattle.dex_reader.specs.declared.dex.Dex.{Dex}
 use Rattle.app_link.specs.IsApp.{IsApp}
 use Rattle.app_machine.specs.declared.app.App.{App}
 use Rattle.app_machine.specs.declared.lists.Lists.{Lists}
 use Rattle.app_machine.specs.declared.papers.Declaration.{Declaration}
-use Rattle.app_machine.specs.Safe.{Safe}
+use Rattle.app_machine.specs.Safe.{Declared, Safe}
 use Rattle.app_machine.specs.Sound.{SoundApp}
+use Rattle.app_machine.specs.State.{Arrival}
 use Rattle.app_flow.specs.declared.flow.Flow.{Flow}
 use Rattle.app_flow.specs.declared.flow.Flow.TheVariants.{Rows, TooLarge}
-use Rattle.app_flow.specs.Flow.{IsFlow, IsGoodFlow}
+use Rattle.app_flow.specs.Flow.{IsGoodFlow}
 use Rattle.fact_rows.specs.declared.row.Row.{Row}
 use Rattle.fact_rows.specs.declared.row.Row.TheVariants.{Arrive, Unknown}
 use Rattle.fact_rows.specs.InApp.{InApp}
-use Rattle.flow_proof.specs.Covering.{EveryGoodTableCoversEveryRun}
+use Rattle.flow_proof.specs.Covering.{CoversEveryRun, EveryGoodTableCoversEveryRun, InSomeContext}
 use Rattle.flow_rules.specs.Rules.{GoodTable}
 use Rattle.outcomes.specs.declared.outcome.Cause.{Cause}
+use Rattle.outcomes.specs.declared.outcome.Cause.TheVariants as causes
 use Rattle.outcomes.specs.declared.outcome.Finding.{Finding}
-use Rattle.outcomes.specs.Causes.{causes_of, causes_too_large}
-use Rattle.outcomes.specs.Findings.{findings_of}
-use Rattle.outcomes.specs.Nothing.{AllAreDeclared, NoneStands}
+use Rattle.outcomes.specs.declared.outcome.Place.{Place}
+use Rattle.outcomes.specs.Causes.{causes_of, causes_too_large, layout_classes, place_of, providers, unknown_places}
+use Rattle.outcomes.specs.Findings.{arrival_of, arrivals_in, finding_of, findings_of}
+use Rattle.outcomes.specs.NothingLeftOut.{EachIsFound, EachIsNamed}
+use Rattle.outcomes.specs.Places.{place_in}
 use Rattle.outcomes.specs.Within.{IsWithin, AreWithin}
 use Rattle.vet_base.specs.Members.{In}
+use Rattle.vet_base.proofs.Members.{in_back, in_filter_map}
+use Rattle.verdict.specs.declared.outcome.Judged.{Judged}
 use Rattle.verdict.specs.declared.outcome.Outcome.{Outcome}
-use Rattle.verdict.specs.declared.outcome.Outcome.TheVariants.{Clear, Refused, Undecided}
+use Rattle.verdict.specs.declared.outcome.Outcome.TheVariants.{Clear, Refused}
 use Rattle.verdict.specs.declared.papers.Papers.{Papers}
 use Rattle.verdict.specs.declared.papers.Refusal.{Refusal}
 use Rattle.verdict.specs.declared.parts.Parts.{Parts}
 use Rattle.verdict.specs.OneVerdict.{RefusesOnly}
-use Rattle.verdict.specs.Outcome.{outcome_of}
+use Rattle.verdict.specs.Outcome.{causes_in, findings_in, outcome_of}
 use Rattle.verdict.specs.Refuses.{HasPapers, AreDex}
-use Rattle.verdict.specs.Verdict.{ComesTo, Verdict, refused, judged, IsSafeApp, outcome_by}
+use Rattle.verdict.specs.Tells.{IsFollowed, TellsAll, TellsOfApp}
+use Rattle.verdict.specs.Verdict.{ComesTo, Judgement, refused, linked, refusal, IsSafeApp, judged_by}
 
 -- a row in the app names methods of the app
 is_within : (app : App) (lists : Lists) (row : Row) → InApp app lists row → IsWithin app row
@@ -42,33 +50,94 @@ is_within app lists _ fields = tt
 pub good_is_within : (app : App) (lists : Lists) (rows : List Row) → IsGoodFlow app lists (Rows rows) → AreWithin app rows
 good_is_within app lists rows good row there = is_within app lists row (good.in_app row there)
 
-clear_if : (causes : List Cause) (items : List Finding) → outcome_of causes items ≡ Clear → (causes ≡ []) × (items ≡ [])
-clear_if [] [] clear = (refl, refl)
-clear_if [] (f ∷ fs) clear = absurd cc
-clear_if (c ∷ cs) items clear = absurd cc
+-- an outcome tells the causes and findings of which it is made
+causes_told : (causes : List Cause) (items : List Finding) → causes_in (outcome_of causes items) ≡ causes
+causes_told [] [] = refl
+causes_told [] (f ∷ fs) = refl
+causes_told (c ∷ cs) fs = refl
 
--- an app whose good flow gives no cause and no finding is safe
-pub clear_is_safe : AllAreDeclared → NoneStands → EveryGoodTableCoversEveryRun → (app : App) (lists : Lists) (declaration : Declaration) (flow : Flow) → SoundApp app → IsGoodFlow app lists flow →
-    outcome_by app lists declaration flow ≡ Clear → Safe app lists declaration
-clear_is_safe declared stands covers app lists declaration (Rows rows) sound good clear =
-    let none = clear_if (causes_of app rows) (findings_of app lists declaration rows) clear in
-    (covers app lists rows sound good).safe declaration
-    (λ l sink n there. declared app lists declaration rows none.1 l sink n there)
-    (λ n cause there. let bounds = (good.in_app (Unknown n cause) there).1.0 in stands app rows none.0 n cause bounds.0 bounds.1 there)
-clear_is_safe declared stands covers app lists declaration (TooLarge limit) sound good clear = absurd cc
+findings_told : (causes : List Cause) (items : List Finding) → findings_in (outcome_of causes items) ≡ items
+findings_told [] [] = refl
+findings_told [] (f ∷ fs) = refl
+findings_told (c ∷ cs) fs = refl
 
--- the verdict on the parts, and that they make a safe app where it is clear
-pub verdict_on : (parts : Parts) (papers : Papers) (dexes : List Dex) (app : App) (outcome : Outcome) → HasPapers parts papers → AreDex parts.dex dexes → IsApp dexes papers.manifest papers.layouts app
-    → ComesTo app papers.lists papers.declaration outcome → Verdict parts outcome
-verdict_on parts papers dexes app outcome has stand is_app comes = judged papers dexes app (record { forms = has; files = stand }) is_app comes
+-- what rows say of an arrival, and of a place where a run may stand
+arrives : (rows : List Row) (a : Arrival) → InSomeContext a.method a.pc (λ n. In (Arrive a.label a.sink n) rows) → In a (arrivals_in rows)
+unfolding arrivals_in
+arrives rows a there =
+    let at : ℕ → ℕ → Option Arrival = λ method pc. Some (record { label = a.label; sink = a.sink; method = method; pc = pc }) in
+    let same : at there.node.by.method there.node.pc ≡ at a.method a.pc = ap (λ m. at m there.node.pc) there.same_method ∙ ap (at a.method) there.same_pc in
+    in_filter_map arrival_of rows (Arrive a.label a.sink there.node) a there.holds same
 
-pub safe_parts : (parts : Parts) (papers : Papers) (dexes : List Dex) (app : App) (outcome : Outcome) → HasPapers parts papers → AreDex parts.dex dexes → IsApp dexes papers.manifest papers.layouts app
-    → (outcome ≡ Clear → Safe app papers.lists papers.declaration) → outcome ≡ Clear → IsSafeApp parts
-safe_parts parts papers dexes app outcome has stand is_app safe clear =
-    record { papers = papers; dexes = dexes; reads = record { forms = has; files = stand }; app = app; is_app = is_app; safe = safe clear }
+stands_at : (app : App) (rows : List Row) (method pc cause : ℕ) → InSomeContext method pc (λ n. In (Unknown n cause) rows) → In (place_in app method pc) (unknown_places app cause rows)
+unfolding unknown_places
+stands_at app rows method pc cause there =
+    let itself : cause == cause ≡ true = eq-eqb cause cause refl in
+    let gives : place_of app cause (Unknown there.node cause) ≡ Some (place_in app there.node.by.method there.node.pc) = rw itself refl in
+    let same : place_in app there.node.by.method there.node.pc ≡ place_in app method pc = ap (λ m. place_in app m there.node.pc) there.same_method ∙ ap (place_in app method) there.same_pc in
+    in_filter_map (place_of app cause) rows (Unknown there.node cause) (place_in app method pc) there.holds (gives ∙ ap (λ (p : Place). Some p) same)
 
-pub refused_with : (parts : Parts) (r : Refusal) → RefusesOnly parts r.part r.reason → Verdict parts (Refused r.part r.reason)
+-- the outcome of a good table tells of every run
+rows_tell : EachIsFound → EachIsNamed → (app : App) (lists : Lists) (declaration : Declaration) (rows : List Row) → SoundApp app → GoodTable app lists rows → CoversEveryRun app lists (λ row. In row rows)
+    → TellsAll app lists declaration (outcome_of (causes_of app rows) (findings_of app lists declaration rows))
+rows_tell found named app lists declaration rows sound good covers = record {
+  arrivals = λ w fs run a is_in.
+      let told = found app lists declaration rows sound within a (arrives rows a (covers.arrivals w fs run a is_in)) in
+      elim told [ inl declared ↦ inl declared | inr there ↦ inr (subst (In (finding_of app lists a)) (sym (findings_told (causes_of app rows) (findings_of app lists declaration rows))) there) ];
+  stands = λ w fs run method pc cause stands.
+      let there = covers.stands w fs run method pc cause stands in
+      let bounds = (good.in_app (Unknown there.node cause) there.holds).1.0 in
+      subst (In _) (sym (causes_told (causes_of app rows) (findings_of app lists declaration rows)))
+      (named app rows sound within cause bounds.0 bounds.1 (place_in app method pc) (stands_at app rows method pc cause there));
+}
+  where
+    within : AreWithin app rows
+    within = good_is_within app lists rows good
+
+by_flow : EachIsFound → EachIsNamed → EveryGoodTableCoversEveryRun → (app : App) (lists : Lists) (declaration : Declaration) (flow : Flow) → SoundApp app → IsGoodFlow app lists flow
+    → IsFollowed (judged_by app lists declaration flow).outcome → TellsAll app lists declaration (judged_by app lists declaration flow).outcome
+unfolding causes_too_large
+by_flow found named covers app lists declaration (Rows rows) sound good followed = rows_tell found named app lists declaration rows sound good (covers app lists rows sound good)
+by_flow found named covers app lists declaration (TooLarge limit) sound good followed =
+    absurd (followed.not_too_large limit (in_back (causes.TooLarge limit) (providers app ++ layout_classes app) (causes.TooLarge limit ∷ []) (inl refl)))
+
+pub flow_tells : EachIsFound → EachIsNamed → EveryGoodTableCoversEveryRun → (app : App) (lists : Lists) (declaration : Declaration) (flow : Flow) (j : Judged) → SoundApp app → IsGoodFlow app lists flow
+    → j ≡ judged_by app lists declaration flow → IsFollowed j.outcome → TellsAll app lists declaration j.outcome
+flow_tells found named covers app lists declaration flow j sound good same followed =
+    let told = by_flow found named covers app lists declaration flow sound good (subst (λ (k : Judged). IsFollowed k.outcome) same followed) in
+    subst (λ (k : Judged). TellsAll app lists declaration k.outcome) (sym same) told
+
+-- what is said of the app is said of the parts
+pub judgement_on : (parts : Parts) (papers : Papers) (dexes : List Dex) (app : App) (j : Judged) → HasPapers parts papers → AreDex parts.dex dexes → IsApp dexes papers.manifest papers.layouts app
+    → ComesTo app papers.lists papers.declaration j → Judgement parts j
+judgement_on parts papers dexes app j has stand is_app comes = linked papers dexes app (record { forms = has; files = stand }) is_app comes
+
+pub tells_of_parts : (parts : Parts) (papers : Papers) (dexes : List Dex) (app : App) (outcome : Outcome) → HasPapers parts papers → AreDex parts.dex dexes → IsApp dexes papers.manifest papers.layouts app
+    → (IsFollowed outcome → TellsAll app papers.lists papers.declaration outcome) → IsFollowed outcome → TellsOfApp parts outcome
+tells_of_parts parts papers dexes app outcome has stand is_app tells followed =
+    record { papers = papers; dexes = dexes; reads = record { forms = has; files = stand }; app = app; is_app = is_app; tells = tells followed }
+
+-- an app of which clear tells all is safe
+clear_tells : (app : App) (lists : Lists) (declaration : Declaration) → TellsAll app lists declaration Clear → Safe app lists declaration
+clear_tells app lists declaration tells = record {
+  declared = λ w fs run a is_in. elim (tells.arrivals w fs run a is_in) [ inl declared ↦ declared | inr none ↦ absurd none ];
+  never_stands = λ w fs run method pc cause stands. tells.stands w fs run method pc cause stands;
+}
+
+clear_is_followed : IsFollowed Clear
+clear_is_followed = record { not_refused = λ part reason same. absurd cc; not_too_large = λ limit none. none }
+
+pub clear_is_safe : (parts : Parts) (outcome : Outcome) → (IsFollowed outcome → TellsOfApp parts outcome) → outcome ≡ Clear → IsSafeApp parts
+clear_is_safe parts outcome told clear =
+    let of_clear : TellsOfApp parts Clear = subst (λ (o : Outcome). IsFollowed o → TellsOfApp parts o) clear told clear_is_followed in
+    record { papers = of_clear.papers; dexes = of_clear.dexes; reads = of_clear.reads; app = of_clear.app; is_app = of_clear.is_app; safe = clear_tells of_clear.app of_clear.papers.lists of_clear.papers.declaration of_clear.tells }
+
+-- a refusal
+pub refused_with : (parts : Parts) (r : Refusal) → RefusesOnly parts r.part r.reason → Judgement parts (refusal r.part r.reason)
 refused_with parts r this = refused r.part r.reason this.refuses
+
+pub no_followed_refusal : (parts : Parts) (r : Refusal) → IsFollowed (Refused r.part r.reason) → TellsOfApp parts (Refused r.part r.reason)
+no_followed_refusal parts r followed = absurd (followed.not_refused r.part r.reason refl)
 
 pub no_clear_refusal : (parts : Parts) (r : Refusal) → Refused r.part r.reason ≡ Clear → IsSafeApp parts
 no_clear_refusal parts r clear = absurd cc

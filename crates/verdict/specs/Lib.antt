@@ -5,4 +5,5 @@ pub mod Printed
 pub mod Reasons
 pub mod Refuses
 pub mod Report
+pub mod Tells
 pub mod Verdict

@@ -1,4 +1,4 @@
--- The outcome of causes and findings, and the status that says it.
+-- The outcome of causes and findings, what it tells of them, and the status that says it.
 use Rattle.std.specs.Prelude.{ℕ, List, [], ◌∷◌}
 use Rattle.outcomes.specs.declared.outcome.Cause.{Cause}
 use Rattle.outcomes.specs.declared.outcome.Finding.{Finding}
@@ -10,6 +10,16 @@ abbrev pub outcome_of : List Cause → List Finding → Outcome
 outcome_of [] [] = Clear
 outcome_of [] (f ∷ fs) = Flagged (f ∷ fs)
 outcome_of (c ∷ cs) fs = Undecided (c ∷ cs) fs
+
+-- the causes and the findings that an outcome tells
+abbrev pub causes_in : Outcome → List Cause
+causes_in (Undecided cs fs) = cs
+causes_in _ = []
+
+abbrev pub findings_in : Outcome → List Finding
+findings_in (Flagged fs) = fs
+findings_in (Undecided cs fs) = fs
+findings_in _ = []
 
 abbrev pub status_of : Outcome → ℕ
 status_of Clear = 0

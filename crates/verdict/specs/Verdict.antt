@@ -1,5 +1,5 @@
 -- What the parts of an app come to, and when they make an app that is safe.
-use Rattle.std.specs.Prelude.{◌≡◌, List, []}
+use Rattle.std.specs.Prelude.{◌≡◌, List, [], Option, Some, None}
 use Rattle.dex_reader.specs.declared.dex.Dex.{Dex}
 use Rattle.app_machine.specs.declared.app.App.{App}
 use Rattle.app_machine.specs.declared.lists.Lists.{Lists}
@@ -9,8 +9,10 @@ use Rattle.app_flow.specs.declared.flow.Flow.{Flow}
 use Rattle.app_flow.specs.declared.flow.Flow.TheVariants.{Rows, TooLarge}
 use Rattle.app_flow.specs.Flow.{IsFlow}
 use Rattle.app_link.specs.IsApp.{IsApp}
+use Rattle.fact_rows.specs.declared.row.Row.{Row}
 use Rattle.outcomes.specs.Causes.{causes_of, causes_too_large}
 use Rattle.outcomes.specs.Findings.{findings_of}
+use Rattle.verdict.specs.declared.outcome.Judged.{Judged}
 use Rattle.verdict.specs.declared.outcome.Outcome.{Outcome}
 use Rattle.verdict.specs.declared.outcome.Outcome.TheVariants.{Refused, Undecided}
 use Rattle.verdict.specs.declared.outcome.Part.{Part}
@@ -20,21 +22,30 @@ use Rattle.verdict.specs.declared.parts.Parts.{Parts}
 use Rattle.verdict.specs.Outcome.{outcome_of}
 use Rattle.verdict.specs.Refuses.{Refuses, Reads}
 
--- what the causes and findings of the rows that follow make of an app; of one that is too large nothing is found
-abbrev pub outcome_by : App → Lists → Declaration → Flow → Outcome
-outcome_by app lists declaration (Rows rows) = outcome_of (causes_of app rows) (findings_of app lists declaration rows)
-outcome_by app lists declaration (TooLarge limit) = Undecided (causes_too_large app limit) []
+-- What the causes and findings of the rows that follow make of an app, and these rows as its table. Of an app that is too large
+-- nothing is found, and there is no table.
+abbrev pub judged_by : App → Lists → Declaration → Flow → Judged
+judged_by app lists declaration (Rows rows) = record { outcome = outcome_of (causes_of app rows) (findings_of app lists declaration rows); table = Some rows }
+judged_by app lists declaration (TooLarge limit) = record { outcome = Undecided (causes_too_large app limit) []; table = None }
 
 -- what an app comes to, by its flow
-pub record ComesTo (app : App) (lists : Lists) (declaration : Declaration) (o : Outcome) : Type 0 where
+pub record ComesTo (app : App) (lists : Lists) (declaration : Declaration) (j : Judged) : Type 0 where
   pub flow : Flow
   pub is_flow : IsFlow app lists flow
-  pub same : o ≡ outcome_by app lists declaration flow
+  pub same : j ≡ judged_by app lists declaration flow
+
+-- a refusal, without a table
+abbrev pub refusal : Part → Reason → Judged
+refusal part reason = record { outcome = Refused part reason; table = None }
 
 -- the first refusal, or else what the app comes to
-pub data Verdict (parts : Parts) : Outcome → Type 0 where
-  refused : (part : Part) (reason : Reason) → Refuses parts part reason → Verdict parts (Refused part reason)
-  judged : {o : Outcome} (papers : Papers) (dexes : List Dex) (app : App) → Reads parts papers dexes → IsApp dexes papers.manifest papers.layouts app → ComesTo app papers.lists papers.declaration o → Verdict parts o
+pub data Judgement (parts : Parts) : Judged → Type 0 where
+  refused : (part : Part) (reason : Reason) → Refuses parts part reason → Judgement parts (refusal part reason)
+  linked : {j : Judged} (papers : Papers) (dexes : List Dex) (app : App) → Reads parts papers dexes → IsApp dexes papers.manifest papers.layouts app → ComesTo app papers.lists papers.declaration j → Judgement parts j
+
+-- the outcome of the parts, with whatever table
+abbrev pub Verdict : Parts → Outcome → Type 0
+Verdict parts outcome = (table : Option (List Row)) × Judgement parts (record { outcome = outcome; table = table })
 
 -- The bytes are forms and DEX files that make an app, and that app is safe by these lists and this declaration: no run of the
 -- machine brings a label to a sink unless that pair is declared, and none comes to what is not modelled.

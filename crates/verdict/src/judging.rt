@@ -6,22 +6,22 @@ ghost use Rattle.app_link.specs.OneAnswer.{OnlyApp};
 ghost use Rattle.dex_reader.specs.Sound.{SoundDex};
 ghost use Rattle.office_forms.specs.Sound.{SoundManifest, SoundLayouts};
 ghost use Rattle.app_machine.specs.SoundLists.{SoundLists};
-ghost use Rattle.app_machine.specs.Safe.{Safe};
 ghost use Rattle.app_machine.specs.Sound.{SoundApp};
 ghost use Rattle.app_flow.specs.Flow.{IsGoodFlow};
 ghost use Rattle.outcomes.specs.Causes.{causes_of};
 ghost use Rattle.outcomes.specs.Findings.{findings_of};
 ghost use Rattle.outcomes.specs.Within.{AreWithin};
 ghost use Rattle.verdict.specs.Halts.{Halts, HaltsLink};
-ghost use Rattle.verdict.specs.OneVerdict.{OnlyOutcome, RefusesOnly};
+ghost use Rattle.verdict.specs.OneVerdict.{OnlyJudgement, RefusesOnly};
 ghost use Rattle.verdict.specs.Outcome.{outcome_of};
 ghost use Rattle.verdict.specs.Refuses.{AreDex, HasPapers};
-ghost use Rattle.verdict.specs.Verdict.{ComesTo, Verdict, IsSafeApp, outcome_by};
+ghost use Rattle.verdict.specs.Tells.{IsFollowed, TellsAll, TellsOfApp};
+ghost use Rattle.verdict.specs.Verdict.{ComesTo, Judgement, IsSafeApp, judged_by};
 
 use crate::dexes::dexes_of;
 use crate::laws::lower_laws;
 use crate::papers::{Halt, Papers, Refusal, papers_of};
-use crate::{Cause, Finding, Outcome, Part, Parts, Reason};
+use crate::{Cause, Finding, Judged, Outcome, Part, Parts, Reason};
 use app_flow::{Flow, flow_of};
 use app_link::{LinkFault, link};
 use app_model::App;
@@ -93,47 +93,56 @@ fn outcome_of_rows(
 }
 
 /// What an app comes to by its flow.
-fn outcome_by(alloc: Global, app: &App, papers: &Papers, flow: &Flow) -> Result<Outcome, Memory>
+fn judged_by(alloc: Global, app: &App, papers: &Papers, flow: Flow) -> Result<Judged, Memory>
     requires sound { SoundApp app.now }
-    requires good { IsGoodFlow app.now papers.now.lists flow.now }
-    ensures { IfOk result (λ o. o ≡ outcome_by app.now papers.now.lists papers.now.declaration flow.now) }
+    requires good { IsGoodFlow app.now papers.now.lists flow }
+    ensures { IfOk result (λ j. j ≡ judged_by app.now papers.now.lists papers.now.declaration flow) }
 {
     match flow {
-        Flow::Rows(rows) => outcome_of_rows(alloc, app, papers, rows.as_slice()),
+        Flow::Rows(rows) => {
+            let outcome = outcome_of_rows(alloc, app, papers, rows.as_slice())?;
+            Ok(Judged {
+                outcome,
+                table: Some(rows),
+            })
+        }
         Flow::TooLarge(limit) => {
-            let causes = causes_too_large(alloc, app, *limit)?;
+            let causes = causes_too_large(alloc, app, limit)?;
             let none = Vec::new(alloc);
-            Ok(Outcome::Undecided(Seq::from_vec(causes), Seq::from_vec(none)))
+            Ok(Judged {
+                outcome: Outcome::Undecided(Seq::from_vec(causes), Seq::from_vec(none)),
+                table: None,
+            })
         }
     }
 }
 
 /// What an app comes to.
-#[tactic(auto, using(crate::proofs::Outcomes::clear_is_safe))]
-fn outcome_in(alloc: Global, app: &App, papers: &Papers, seed: u64) -> Result<Outcome, Memory>
+fn judged_app(alloc: Global, app: &App, papers: &Papers, seed: u64) -> Result<Judged, Memory>
     requires sound { SoundApp app.now }
     requires lists { SoundLists papers.now.lists }
-    ensures value { IfOk result (λ o. ComesTo app.now papers.now.lists papers.now.declaration o) }
-    ensures safe { IfOk result (λ o. o ≡ Outcome.Clear → Safe app.now papers.now.lists papers.now.declaration) }
+    ensures value { IfOk result (λ j. ComesTo app.now papers.now.lists papers.now.declaration j) }
+    ensures told { IfOk result (λ j. IsFollowed j.outcome → TellsAll app.now papers.now.lists papers.now.declaration j.outcome) }
 {
     nothing_is_left_out();
     every_good_table_covers_every_run();
     let flow = flow_of(alloc, app, &papers.lists, seed)?;
-    outcome_by(alloc, app, papers, &flow)
+    let judged = judged_by(alloc, app, papers, flow)?;
+    Ok(judged)
 }
 
-#[tactic(auto, using(crate::proofs::Outcomes::verdict_on, crate::proofs::Outcomes::safe_parts))]
-fn judged(alloc: Global, parts: &Parts, seed: u64) -> Result<Outcome, Halt>
-    ensures value { IfOk result (λ o. Verdict parts.now o) }
-    ensures one { IfOk result (λ o. OnlyOutcome parts.now o) }
-    ensures safe { IfOk result (λ o. o ≡ Outcome.Clear → IsSafeApp parts.now) }
+#[tactic(auto, using(crate::proofs::Outcomes::judgement_on, crate::proofs::Outcomes::tells_of_parts))]
+fn judged_parts(alloc: Global, parts: &Parts, seed: u64) -> Result<Judged, Halt>
+    ensures value { IfOk result (λ j. Judgement parts.now j) }
+    ensures one { IfOk result (λ j. OnlyJudgement parts.now j) }
+    ensures told { IfOk result (λ j. IsFollowed j.outcome → TellsOfApp parts.now j.outcome) }
     ensures err { IfErr result (λ h. Halts (RefusesOnly parts.now) h) }
 {
     lower_laws();
     let papers = papers_of(alloc, parts)?;
     let dexes = dexes_of(alloc, parts, &papers)?;
     let app = linked_app(alloc, parts, &papers, &dexes)?;
-    Ok(outcome_in(alloc, &app, &papers, seed)?)
+    Ok(judged_app(alloc, &app, &papers, seed)?)
 }
 
 /// What the parts of an app come to.
@@ -147,19 +156,26 @@ fn judged(alloc: Global, parts: &Parts, seed: u64) -> Result<Outcome, Halt>
 ///
 /// Causes and findings stand in ascending order and each once: places by cause, providers and classes by name; findings
 /// by the names of source and sink and then by place. A place goes by class, name and descriptor of the method, and
-/// address. Of an app that is too large only that, its providers and its layouts' classes are told. The outcome does not depend
-/// on the seed, which says where rows are stored meanwhile.
-#[tactic(auto, using(crate::proofs::Outcomes::refused_with, crate::proofs::Outcomes::no_clear_refusal))]
-pub fn judge(alloc: Global, parts: &Parts, seed: u64) -> Result<Outcome, Memory>
-    ensures value { IfOk result (λ o. Verdict parts.now o) }
+/// address. Of an app that is too large only that, its providers and its layouts' classes are told, and there is no table; nor
+/// is there one where the parts are refused. Else the table is there, with all rows that follow and no others. Nothing of this
+/// depends on the seed, which says where rows are stored meanwhile.
+#[tactic(auto, using(crate::proofs::Outcomes::refused_with, crate::proofs::Outcomes::no_followed_refusal, crate::proofs::Outcomes::clear_is_safe))]
+pub fn judge(alloc: Global, parts: &Parts, seed: u64) -> Result<Judged, Memory>
+    ensures value { IfOk result (λ j. Judgement parts.now j) }
 
     // The parts come to nothing else.
-    ensures one { (o : Outcome) → Verdict parts.now o → (result ≡ Ok o) ⊎ IsErr result }
-    ensures safe { IfOk result (λ o. o ≡ Outcome.Clear → IsSafeApp parts.now) }
+    ensures one { (j : Judged) → Judgement parts.now j → (result ≡ Ok j) ⊎ IsErr result }
+
+    // Unless the parts are refused or the app is too large, the outcome leaves out nothing that a run does.
+    ensures told { IfOk result (λ j. IsFollowed j.outcome → TellsOfApp parts.now j.outcome) }
+    ensures safe { IfOk result (λ j. j.outcome ≡ Outcome.Clear → IsSafeApp parts.now) }
 {
-    match judged(alloc, parts, seed) {
-        Ok(outcome) => Ok(outcome),
+    match judged_parts(alloc, parts, seed) {
+        Ok(judged) => Ok(judged),
         Err(Stop::Memory) => Err(Memory),
-        Err(Stop::Fault(refusal)) => Ok(Outcome::Refused(refusal.part, refusal.reason)),
+        Err(Stop::Fault(refusal)) => Ok(Judged {
+            outcome: Outcome::Refused(refusal.part, refusal.reason),
+            table: None,
+        }),
     }
 }

@@ -12,7 +12,7 @@ mod reasons;
 mod reporting;
 
 pub use judging::judge;
-pub use outcome::{Outcome, Part, Reason, status_for};
+pub use outcome::{Judged, Outcome, Part, Reason, status_for};
 pub use outcomes::{Cause, Finding, Place};
 pub use parts::Parts;
 pub use printed::put_name;

@@ -6,6 +6,7 @@ ghost use Rattle.verdict.specs.Outcome.{status_of};
 use crate::{Cause, Finding};
 use app_link::LinkFault;
 use dex_reader::DexFault;
+use fact_rows::Row;
 use office_forms::FormFault;
 use vet_base::Seq;
 
@@ -44,6 +45,14 @@ pub enum Outcome {
     /// One cause at least, and the findings, if any.
     Undecided(Seq<Cause>, Seq<Finding>),
     Refused(Part, Reason),
+}
+
+/// What the parts of an app come to, with all that follows in the app.
+#[derive(Drop)]
+pub struct Judged {
+    pub outcome: Outcome,
+    /// The derivable rows, in ascending order: there just where the parts make an app and it is not too large.
+    pub table: Option<Seq<Row>>,
 }
 
 /// The exit status that says the outcome: 0 clear, 1 flagged, 2 undecided, 3 refused.

@@ -8,12 +8,13 @@ use Rattle.office_forms.specs.declared.told.FormFault.{FormFault}
 use Rattle.office_forms.specs.Form.{IsForm, FirstFormFault}
 use Rattle.office_forms.specs.Manifest.{manifest_form}
 use Rattle.office_forms.specs.OneForm.{OneFormOrFault}
+use Rattle.verdict.specs.declared.outcome.Judged.{Judged}
 use Rattle.verdict.specs.declared.outcome.Outcome.{Outcome}
 use Rattle.verdict.specs.declared.outcome.Outcome.TheVariants.{Refused}
 use Rattle.verdict.specs.declared.outcome.Part.TheVariants.{Manifest as manifest_part}
 use Rattle.verdict.specs.declared.outcome.Reason.TheVariants.{Form}
 use Rattle.verdict.specs.declared.parts.Parts.{Parts}
-use Rattle.verdict.specs.Verdict.{Verdict}
+use Rattle.verdict.specs.Verdict.{Judgement, Verdict}
 use Rattle.vetting_desk.specs.Answer.{ComesTo, IsOutcome}
 use Rattle.vetting_desk.specs.Folder.{Held, Refusal, part_at, parts_at, Gathers, no_manifest, bad_manifest, others}
 use Rattle.vetting_desk.specs.Reading.{GathersTold}
@@ -53,14 +54,16 @@ comes_as : (forms : OneFormOrFault) (dir : List ℕ) (told : Option Told) (gathe
 comes_as forms dir told gathered other gathers tells is = subst (λ (g : Result Parts Refusal). ComesTo g other) (one_gathered forms (held_by told) dir is.gathered gathered (is.gathers tells) (gathers tells)) is.comes
 
 -- parts that were judged come to nothing else
-pub only_of_parts : {E : Type 0} (forms : OneFormOrFault) (dir : List ℕ) (told : Option Told) (parts : Parts) (outcome other : Outcome)
-    → GathersTold told dir (Ok parts) → ((o : Outcome) → Verdict parts o → (let r : Result Outcome E = Ok outcome in r ≡ Ok o) ⊎ (let r : Result Outcome E = Ok outcome in IsErr r))
-    → IsTrue (is_some told) → IsOutcome dir told other → other ≡ outcome
-only_of_parts {E} forms dir told parts outcome other gathers one tells is = of_answer (one other (comes_as forms dir told (Ok parts) other gathers tells is))
+pub only_of_parts : {E : Type 0} (forms : OneFormOrFault) (dir : List ℕ) (told : Option Told) (parts : Parts) (judged : Judged) (other : Outcome)
+    → GathersTold told dir (Ok parts) → ((j : Judged) → Judgement parts j → (let r : Result Judged E = Ok judged in r ≡ Ok j) ⊎ (let r : Result Judged E = Ok judged in IsErr r))
+    → IsTrue (is_some told) → IsOutcome dir told other → other ≡ judged.outcome
+only_of_parts {E} forms dir told parts judged other gathers one tells is =
+    let verdict : Verdict parts other = comes_as forms dir told (Ok parts) other gathers tells is in
+    of_answer (record { outcome = other; table = verdict.0 }) (one (record { outcome = other; table = verdict.0 }) verdict.1)
   where
-    of_answer : (let r : Result Outcome E = Ok outcome in r ≡ Ok other) ⊎ (let r : Result Outcome E = Ok outcome in IsErr r) → other ≡ outcome
-    of_answer (inl same) = cc
-    of_answer (inr fails) = absurd cc
+    of_answer : (j : Judged) → (let r : Result Judged E = Ok judged in r ≡ Ok j) ⊎ (let r : Result Judged E = Ok judged in IsErr r) → j.outcome ≡ judged.outcome
+    of_answer j (inl same) = let e : judged ≡ j = cc in sym (ap (λ (k : Judged). k.outcome) e)
+    of_answer j (inr fails) = absurd cc
 
 -- nor does a folder that is refused
 pub only_of_refusal : (forms : OneFormOrFault) (dir : List ℕ) (told : Option Told) (refusal : Refusal) (other : Outcome) → GathersTold told dir (Err refusal) → IsTrue (is_some told) → IsOutcome dir told other → other ≡ Refused refusal.0 refusal.1

@@ -39,7 +39,7 @@ fn found_in_folder<F: Files>(
     one_form_or_fault();
     match parts_in(alloc, files, dir) {
         Ok(parts) => match judge(alloc, &parts, seed) {
-            Ok(outcome) => Found::Said(Answer::Vetted(outcome)),
+            Ok(judged) => Found::Said(Answer::Vetted(judged.outcome)),
             Err(_) => Found::Memory,
         },
         Err(Halt::Refused(part, reason)) => {

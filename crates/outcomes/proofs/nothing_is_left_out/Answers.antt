@@ -1,8 +1,8 @@
-use Rattle.outcomes.proofs.Nothing.{all_are_declared, none_stands}
+use Rattle.outcomes.proofs.NothingLeftOut.{each_is_found, each_is_named}
 use Rattle.outcomes.proofs.nothing_is_left_out.Goals as goal
 
 pub returns-clause-findings : goal.returns-clause-findings
-returns-clause-findings c = all_are_declared
+returns-clause-findings c = each_is_found
 
 pub returns-clause-causes : goal.returns-clause-causes
-returns-clause-causes c = none_stands
+returns-clause-causes c = each_is_named

@@ -1,5 +1,6 @@
 use Rattle.std.proofs.Common.{◌≡◌, map, take}
-use Rattle.outcomes.specs.Spots.{at_spot, named_cause}
+use Rattle.outcomes.specs.Causes.{named_cause}
+use Rattle.outcomes.specs.Spots.{at_spot}
 use Rattle.outcomes.proofs.causes.causes_at.Given as goal
 
 abbrev pub invariant-loop-spot : goal.invariant-loop-spot

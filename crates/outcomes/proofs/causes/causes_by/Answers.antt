@@ -1,8 +1,8 @@
 use Rattle.std.proofs.Common.{◌≡◌, List, map, ◌∙◌, ap, subst}
-use Rattle.std.specs.Prelude.{IfOk, filter_map}
+use Rattle.std.specs.Prelude.{IfOk}
 use Rattle.outcomes.specs.Ascending.{ascending}
-use Rattle.outcomes.specs.declared.outcome.Cause.{Cause}
-use Rattle.outcomes.specs.Spots.{Spot, at_spot, named_cause, spot_order, unknown_spot}
+use Rattle.outcomes.specs.Causes.{named_cause}
+use Rattle.outcomes.specs.Spots.{Spot, at_spot, spot_order}
 use Rattle.outcomes.proofs.causes.causes_by.Goals as goal
 
 pub returns : goal.returns

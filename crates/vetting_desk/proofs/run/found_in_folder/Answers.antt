@@ -10,7 +10,7 @@ use Rattle.vetting_desk.proofs.run.found_in_folder.Goals as goal
 
 pub returns-in-Ok-judge : goal.returns-in-Ok-judge
 returns-in-Ok-judge g c = (
-  found_of_parts c.one_form_or_fault.ensures _ (g.F.Files.told c.args.files.now) c.in-Ok.parts c.in-Ok-judge.outcome c.in-Ok.ensures.value c.in-Ok-judge.ensures.value c.in-Ok-judge.ensures.safe c.in-Ok-judge.ensures.one,
+  found_of_parts c.one_form_or_fault.ensures _ (g.F.Files.told c.args.files.now) c.in-Ok.parts c.in-Ok-judge.judged c.in-Ok.ensures.value c.in-Ok-judge.ensures.value c.in-Ok-judge.ensures.safe c.in-Ok-judge.ensures.one,
   c.in-Ok.ensures.leaves.0,
   c.in-Ok.ensures.leaves.1,
 )

@@ -4,7 +4,7 @@ use Rattle.app_flow.specs.Flow.{IsGoodFlow}
 use Rattle.fact_rows.specs.declared.row.Row.{Row}
 use Rattle.outcomes.specs.Within.{AreWithin}
 use Rattle.verdict.proofs.Outcomes.{good_is_within}
-use Rattle.verdict.proofs.judging.outcome_by.Goals as goal
+use Rattle.verdict.proofs.judging.judged_by.Goals as goal
 
 pub outcome_of_rows-requires-clause-within : goal.outcome_of_rows-requires-clause-within
 outcome_of_rows-requires-clause-within c =
