@@ -1,6 +1,6 @@
 -- Each part of a row is read as it was written.
 use Rattle.std.proofs.Common.{◌≡◌, ℕ, zero, suc, ◌+◌, ◌*◌, ◌/◌, ◌%◌, ◌<◌, Bool, true, false, List, [], ◌∷◌, ◌++◌, Ok, refl, append_assoc, arith}
-use Rattle.vet_base.specs.Script.{run, ◌>>=◌}
+use Rattle.vet_base.specs.Script.{run}
 use Rattle.vet_base.specs.declared.key_id.KeyId.{KeyId}
 use Rattle.vet_base.proofs.Scripts.{run_bind}
 use Rattle.access_path.specs.declared.keys.Keys.{Keys}

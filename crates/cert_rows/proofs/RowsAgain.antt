@@ -1,14 +1,14 @@
 -- Each row is read as it was written.
-use Rattle.std.proofs.Common.{◌≡◌, ℕ, List, [], ◌∷◌, ◌++◌, Ok, refl, append_assoc}
+use Rattle.std.proofs.Common.{◌≡◌, ℕ, List, ◌++◌, Ok, refl, append_assoc}
 use Rattle.std.proofs.lemmas.List.{append-nil}
-use Rattle.vet_base.specs.Script.{run, ◌>>=◌}
+use Rattle.vet_base.specs.Script.{run}
 use Rattle.vet_base.proofs.Scripts.{run_bind}
 use Rattle.fact_rows.specs.declared.row.Row.{Row}
 use Rattle.fact_rows.specs.declared.row.Row.TheVariants as row
 use Rattle.cert_rows.specs.Fitting.{RowFits}
 use Rattle.cert_rows.specs.Reading.{From}
 use Rattle.cert_rows.specs.Rows.{one, two, three, row_of, kind_at, kind_from, row_from}
-use Rattle.cert_rows.specs.Spelling.{u4_bytes, node_bytes, activation_bytes, site_bytes, use_bytes, field_bytes, row_bytes}
+use Rattle.cert_rows.specs.Spelling.{node_bytes, activation_bytes, site_bytes, use_bytes, field_bytes, row_bytes}
 use Rattle.cert_rows.proofs.PartsAgain.{Again, byte, u4, key, node, activation, site, exit, cause, use_of, labelled}
 
 one_row : {A X : Type 0} {sa : A → List ℕ} {FA : A → Type 0} {ra : List ℕ → From A} → Again sa FA ra → (make : A → X) (a : A) (rest zs : List ℕ)

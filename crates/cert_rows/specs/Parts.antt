@@ -1,6 +1,6 @@
 -- How sites and paths are read.
-use Rattle.std.specs.Prelude.{ℕ, zero, suc, ◌==◌, ◌%◌, Bool, false, List, [], ◌∷◌, nat_le, if◌then◌else◌}
-use Rattle.vet_base.specs.Script.{Script, Value, Test, ◌>>=◌, test}
+use Rattle.std.specs.Prelude.{ℕ, zero, suc, ◌==◌, ◌%◌, Bool, false, List, [], nat_le, if◌then◌else◌}
+use Rattle.vet_base.specs.Script.{Value, Test, ◌>>=◌, test}
 use Rattle.vet_base.specs.declared.key_id.KeyId.{KeyId}
 use Rattle.access_path.specs.declared.keys.Keys.TheVariants.{Zero}
 use Rattle.access_path.specs.declared.keys.TheConstants.{MOST_KEYS}

@@ -1,6 +1,6 @@
 -- How a row is read: the tests of its bytes in their order, and the row behind them with the bytes that follow. A byte that is
 -- not there is `Cut`; a byte that no row has there is `Bad`.
-use Rattle.std.specs.Prelude.{◌≡◌, ℕ, ◌+◌, ◌*◌, ◌==◌, Bool, false, Result, Ok, Err, List, [], ◌∷◌, nat_le, if◌then◌else◌}
+use Rattle.std.specs.Prelude.{◌≡◌, ℕ, ◌+◌, ◌*◌, ◌==◌, false, Result, Ok, Err, List, [], ◌∷◌, if◌then◌else◌}
 use Rattle.vet_base.specs.Script.{Script, Value, Test, ◌>>=◌, test, run}
 use Rattle.fact_rows.specs.declared.context.Ctx.{Ctx}
 use Rattle.fact_rows.specs.declared.context.Ctx.TheVariants as ctx

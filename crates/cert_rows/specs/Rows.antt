@@ -1,6 +1,6 @@
 -- How a row of each kind is read: the fields of `parts_of`, in their order.
-use Rattle.std.specs.Prelude.{ℕ, ◌-◌, ◌&&◌, Bool, false, List, [], ◌∷◌, nat_lt, nat_le, slice_index_or, if◌then◌else◌, ◌==◌}
-use Rattle.vet_base.specs.Script.{Script, Value, Test, ◌>>=◌, test}
+use Rattle.std.specs.Prelude.{ℕ, ◌-◌, ◌&&◌, false, List, [], nat_lt, nat_le, slice_index_or, if◌then◌else◌, ◌==◌}
+use Rattle.vet_base.specs.Script.{Value, Test, ◌>>=◌, test}
 use Rattle.vet_base.specs.declared.key_id.KeyId.{KeyId}
 use Rattle.access_path.specs.declared.path.Path.{Path}
 use Rattle.app_machine.specs.declared.lists.SummaryId.{SummaryId}
