@@ -1,0 +1,2 @@
+pub mod PartsAgain
+pub mod RowsAgain

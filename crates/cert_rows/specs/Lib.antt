@@ -1,0 +1,6 @@
+pub mod Fitting
+pub mod Laws
+pub mod Parts
+pub mod Reading
+pub mod Rows
+pub mod Spelling
