@@ -22,8 +22,8 @@ def signed(n, bits):
 
 
 def table_of(path):
-    rows = re.findall(r'\((\w+)(?:\(\w+\))?, \w+, \w+\), // ([0-9A-Fa-f]{2}) (\S+)', open(path).read())
-    return {name: (int(opcode, 16), form) for form, opcode, name in rows if form != 'Unused'}
+    rows = re.findall(r'\((\w+)(?:\(\w+\))?, \w+, \w+\), // [0-9A-Fa-f]{2} (\S+)', open(path).read())
+    return {name: form for form, name in rows if form != 'Unused'}
 
 
 def registers_of(form, operands):
@@ -59,8 +59,8 @@ def described(line, units, pc, text, table):
         return '%04x %s' % (pc, name)
     body, _, note = text.partition(' // ')
     operands = body.partition(' ')[2]
-    opcode, form = table[name]
-    parts = ['%04x %02x' % (pc, opcode)]
+    form = table[name]
+    parts = ['%04x %s' % (pc, units[:2])]
     if name != 'nop':
         parts += ['v' + r for r in registers_of(form, operands)]
     if form in INDEXED:
@@ -90,7 +90,7 @@ def decoded(path):
         line = line.rstrip('\n')
         if line.startswith('file '):
             methods = files.setdefault(line[5:], [])
-        elif line.startswith('method '):
+        elif line == 'method':
             methods.append([])
         elif methods and re.match(r'[0-9a-f]{4,} |fault', line):
             methods[-1].append(line)
@@ -116,4 +116,5 @@ def main():
     sys.exit(differences != 0)
 
 
-main()
+if __name__ == '__main__':
+    main()

@@ -7,16 +7,15 @@ set -eu
 top=$(cd "$(dirname "$0")/../.." && pwd)
 work=$(mktemp -d)
 trap 'rm -rf "$work"' EXIT
-mkdir -p "$work/crates/insn_list/src" "$work/crates/insn_list/data"
-for crate in vet_base app_model dalvik_formats dex_reader dex_code; do
+mkdir "$work/crates"
+for crate in vet_base app_machine dalvik_formats dex_reader dex_code insn_list; do
     mkdir "$work/crates/$crate"
     for part in src specs proofs; do
         if [ -d "$top/crates/$crate/$part" ]; then cp -r "$top/crates/$crate/$part" "$work/crates/$crate/$part"; fi
     done
 done
-cp "$top/bench/instructions/list.rt.txt" "$work/crates/insn_list/src/main.rt"
-grep -E '^(vet_base|app_model|dalvik_formats|dex_reader|dex_code):' "$top/crates.txt" > "$work/crates.txt"
-echo 'insn_list: dex_code dex_reader vet_base' >> "$work/crates.txt"
+mkdir "$work/crates/insn_list/data"
+grep -E '^(vet_base|app_machine|dalvik_formats|dex_reader|dex_code|insn_list):' "$top/crates.txt" > "$work/crates.txt"
 number=0
 for file in "$@"; do
     number=$((number + 1))

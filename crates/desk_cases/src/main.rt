@@ -130,6 +130,7 @@ fn main(rt: HostRuntime) -> io::Result<()> {
     cases(&rt, "link_cases.txt", &sample)?;
     cases(&rt, "flow_cases.txt", &sample)?;
     cases(&rt, "example_cases.txt", &sample)?;
+    cases(&rt, "opcode_cases.txt", &sample)?;
     cuts(&rt, "device_id_posted.dex", &sample)?;
     components(&rt, 4097, &sample)
 }

@@ -58,8 +58,7 @@ fn body_to<W: Write>(out: &mut W, alloc: Global, counts: &Counts, body: &Body) -
     let Some(code) = &body.code else {
         return Ok(());
     };
-    let index = body.index;
-    writeln!(out, "method {index}")?;
+    writeln!(out, "method")?;
     match decode(alloc, code, counts) {
         Ok(decoded) => {
             for (pc, insn) in decoded.lines.as_slice() {

@@ -1,0 +1,44 @@
+//! The program over whatever system runs it: the words, a seed, the files and the standard output go to the top call,
+//! and its status is the exit status. `vet` runs it, and so do the programs that test it.
+#![tactic(auto)]
+
+use std::alloc::Global;
+use std::env::Env;
+use std::process::ExitCode;
+use std::random::RandomSource;
+use std::rt::Files;
+use std::{env, io};
+use vetting_desk::{HostFiles, StandardSink, Status, vet, words_given};
+
+/// The words behind the program's name.
+fn words_of(rt: &(impl Env + AllocGlobal), alloc: Global) -> io::Result<Vec<String>> {
+    let mut words = Vec::new(alloc);
+    for word in env::args(rt)?.skip(1) {
+        words.push(word)?;
+    }
+    Ok(words)
+}
+
+/// A number that nobody outside can guess; a fixed one where the system gives none.
+fn seed_of(rt: &impl RandomSource) -> u64 {
+    let mut bytes = [0; 8];
+    match rt.fill_bytes(&mut bytes) {
+        Ok(()) => u64::from_le_bytes(bytes),
+        Err(_) => 0,
+    }
+}
+
+/// Runs the words that the system gives over its files, prints the answer to the standard output, and gives the status
+/// of the top call as the exit status.
+pub fn run<R: Files + Env + RandomSource + Print + AllocGlobal + Copy + Drop>(rt: R) -> ExitCode {
+    let alloc = rt.alloc();
+    let words = match words_given(alloc, words_of(&rt, alloc)) {
+        Ok(words) => words,
+        Err(Status(status)) => return ExitCode::from(status),
+    };
+    let seed = seed_of(&rt);
+    let mut files = HostFiles::new(rt);
+    let mut out = StandardSink::new(rt);
+    let Status(status) = vet(alloc, &words, &mut files, &mut out, seed);
+    ExitCode::from(status)
+}

@@ -1,0 +1,11 @@
+# Takes the device id from a listed source and passes it to a listed sink.
+.class public La/Main;
+.super Landroid/app/Activity;
+
+.method public onCreate(Landroid/os/Bundle;)V
+    .registers 3
+    invoke-static {}, Lvendor/Device;->id()Ljava/lang/String;
+    move-result-object v0
+    invoke-static {v0}, Lvendor/Net;->post(Ljava/lang/Object;)V
+    return-void
+.end method

@@ -1,0 +1,9 @@
+//! The program on an app whose report is longer than 65,536 bytes.
+#![tactic(auto)]
+
+use std::process::ExitCode;
+use vet_main::run;
+
+fn main(rt: HostRuntime) -> ExitCode {
+    run(rt)
+}
