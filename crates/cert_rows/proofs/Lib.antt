@@ -1,2 +1,5 @@
 pub mod PartsAgain
+pub mod PartsFound
+pub mod PathsFound
 pub mod RowsAgain
+pub mod RowsFound

@@ -16,6 +16,6 @@ mod site_rows;
 mod sites;
 
 pub use fault::RowFault;
-pub use law::rows_are_read_again;
+pub use law::{rows_are_found, rows_are_read_again};
 pub use numbers::u4_from;
 pub use rows::{put_row, row_from};

@@ -1,0 +1,229 @@
+"""Writes the cases of crates/cert_cases: changed certificates, each with the answer that is due by the page of formats.
+
+usage: certificate_cases.py DATA (the data folder of the crate, with unlisted_call.cert in it; writes each_kind.cert and the
+files of cases)
+
+The reader below follows docs/FORMATS.md and nothing else. A case is a line `CHANGE: ANSWER`: `cut N` keeps the first N bytes of
+the file, `set AT BYTE` changes one, and `hex DIGITS` gives all bytes.
+"""
+import hashlib
+import pathlib
+import sys
+
+CONTEXTS = {0: "nn", 1: "nn", 2: "nn", 3: "n0", 4: "n0", 5: "nn", 6: "nnnn"}
+ROWS = {
+    1: "N", 2: "NnS", 3: "NnPl", 4: "SnS", 5: "SnS", 6: "nS", 7: "nPl", 8: "NA", 9: "AN", 10: "NSPl", 11: "ASPl",
+    12: "AeS", 13: "AePl", 14: "nl", 15: "nlPl", 16: "S", 17: "SPl", 18: "llN", 19: "Nc", 20: "NU",
+}
+
+
+class Fault(Exception):
+    pass
+
+
+class Row:
+    """Reads one row from an offset on, as the list of its numbers."""
+
+    def __init__(self, data, at):
+        self.data, self.at, self.numbers = data, at, []
+        kind = self.byte(lambda n: 1 <= n <= 20)
+        self.fields(ROWS[kind])
+
+    def next(self):
+        if self.at >= len(self.data):
+            raise Fault("cut")
+        self.at += 1
+        return self.data[self.at - 1]
+
+    def byte(self, allowed=lambda n: True):
+        n = self.next()
+        if not allowed(n):
+            raise Fault("bad")
+        self.numbers.append(n)
+        return n
+
+    def number(self, of=lambda n: True):
+        n = 0
+        for place in range(4):
+            n += self.byte_of_zero(of) << 8 * place
+        self.numbers.append(n)
+
+    def byte_of_zero(self, of):
+        n = self.next()
+        if not of(n):
+            raise Fault("bad")
+        return n
+
+    def fields(self, shape):
+        for field in shape:
+            if field == "n":
+                self.number()
+            elif field == "0":
+                self.number(lambda n: n == 0)
+            elif field == "l":
+                self.byte()
+            elif field == "e":
+                self.byte(lambda n: n < 2)
+            elif field == "c":
+                self.byte(lambda n: 1 <= n <= 3)
+            elif field == "C":
+                self.fields(CONTEXTS[self.byte(lambda n: n in CONTEXTS)])
+            elif field == "A":
+                self.fields("Cn")
+            elif field == "N":
+                self.fields("An")
+            elif field == "S":
+                self.fields({0: "N", 1: "Cn", 2: "n", 3: "n"}[self.byte(lambda n: n < 4)])
+            elif field == "P":
+                self.fields("n" * (self.byte(lambda n: n % 128 <= 5) % 128))
+            elif field == "U":
+                self.byte(lambda n: n < 2)
+                self.fields("n")
+
+
+def answer(data):
+    """The answer that the page of formats gives to these bytes."""
+    head = data[:8]
+    if head == b"VETCERT1":
+        return "version"
+    if head != b"VETCERT2":
+        return "magic"
+    if len(data) < 40:
+        return "cut at 8"
+    if len(data) < 44:
+        return "cut at 40"
+    at, last = 44, None
+    for _ in range(int.from_bytes(data[40:44], "little")):
+        try:
+            row = Row(data, at)
+        except Fault as fault:
+            return f"{fault} at {at}"
+        if last is not None and not last < row.numbers:
+            return f"order at {at}"
+        at, last = row.at, row.numbers
+    return "ok" if at == len(data) else f"rest at {at}"
+
+
+def begins(data):
+    """The offsets at which the rows of a certificate begin, and its end."""
+    at, found = 44, [44]
+    for _ in range(int.from_bytes(data[40:44], "little")):
+        at = Row(data, at).at
+        found.append(at)
+    return found
+
+
+def certificate(rows):
+    return b"VETCERT2" + bytes(range(32)) + len(rows).to_bytes(4, "little") + b"".join(rows)
+
+
+def each_kind():
+    """A row of each kind, with numbers that tell the fields apart, and every kind of context, site, path and use."""
+    count, places = [0x01020304], {"C": 0, "S": 0, "P": 0, "U": 0}
+    keys = [0, 1, 2, 3, 4, 5, 128, 129, 130, 131, 132, 133]
+
+    def number():
+        count[0] += 0x0101
+        return count[0].to_bytes(4, "little")
+
+    def turn(part, kinds):
+        places[part] += 1
+        return kinds[places[part] % len(kinds)]
+
+    def spelled(shape):
+        made = b""
+        for field in shape:
+            if field == "n":
+                made += number()
+            elif field == "0":
+                made += bytes(4)
+            elif field == "l":
+                made += bytes([count[0] % 251])
+            elif field == "e":
+                made += bytes([count[0] % 2])
+            elif field == "c":
+                made += bytes([3])
+            elif field == "C":
+                kind = turn("C", range(7))
+                made += bytes([kind]) + spelled(CONTEXTS[kind])
+            elif field == "A":
+                made += spelled("Cn")
+            elif field == "N":
+                made += spelled("An")
+            elif field == "S":
+                kind = turn("S", range(4))
+                made += bytes([kind]) + spelled({0: "N", 1: "Cn", 2: "n", 3: "n"}[kind])
+            elif field == "P":
+                first = turn("P", keys)
+                made += bytes([first]) + spelled("n" * (first % 128))
+            elif field == "U":
+                made += bytes([turn("U", range(2))]) + spelled("n")
+        return made
+
+    return certificate([bytes([kind]) + spelled(shape) for kind, shape in ROWS.items()])
+
+
+def cases(data, values):
+    """Each cut, and each byte changed in turn."""
+    for n in range(len(data) + 1):
+        yield f"cut {n}", data[:n]
+    for at, was in enumerate(data):
+        for value in values(was):
+            yield f"set {at} {value}", data[:at] + bytes([value]) + data[at + 1 :]
+
+
+def spelled_out(data):
+    """Rows exchanged, twice and missing; great counts; what stands behind the last row; long paths; first eight bytes."""
+    ends = begins(data)
+    rows = [data[one:other] for one, other in zip(ends, ends[1:])]
+    head = data[:40]
+
+    def of(rows, count=None):
+        return head + (len(rows) if count is None else count).to_bytes(4, "little") + b"".join(rows)
+
+    last = len(rows) - 1
+    yield of([])
+    yield of([], 1)
+    yield of([], 0xFFFFFFFF)
+    yield of(rows[-2:], 0xFFFFFFFF)
+    yield of([rows[last], rows[last - 1]])
+    yield of([rows[last - 1], rows[last], rows[last]])
+    yield of([rows[last - 1], rows[last - 1], rows[last]])
+    yield of([rows[0], rows[2], rows[1]])
+    yield of(rows[1:3])
+    yield of(rows[-2:], 1)
+    yield of(rows[-2:]) + b"\0"
+    yield of(rows[-2:]) + rows[last]
+    yield of([]) + b"\0"
+    path = bytes([7, 1, 0, 0, 0])
+    for first in [5, 6, 77, 127, 128, 133, 134, 205, 255]:
+        yield of([path + bytes([first]) + bytes(4 * (first % 128)) + b"\2"])
+        yield of([path + bytes([first])])
+    yield b"VETCERT1"
+    yield b"VETCERT1" + data[8:]
+    yield b"VETCERT3" + data[8:]
+    yield b"vetcert2" + data[8:]
+    yield b"VETCERT" + data[8:]
+    yield b""
+
+
+def write(path, made):
+    lines = [f"{change}: {answer(data)}\n" for change, data in made]
+    path.write_text("".join(lines))
+    print(f"{path.name}: {len(lines)} cases")
+
+
+def main():
+    folder = pathlib.Path(sys.argv[1])
+    call = (folder / "unlisted_call.cert").read_bytes()
+    kinds = each_kind()
+    for data in call, kinds:
+        assert answer(data) == "ok", answer(data)
+    (folder / "each_kind.cert").write_bytes(kinds)
+    write(folder / "unlisted_call.txt", cases(call, lambda was: [(was + 1) % 256, was ^ 128]))
+    write(folder / "each_kind.txt", cases(kinds, lambda was: [(was + 1) % 256]))
+    write(folder / "spelled.txt", ((f"hex {data.hex()}", data) for data in spelled_out(call)))
+    print("each_kind.cert", hashlib.sha256(kinds).hexdigest())
+
+
+main()

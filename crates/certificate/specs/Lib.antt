@@ -1,0 +1,4 @@
+pub mod Cert
+pub mod Digests
+pub mod Laws
+pub mod Reading
