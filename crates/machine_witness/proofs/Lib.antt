@@ -1,4 +1,13 @@
+pub mod Acting
+pub mod Arriving
+pub mod Beginning
+pub mod Boxing
 pub mod Clear
+pub mod Ending
+pub mod Eventing
+pub mod Flowing
+pub mod Framing
 pub mod General
 pub mod Leaking
 pub mod Looking
+pub mod Storing

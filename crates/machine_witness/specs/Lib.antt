@@ -1,2 +1,6 @@
+pub mod Acts
 pub mod Apps
+pub mod Ends
+pub mod Flows
+pub mod Frames
 pub mod Witnesses

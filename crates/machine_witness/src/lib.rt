@@ -12,6 +12,15 @@ ghost use Rattle.machine_witness.specs.Witnesses.{
   OthersWaitForTheApplication,
   HandedObjectsAreCalledBack,
 };
+ghost use Rattle.machine_witness.specs.Acts.{ActsStep};
+ghost use Rattle.machine_witness.specs.Ends.{ClearSiblingGoesOn, NativeIsReached, NotSafe};
+ghost use Rattle.machine_witness.specs.Frames.{FramesStep};
+ghost use Rattle.machine_witness.specs.Flows.{
+  FlowsWithinOnCreate,
+  FlowsByOtherMethods,
+  FlowsThroughTheLibrary,
+  FlowsFromEventToEvent,
+};
 ghost use Rattle.machine_witness.specs.Apps.{StandsAtNative, Leaks, ClearSiblingNeverArrives, CallsGoUpward};
 
 /// After a put under a field's key no other value stands under it.
@@ -75,4 +84,52 @@ pub fn the_small_app_leaks()
 /// Its sibling overwrites the value first, and no run of it brings any label to any sink.
 pub fn no_run_of_its_clear_sibling_arrives()
     ensures { ClearSiblingNeverArrives }
+{}
+
+/// Each act does its step, from any world and registers.
+pub fn each_act_does_its_step()
+    ensures { ActsStep }
+{}
+
+/// A label arrives through a static, a field, an element and a filled array.
+pub fn labels_flow_within_a_method()
+    ensures { FlowsWithinOnCreate }
+{}
+
+/// A label arrives as the result of a method, as what it throws, and through an initialiser.
+pub fn labels_flow_through_other_methods()
+    ensures { FlowsByOtherMethods }
+{}
+
+/// A label arrives through a put, a copy and a store of the library, and by a put of a call that
+/// then raises.
+pub fn labels_flow_through_the_library()
+    ensures { FlowsThroughTheLibrary }
+{}
+
+/// A label arrives by a callback, from a method to a click, with a fresh and a handed parameter, and
+/// from the application to an activity.
+pub fn labels_flow_from_event_to_event()
+    ensures { FlowsFromEventToEvent }
+{}
+
+/// A run of the sibling that is clear comes past the call of the sink.
+pub fn the_clear_sibling_goes_on()
+    ensures { ClearSiblingGoesOn }
+{}
+
+/// A run comes to the call of a native method and stands there.
+pub fn a_native_body_is_reached()
+    ensures { NativeIsReached }
+{}
+
+/// The app that leaks is not safe where nothing is declared, and the one with a native method never.
+pub fn leaking_apps_are_not_safe()
+    ensures { NotSafe }
+{}
+
+/// Calls, returns, ends, throws, raises and initialisers each do their step, from any world and
+/// registers.
+pub fn frames_come_and_go()
+    ensures { FramesStep }
 {}
