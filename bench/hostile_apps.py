@@ -1,0 +1,212 @@
+"""Makes apps that a stranger may hand in to hold the desk or to take its memory, and shows time and peak memory of `check` on each,
+and on one of twice the size.
+
+usage: hostile_apps.py VET FOLDER [CASE..] (the program that `./vet --prove` built, a folder to work in, and which cases: all
+where none is named)
+
+Each run may take 120 seconds of processor time and 6 GB of memory. Prints for each the size of its DEX file, seconds, MB, the
+ratios to the size before, and the first line that the program printed, or how it ended.
+"""
+import multiprocessing
+import os
+import resource
+import shutil
+import struct
+import subprocess
+import sys
+
+from dex_writer import NATIVE, NOP, PUBLIC, RETURN_VOID, STATIC, DexFile, code_item
+
+SECONDS, BYTES = 120, 6 << 30
+MAIN, BUNDLE = 'La/Main;', 'Landroid/os/Bundle;'
+here = os.path.dirname(os.path.abspath(__file__))
+
+
+def unit(*units):
+    return struct.pack(f'<{len(units)}H', *units)
+
+
+def with_main(dex, code, reached=False):
+    """The activity with a method of that code: a static one that nobody calls, or else the one by which the activity begins."""
+    if reached:
+        method = (dex.method(MAIN, 'onCreate', 'V', [BUNDLE]), PUBLIC, code)
+    else:
+        method = (dex.method(MAIN, 'code'), PUBLIC | STATIC, code)
+    dex.add_class(MAIN, 'Landroid/app/Activity;', methods=[method])
+    return dex
+
+
+def chain(dex, count, interfaces=lambda i: (), first='Ljava/lang/Object;', statics=lambda i: ()):
+    """Classes each below the one before."""
+    above = first
+    for i in range(count):
+        dex.add_class(f'Lc{i};', above, interfaces(i), statics(i))
+        above = f'Lc{i};'
+    return above
+
+
+def gets(is_static, count, fields):
+    """So many gets of these fields in turn."""
+    units = b''.join(unit(0x0060 if is_static else 0x0052, fields[i % len(fields)]) for i in range(count))
+    return code_item(2, 0, unit(0x0012) + units + unit(RETURN_VOID))
+
+
+def missing(is_static):
+    def make(n):
+        dex = DexFile()
+        last = chain(dex, n)
+        return with_main(dex, gets(is_static, 5 * n, [dex.field(last, 'f')]))
+    return make
+
+
+def far_above(n):
+    """As many static fields as classes, all in the topmost class, and each named in the lowest."""
+    dex = DexFile()
+    rows = [dex.field('Lc0;', f'f{i}') for i in range(n)]
+    last = chain(dex, n, statics=lambda i: rows if i == 0 else ())
+    return with_main(dex, gets(True, n, [dex.field(last, f'f{i}') for i in range(n)]))
+
+
+def circle(n):
+    """The chain ends in a circle of ten classes, which come last by name."""
+    dex = DexFile()
+    for i in range(10):
+        dex.add_class(f'Lz{i};', f'Lz{(i + 1) % 10};')
+    chain(dex, n - 10, first='Lz0;')
+    return dex
+
+
+def ring(n):
+    """All classes in one circle."""
+    dex = DexFile()
+    chain(dex, n, first=f'Lc{n - 1};')
+    return dex
+
+
+LONG = 'L' + 'n' * 1_000_000 + ';'
+
+
+def long_interface(n):
+    dex = DexFile()
+    dex.add_class('La;', interfaces=[LONG] * n)
+    return dex
+
+
+def long_class(n):
+    dex = DexFile()
+    dex.add_class(LONG, methods=[(dex.method(LONG, f'm{i}'), NATIVE, None) for i in range(n)])
+    return dex
+
+
+def long_parameter(n):
+    dex = DexFile()
+    dex.add_class('La;', methods=[(dex.method('La;', f'm{i}', 'V', [LONG]), NATIVE, None) for i in range(n)])
+    return dex
+
+
+def many_arguments(n):
+    dex = DexFile()
+    at = dex.method('Llib;', 'call', 'V', ['I'] * 250)
+    return with_main(dex, code_item(250, 0, unit(0x0077 | 250 << 8, at, 0) * n + unit(RETURN_VOID)))
+
+
+def switches(n, distances, tail, reached=False):
+    """Switches by one table, and behind them so many `nop`s."""
+    end = 3 * n + tail + 1
+    units = b''.join(struct.pack('<Hi', 0x002B, end - 3 * i) for i in range(n)) + unit(NOP) * tail + unit(RETURN_VOID)
+    units += struct.pack(f'<2Hi{len(distances)}i', 0x0100, len(distances), 0, *distances)
+    return with_main(DexFile(), code_item(1, 0, units) if not reached else code_item(2, 2, units), reached)
+
+
+def handled(n, reached=False):
+    """So many lines under one try with almost as many handlers."""
+    dex = DexFile()
+    dex.type('Ljava/lang/Exception;')
+    handlers = range(n * 12 // 13)
+    return with_main(dex, code_item(2, 2 if reached else 0, unit(0x0090, 0) * n + unit(RETURN_VOID), [(0, min(2 * n, 65535))], [2 * i for i in handlers]), reached)
+
+
+def own_interfaces(n):
+    dex = DexFile()
+    for i in range(n):
+        dex.type(f'Li{i};')
+    chain(dex, n, lambda i: [f'Li{i};'])
+    return dex
+
+
+CASES = {
+    'sget_missing': (20_000, missing(True)),
+    'iget_missing': (20_000, missing(False)),
+    'sget_far_above': (15_000, far_above),
+    'circle_above': (30_000, circle),
+    'circle_of_all': (30_000, ring),
+    'long_interface': (400_000, long_interface),
+    'long_class': (60_000, long_class),
+    'long_parameter': (60_000, long_parameter),
+    'many_arguments': (400_000, many_arguments),
+    'switches_equal': (45_000, lambda n: switches(n, [3] * 32_000, 0)),
+    'switches_equal_reached': (45_000, lambda n: switches(n, [3] * 32_000, 0, True)),
+    'switches_distinct': (45_000, lambda n: switches(n, range(3, 32_001 * 3, 3), 96_100)),
+    'handlers': (32_500, handled),
+    'handlers_reached': (32_500, lambda n: handled(n, True)),
+    'own_interfaces': (20_000, own_interfaces),
+}
+
+
+def folder_of(folder, title, dex):
+    path = f'{folder}/{title}'
+    shutil.rmtree(path, ignore_errors=True)
+    os.makedirs(path)
+    text = dex.bytes()
+    with open(f'{path}/classes.dex', 'wb') as out:
+        out.write(text)
+    with open(f'{path}/manifest.toml', 'w') as out:
+        out.write('package = "a"\ndex_files = 1\n')
+        if any(dex.types.get(dex.strings.get(MAIN)) == row[0] for row in dex.classes):
+            out.write(f'[[component]]\nkind = "activity"\nclass = "{MAIN}"\n')
+    for name in ['layouts.toml', 'declaration.toml']:
+        open(f'{path}/{name}', 'w').close()
+    shutil.copy(f'{here}/../examples/lists.toml', f'{path}/lists.toml')
+    return path, len(text)
+
+
+def limits():
+    resource.setrlimit(resource.RLIMIT_CPU, (SECONDS, SECONDS))
+    resource.setrlimit(resource.RLIMIT_AS, (BYTES, BYTES))
+    resource.setrlimit(resource.RLIMIT_CORE, (0, 0))
+
+
+def run(program, path):
+    """Seconds of processor time, bytes at the peak, and what was said."""
+    child = subprocess.Popen([program, 'check', path, '1'], stdout=subprocess.PIPE, stderr=subprocess.DEVNULL, preexec_fn=limits)
+    said = child.stdout.read()
+    _, status, used = os.wait4(child.pid, 0)
+    lines = said.decode(errors='replace').splitlines()
+    ended = f'signal {os.WTERMSIG(status)}' if os.WIFSIGNALED(status) else f'status {os.WEXITSTATUS(status)}'
+    return used.ru_utime + used.ru_stime, used.ru_maxrss * 1024, f'{ended} {lines[0][:60] if lines else ""}'
+
+
+def made(folder, name, n):
+    """Makes the app in a process of its own: a program's peak counts what the process held that starts it."""
+    with multiprocessing.get_context('fork').Pool(1) as pool:
+        return pool.apply(make_app, (folder, name, n))
+
+
+def make_app(folder, name, n):
+    return folder_of(folder, f'{name}_{n}', CASES[name][1](n))
+
+
+def measure(program, folder, names):
+    for name in names or CASES:
+        size = CASES[name][0]
+        before = None
+        for n in [size, 2 * size]:
+            path, length = made(folder, name, n)
+            seconds, memory, said = run(program, path)
+            ratio = '' if before is None else f' (x{seconds / before[0]:.1f}, x{memory / before[1]:.1f})'
+            before = seconds, memory
+            print(f'{name} {n}, {length} bytes: {seconds:.1f} s, {memory / 1e6:.0f} MB{ratio}  {said}', flush=True)
+            shutil.rmtree(path)
+
+
+measure(sys.argv[1], sys.argv[2], sys.argv[3:])
