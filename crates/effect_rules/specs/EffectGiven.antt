@@ -147,3 +147,9 @@ effect_given app hits (MethodEffect b s p l) = method_gives app hits b s p l
 effect_given app hits (CalledBy b n) = flat_map (called_has b n) (hits (MethodEffectsOf b))
 effect_given app hits (Live c state) = live_gives hits c state
 effect_given app hits _ = []
+
+-- each rule has an effect among its premises, and is led by it
+abbrev pub effect_leads : App → (Key → List Row) → Row → List Conclusion
+effect_leads app hits (Effect n t p l) = effect_given app hits (Effect n t p l)
+effect_leads app hits (MethodEffect b s p l) = effect_given app hits (MethodEffect b s p l)
+effect_leads app hits _ = []

@@ -29,6 +29,16 @@ event_given app lists hits (ExitPoints b how s) = exit_points_give hits b how s
 event_given app lists hits (ExitTaint b how p l) = exit_taint_gives hits b how p l
 event_given app lists hits _ = []
 
+-- 43 alone is led by the handed object and by its label, 45 by the event that is reached, 46 by the object that it returns
+abbrev pub event_leads : App → Lists → (Key → List Row) → Row → List Conclusion
+event_leads app lists hits (Live c state) = event_given app lists hits (Live c state)
+event_leads app lists hits (CompTaint c state p l) = event_given app lists hits (CompTaint c state p l)
+event_leads app lists hits (Handed s) = handed_on app lists (object_of s There)
+event_leads app lists hits (HandedTaint s p l) = handed_on app lists (object_of s (Leads p l))
+event_leads app lists hits (Reached n) = event_given app lists hits (Reached n)
+event_leads app lists hits (ExitPoints b how s) = event_given app lists hits (ExitPoints b how s)
+event_leads app lists hits _ = []
+
 -- app and lists are sound, and their events by number are those of the machine
 pub record EventsReady (app : App) (lists : Lists) : Type 0 where
   pub sound_app : SoundApp app

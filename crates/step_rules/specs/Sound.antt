@@ -33,7 +33,7 @@ use Rattle.std.specs.List.{AllByRecursion}
 use Rattle.vet_base.proofs.Every.{each_append, each_map, each_flat, each_where, each_unless}
 use Rattle.rule_ground.specs.Below.{each_below}
 use Rattle.rule_ground.specs.Listing.{one, first, second, each_sound, all_sound, holds_in, at_hit, of_hits}
-use Rattle.step_rules.specs.StepGiven.{step_here, goes_on, made, reads, reads_on, reader_gives, is_reader, readers_at, readers_in, static_on, static_gives, statics_read, reached_on, keeps, thrown, passes, put_gives, puts, content_on, put_on_gives, got_gives, object_gives, points_on, is_bare, rest_gives, label_gives, taint_on, gets, gets_on, getter_gives, cell_gives, step_given}
+use Rattle.step_rules.specs.StepGiven.{step_here, goes_on, made, reads, reads_on, reader_gives, is_reader, readers_at, readers_in, static_on, static_gives, statics_read, reached_on, keeps, thrown, passes, put_gives, puts, content_alone, put_on_gives, got_gives, object_gives, points_on, is_bare, rest_gives, label_gives, taint_on, gets, gets_on, getter_gives, cell_gives, step_given}
 use Rattle.step_rules.specs.Lifted.{act_of, next_of, catch_of, keep, caught, moved, resulted, excepted, put_in, from_static, to_static, threw, threw_out, returned}
 
 bare_is : (ks : List KeyId) → length ks == 0 ≡ true → ks ≡ []
@@ -137,11 +137,9 @@ module _ (app : App) (has : Row → Type 0) (hits : Key → List Row) (law : (k 
         )))
     puts_sound v r p _ e = tt
 
-    content_sound : (v : Content) (r : ℕ) → has (held v n r) → AllByRecursion (Sound (held v n r)) (content_on hits step n r v)
+    content_sound : (v : Content) (r : ℕ) → has (held v n r) → AllByRecursion (Sound (held v n r)) (content_alone step n r v)
     content_sound v r p =
-        let P = Sound (held v n r) in
-        each_append P (keeps step n r v) (passes step.act step.next step.catches n r v ++ puts hits step.act n r v) (keeps_sound v r p)
-        (each_append P (passes step.act step.next step.catches n r v) (puts hits step.act n r v) (passes_sound v r p step.act refl) (puts_sound v r p step.act refl))
+        each_append (Sound (held v n r)) (keeps step n r v) (passes step.act step.next step.catches n r v) (keeps_sound v r p) (passes_sound v r p step.act refl)
 
     object_sound : (r : ℕ) (s : Site) → has (Points n r s) → (a : Act) → step.act ≡ a →
         AllByRecursion (Sound (Points n r s)) (object_gives hits a step.next n r s)
@@ -215,15 +213,23 @@ module _ (app : App) (has : Row → Type 0) (hits : Key → List Row) (law : (k 
       AllByRecursion (Sound (Points n r s)) (points_on o hits n r s)
   points_sound n r s p None e = tt
   points_sound n r s p (Some step) e =
-      each_append (Sound (Points n r s)) (content_on hits step n r (Object s)) (object_gives hits step.act step.next n r s)
-      (content_sound n step e (Object s) r p) (object_sound n step e r s p step.act refl)
+      let P = Sound (Points n r s) in
+      let alone = content_alone step n r (Object s) in
+      let object = object_gives hits step.act step.next n r s in
+      each_append P (alone ++ object) (puts hits step.act n r (Object s))
+      (each_append P alone object (content_sound n step e (Object s) r p) (object_sound n step e r s p step.act refl))
+      (puts_sound n step e (Object s) r p step.act refl)
 
   taint_sound : (n : Node) (r : ℕ) (p : Path) (l : ℕ) → has (Taint n r p l) → (o : Option Step) → step_here app n ≡ o →
       AllByRecursion (Sound (Taint n r p l)) (taint_on o hits n r p l)
   taint_sound n r p l h None e = tt
   taint_sound n r p l h (Some step) e =
-      each_append (Sound (Taint n r p l)) (content_on hits step n r (Label p l)) (label_gives step.act step.next n r p l)
-      (content_sound n step e (Label p l) r h) (label_sound n step e r p l h step.act refl)
+      let P = Sound (Taint n r p l) in
+      let alone = content_alone step n r (Label p l) in
+      let label = label_gives step.act step.next n r p l in
+      each_append P (alone ++ label) (puts hits step.act n r (Label p l))
+      (each_append P alone label (content_sound n step e (Label p l) r h) (label_sound n step e r p l h step.act refl))
+      (puts_sound n step e (Label p l) r h step.act refl)
 
   reads_on_sound : (P : Conclusion → Type 0) (n : Node) (g : ℕ) (v : Content) →
       ((x : Row) → LocalRule app 9 (Reached n ∷ held_static v g ∷ []) x → P (concludes 9 (Two (Reached n) (held_static v g)) x)) →

@@ -115,9 +115,9 @@ abbrev pub puts : (Key → List Row) → Act → Node → ℕ → Content → Li
 puts hits (act.Put o k x) n r v = cond (x == r) (flat_map (put_gives n k r v) (hits (PointsAt n o))) []
 puts hits _ n r v = []
 
--- what either kind of content gives
-abbrev pub content_on : (Key → List Row) → Step → Node → ℕ → Content → List Conclusion
-content_on hits step n r v = keeps step n r v ++ (passes step.act step.next step.catches n r v ++ puts hits step.act n r v)
+-- what either kind of content gives alone
+abbrev pub content_alone : Step → Node → ℕ → Content → List Conclusion
+content_alone step n r v = keeps step n r v ++ passes step.act step.next step.catches n r v
 
 -- 8, from the object: what the value's register holds.
 abbrev pub put_on_gives : Node → KeyId → ℕ → Site → Row → List Conclusion
@@ -138,9 +138,14 @@ object_gives hits (act.Put o k x) next n r s =
     cond (o == r) (flat_map (put_on_gives n k r s) (hits (PointsAt n x)) ++ flat_map (put_on_gives n k r s) (hits (TaintsAt n x))) []
 object_gives hits _ next n r s = []
 
+abbrev pub points_lead : Option Step → (Key → List Row) → Node → ℕ → Site → List Conclusion
+points_lead None hits n r s = []
+points_lead (Some step) hits n r s = content_alone step n r (Object s) ++ object_gives hits step.act step.next n r s
+
+-- the same with 8 as the value that is put
 abbrev pub points_on : Option Step → (Key → List Row) → Node → ℕ → Site → List Conclusion
 points_on None hits n r s = []
-points_on (Some step) hits n r s = content_on hits step n r (Object s) ++ object_gives hits step.act step.next n r s
+points_on (Some step) hits n r s = points_lead (Some step) hits n r s ++ puts hits step.act n r (Object s)
 
 -- whether there are no keys
 abbrev pub is_bare : Path → Bool
@@ -157,9 +162,14 @@ label_gives (act.Fill xs class) next n r p l = cond (holds xs r) (at_each 6 (One
 label_gives (act.Get ds o k) next n r p l = cond (o == r) (rest_gives (rest p k) ds next n r p l) []
 label_gives _ next n r p l = []
 
+abbrev pub taint_leads : Option Step → Node → ℕ → Path → ℕ → List Conclusion
+taint_leads None n r p l = []
+taint_leads (Some step) n r p l = content_alone step n r (Label p l) ++ label_gives step.act step.next n r p l
+
+-- the same with 8 as the value that is put
 abbrev pub taint_on : Option Step → (Key → List Row) → Node → ℕ → Path → ℕ → List Conclusion
 taint_on None hits n r p l = []
-taint_on (Some step) hits n r p l = content_on hits step n r (Label p l) ++ label_gives step.act step.next n r p l
+taint_on (Some step) hits n r p l = taint_leads (Some step) n r p l ++ puts hits step.act n r (Label p l)
 
 -- 7, from the cell: each register that may hold the object.
 abbrev pub gets : Act → List ℕ → Node → ℕ → Site → KeyId → Site → List Conclusion
@@ -175,8 +185,11 @@ getter_gives app s k t (Points n r u) = gets_on (step_here app n) n r s k t
 getter_gives app s k t _ = []
 
 -- 7, 13. What a cell gives.
+abbrev pub back_gives : Site → KeyId → Site → Conclusion
+back_gives s k t = concludes 13 (One (Cell s k t)) (Back t k s)
+
 abbrev pub cell_gives : App → (Key → List Row) → Site → KeyId → Site → List Conclusion
-cell_gives app hits s k t = concludes 13 (One (Cell s k t)) (Back t k s) ∷ flat_map (getter_gives app s k t) (hits (PointsTo s))
+cell_gives app hits s k t = back_gives s k t ∷ flat_map (getter_gives app s k t) (hits (PointsTo s))
 
 abbrev pub step_given : App → (Key → List Row) → Row → List Conclusion
 step_given app hits (Reached n) = reached_on (step_here app n) hits n
@@ -186,3 +199,11 @@ step_given app hits (Cell s k t) = cell_gives app hits s k t
 step_given app hits (StaticPoints g s) = static_on app hits g (Object s)
 step_given app hits (StaticTaint g p l) = static_on app hits g (Label p l)
 step_given app hits _ = []
+
+-- 9 is led by the node that is reached, 7 and 8 by the object's register
+abbrev pub step_leads : App → (Key → List Row) → Row → List Conclusion
+step_leads app hits (Reached n) = reached_on (step_here app n) hits n
+step_leads app hits (Points n r s) = points_lead (step_here app n) hits n r s
+step_leads app hits (Taint n r p l) = taint_leads (step_here app n) n r p l
+step_leads app hits (Cell s k t) = back_gives s k t ∷ []
+step_leads app hits _ = []

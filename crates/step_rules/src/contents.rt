@@ -1,6 +1,6 @@
 //! Rules 2, 3, 8 and 10 to 12: what follows from a register, whatever it holds.
 ghost use Rattle.std.specs.Prelude.{◌≡◌, OnOk, fold};
-ghost use Rattle.step_rules.specs.StepGiven.{keeps, passes, thrown, put_gives, puts, content_on};
+ghost use Rattle.step_rules.specs.StepGiven.{keeps, passes, thrown, put_gives, puts, content_alone};
 
 use crate::{EXCEPTION, RESULT};
 use app_machine::{Act, Step};
@@ -163,7 +163,7 @@ impl Join for IntoObject {
 }
 
 /// The content goes into the objects of a put.
-fn put<F: Facts, S: Sink>(
+pub fn put<F: Facts, S: Sink>(
     facts: &F,
     act: &Act,
     node: Node,
@@ -191,18 +191,16 @@ fn put<F: Facts, S: Sink>(
     }
 }
 
-/// What follows from the register that holds the content.
-pub fn content<F: Facts, S: Sink>(
-    facts: &F,
+/// What follows from the register that holds the content alone.
+pub fn content<S: Sink>(
     step: &Step,
     node: Node,
     register: u32,
     content: Content,
     out: &mut S,
 ) -> Result<(), S::Refusal>
-    ensures { OnOk result (out.new ≡ fold S.then out.old (content_on (F.hits facts.now) step.now node register content)) }
+    ensures { OnOk result (out.new ≡ fold S.then out.old (content_alone step.now node register content)) }
 {
     keep(step, node, register, content, out)?;
-    pass(step, node, register, content, out)?;
-    put(facts, &step.act, node, register, content, out)
+    pass(step, node, register, content, out)
 }

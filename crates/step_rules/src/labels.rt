@@ -1,10 +1,10 @@
 //! Rules 4, 6 and 7: what follows from the labels of a register.
 ghost use Rattle.std.specs.Prelude.{◌≡◌, OnOk, fold};
 ghost use Rattle.app_machine.specs.Sound.{SoundApp};
-ghost use Rattle.step_rules.specs.StepGiven.{is_bare, rest_gives, label_gives, taint_on, step_here};
+ghost use Rattle.step_rules.specs.StepGiven.{is_bare, rest_gives, label_gives, taint_leads, taint_on, step_here};
 
 use crate::RESULT;
-use crate::contents::content;
+use crate::contents::{content, put};
 use access_path::{Path, cut, rest};
 use app_machine::{Act, App, Step};
 use app_model::step_at;
@@ -104,6 +104,27 @@ fn label_alone<S: Sink>(
     }
 }
 
+/// What a register leads that may lead to a label: what follows from it alone.
+pub fn lead_taint<S: Sink>(
+    app: &App,
+    node: Node,
+    register: u32,
+    path: Path,
+    label: u8,
+    out: &mut S,
+) -> Result<(), S::Refusal>
+    requires { SoundApp app.now }
+    ensures { OnOk result (out.new ≡ fold S.then out.old (taint_leads (step_here app.now node) node register path label)) }
+{
+    match step_at(app, node.by.method, node.pc) {
+        None => Ok(()),
+        Some(step) => {
+            content(step, node, register, Content::Label(path, label), out)?;
+            label_alone(step, node, register, path, label, out)
+        }
+    }
+}
+
 /// What follows where a register may lead to a label.
 pub fn taint<F: Facts, S: Sink>(
     app: &App,
@@ -120,15 +141,10 @@ pub fn taint<F: Facts, S: Sink>(
     match step_at(app, node.by.method, node.pc) {
         None => Ok(()),
         Some(step) => {
-            content(
-                facts,
-                step,
-                node,
-                register,
-                Content::Label(path, label),
-                out,
-            )?;
-            label_alone(step, node, register, path, label, out)
+            let held = Content::Label(path, label);
+            content(step, node, register, held, out)?;
+            label_alone(step, node, register, path, label, out)?;
+            put(facts, &step.act, node, register, held, out)
         }
     }
 }

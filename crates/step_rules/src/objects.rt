@@ -1,9 +1,9 @@
 //! Rules 6 to 8 and 13: what follows from the objects of a register and of an object.
 ghost use Rattle.std.specs.Prelude.{◌≡◌, OnOk, fold};
 ghost use Rattle.app_machine.specs.Sound.{SoundApp};
-ghost use Rattle.step_rules.specs.StepGiven.{got_gives, put_on_gives, object_gives, points_on, gets, getter_gives, cell_gives, step_here};
+ghost use Rattle.step_rules.specs.StepGiven.{got_gives, put_on_gives, object_gives, points_lead, points_on, gets, getter_gives, back_gives, cell_gives, step_here};
 
-use crate::contents::content;
+use crate::contents::{content, put};
 use app_machine::{Act, App, Step};
 use app_model::step_at;
 use fact_rows::{Node, Row, Site};
@@ -133,6 +133,28 @@ fn object<F: Facts, S: Sink>(
     }
 }
 
+/// What a register leads that may hold an object of the site: what follows from it alone, and with
+/// what the object holds and what is put into it.
+pub fn lead_points<F: Facts, S: Sink>(
+    app: &App,
+    facts: &F,
+    node: Node,
+    register: u32,
+    site: Site,
+    out: &mut S,
+) -> Result<(), S::Refusal>
+    requires { SoundApp app.now }
+    ensures { OnOk result (out.new ≡ fold S.then out.old (points_lead (step_here app.now node) (F.hits facts.now) node register site)) }
+{
+    match step_at(app, node.by.method, node.pc) {
+        None => Ok(()),
+        Some(step) => {
+            content(step, node, register, Content::Object(site), out)?;
+            object(facts, step, node, register, site, out)
+        }
+    }
+}
+
 /// What follows where a register may hold an object of the site.
 pub fn points<F: Facts, S: Sink>(
     app: &App,
@@ -148,8 +170,10 @@ pub fn points<F: Facts, S: Sink>(
     match step_at(app, node.by.method, node.pc) {
         None => Ok(()),
         Some(step) => {
-            content(facts, step, node, register, Content::Object(site), out)?;
-            object(facts, step, node, register, site, out)
+            let held = Content::Object(site);
+            content(step, node, register, held, out)?;
+            object(facts, step, node, register, site, out)?;
+            put(facts, &step.act, node, register, held, out)
         }
     }
 }
@@ -215,6 +239,17 @@ impl<'a> Join for Getter<'a> {
     }
 }
 
+/// The held object is held by the other.
+pub fn back<S: Sink>(site: Site, key: KeyId, held: Site, out: &mut S) -> Result<(), S::Refusal>
+    ensures { OnOk result (out.new ≡ S.then out.old (back_gives site key held)) }
+{
+    out.put(Conclusion {
+        rule: 13,
+        premises: Premises::One(Row::Cell(site, key, held)),
+        row: Row::Back(held, key, site),
+    })
+}
+
 /// What follows where an object holds another.
 pub fn cell<F: Facts, S: Sink>(
     app: &App,
@@ -227,11 +262,7 @@ pub fn cell<F: Facts, S: Sink>(
     requires { SoundApp app.now }
     ensures { OnOk result (out.new ≡ fold S.then out.old (cell_gives app.now (F.hits facts.now) site key held)) }
 {
-    out.put(Conclusion {
-        rule: 13,
-        premises: Premises::One(Row::Cell(site, key, held)),
-        row: Row::Back(held, key, site),
-    })?;
+    back(site, key, held, out)?;
     for_each_hit(
         facts,
         &Key::PointsTo(site),
