@@ -19,15 +19,13 @@ use Rattle.fact_rows.specs.declared.site.Site.{Site}
 use Rattle.fact_rows.specs.declared.site.Site.TheVariants.{Component}
 use Rattle.fact_rows.specs.declared.row.Row.{Row}
 use Rattle.fact_rows.specs.declared.row.Row.TheVariants.{Points, Taint, Back, StaticPoints, StaticTaint, CalledBy, Effect, MethodEffect, Live, CompTaint, Handed, HandedTaint}
-use Rattle.fact_rows.specs.contracts.context.ActivationPartialEq.TheImpl.{ghosts as activation_eq}
-use Rattle.fact_rows.specs.contracts.context.ActivationEq.TheImpl.Laws.{laws-law as activation_laws}
 use Rattle.flow_rules.specs.Nodes.{at_pc, activation_in, GoesOn, CaughtAt}
 use Rattle.flow_rules.specs.Rules.{Each}
 use Rattle.flow_rules.specs.EffectRules.{EffectRule, IsEventBeside, lift_effect, effect_next, effect_caught, method_effect, caller_effect, effect_static, effect_handed, effect_own, effect_other}
 use Rattle.rule_ground.specs.declared.conclusion.Premises.TheVariants.{One, Two}
 use Rattle.rule_ground.specs.declared.conclusion.Conclusion.{Conclusion}
 use Rattle.rule_ground.specs.declared.key.Key.{Key}
-use Rattle.rule_ground.specs.declared.key.Key.TheVariants.{BacksOf, PointsOn, StaticsTo, HandedOf, EffectsOn, CallersOf, MethodEffectsOf, MethodEffectsOn, LivesOf}
+use Rattle.rule_ground.specs.declared.key.Key.TheVariants.{BacksOf, PointsOn, StaticsTo, HandedOf, EffectsOn, EffectsIn, CallersOf, MethodEffectsOf, MethodEffectsOn, LivesOf}
 use Rattle.rule_ground.specs.Given.{concludes}
 use Rattle.rule_ground.specs.Hits.{IsHits, Under}
 use Rattle.rule_ground.specs.Exact.{IsListed}
@@ -90,9 +88,8 @@ module _ (app : App) (has : Row → Type 0) (hits : Key → List Row) (law : (k 
       In (concludes 15 (Two (Effect n t p l) (Points (at_pc n pc) z t)) (Taint (at_pc n pc) z p l)) (given (Points (at_pc n pc) z t))
   take_in n t p l pc z step there comes q =
       let c = concludes 15 (Two (Effect n t p l) (Points (at_pc n pc) z t)) (Taint (at_pc n pc) z p l) in
-      found has hits law (EffectsOn t) (points_take app (at_pc n pc) z t) (Effect n t p l) c q (n, (p, (l, refl)))
-      (in_where c (activation_eq.eq n.by n.by) (back_on (step_here app n) pc c) (activation_laws.refl n.by)
-      (subst (λ o. In c (back_on o pc c)) (sym there) (in_where c (holds step.next pc || holds step.catches pc) (c ∷ []) comes (inl refl))))
+      found has hits law (EffectsIn n.by t) (points_take app (at_pc n pc) z t) (Effect n t p l) c q (n, (p, (l, (refl, refl))))
+      (subst (λ o. In c (back_on o pc c)) (sym there) (in_where c (holds step.next pc || holds step.catches pc) (c ∷ []) comes (inl refl)))
 
   pub effects_complete : (row : Row) (rule : ℕ) (premises : List Row) (x : Row) → EffectRule app rule premises x → Each has premises →
       In row premises → IsListed (given row) rule premises x

@@ -17,12 +17,11 @@ use Rattle.fact_rows.specs.declared.site.Site.{Site}
 use Rattle.fact_rows.specs.declared.site.Site.TheVariants.{Component}
 use Rattle.fact_rows.specs.declared.row.Row.{Row}
 use Rattle.fact_rows.specs.declared.row.Row.TheVariants.{Points, Taint, Back, StaticPoints, StaticTaint, CalledBy, Effect, MethodEffect, Live, CompTaint, Handed, HandedTaint}
-use Rattle.fact_rows.specs.contracts.context.ActivationPartialEq.TheImpl.{ghosts as activation_eq}
 use Rattle.flow_rules.specs.Nodes.{at_pc}
 use Rattle.rule_ground.specs.declared.conclusion.Premises.TheVariants.{One, Two}
 use Rattle.rule_ground.specs.declared.conclusion.Conclusion.{Conclusion}
 use Rattle.rule_ground.specs.declared.key.Key.{Key}
-use Rattle.rule_ground.specs.declared.key.Key.TheVariants.{BacksOf, PointsOn, StaticsTo, HandedOf, EffectsOn, CallersOf, MethodEffectsOf, MethodEffectsOn, LivesOf}
+use Rattle.rule_ground.specs.declared.key.Key.TheVariants.{BacksOf, PointsOn, StaticsTo, HandedOf, EffectsOn, EffectsIn, CallersOf, MethodEffectsOf, MethodEffectsOn, LivesOf}
 use Rattle.rule_ground.specs.Given.{concludes}
 
 -- the step at a node
@@ -70,9 +69,7 @@ back_on None pc c = []
 back_on (Some step) pc c = cond (holds step.next pc || holds step.catches pc) (c ∷ []) []
 
 abbrev pub points_take : App → Node → ℕ → Site → Row → List Conclusion
-points_take app m z s (Effect n u p l) =
-    cond (activation_eq.eq n.by m.by)
-    (back_on (step_here app n) m.pc (concludes 15 (Two (Effect n u p l) (Points m z s)) (Taint m z p l))) []
+points_take app m z s (Effect n u p l) = back_on (step_here app n) m.pc (concludes 15 (Two (Effect n u p l) (Points m z s)) (Taint m z p l))
 points_take app m z s _ = []
 
 abbrev pub static_takes : ℕ → Site → Row → List Conclusion
@@ -140,7 +137,7 @@ live_gives hits c state = cond (state == 0) [] (flat_map (live_takes c state) (h
 abbrev pub effect_given : App → (Key → List Row) → Row → List Conclusion
 effect_given app hits (Effect n t p l) = effect_gives app hits n t p l
 effect_given app hits (Back t k s) = flat_map (back_lifts t k s) (hits (EffectsOn t))
-effect_given app hits (Points m z s) = flat_map (points_take app m z s) (hits (EffectsOn s))
+effect_given app hits (Points m z s) = flat_map (points_take app m z s) (hits (EffectsIn m.by s))
 effect_given app hits (StaticPoints g s) = flat_map (static_takes g s) (hits (EffectsOn s))
 effect_given app hits (Handed s) = flat_map (handed_takes s) (hits (EffectsOn s))
 effect_given app hits (MethodEffect b s p l) = method_gives app hits b s p l

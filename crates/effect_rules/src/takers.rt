@@ -75,19 +75,12 @@ impl<'a> Join for Register<'a> {
     fn give<S: Sink>(&self, row: Row, out: &mut S) -> Result<(), S::Refusal> {
         match row {
             Row::Effect(node, _, path, label) => {
-                if node.by == self.node.by {
-                    let found = Conclusion {
-                        rule: 15,
-                        premises: Premises::Two(
-                            row,
-                            Row::Points(self.node, self.register, self.site),
-                        ),
-                        row: Row::Taint(self.node, self.register, path, label),
-                    };
-                    comes(self.app, node, self.node.pc, found, out)
-                } else {
-                    Ok(())
-                }
+                let found = Conclusion {
+                    rule: 15,
+                    premises: Premises::Two(row, Row::Points(self.node, self.register, self.site)),
+                    row: Row::Taint(self.node, self.register, path, label),
+                };
+                comes(self.app, node, self.node.pc, found, out)
             }
             _ => Ok(()),
         }

@@ -1,7 +1,6 @@
 -- What follows is listed, and led by one of its premises.
 use Rattle.std.proofs.Common.{◌≡◌, ◌==◌, ℕ, Bool, true, false, ◌&&◌, List, [], ◌∷◌, ◌++◌, Option, Some, None, cond, map, length, find, flat_map, slice_get, IsFalse, refl, sym, ap, subst, ◌∙◌, inl, inr}
 use Rattle.std.proofs.lemmas.Bool.{and_from, eqb-true}
-use Rattle.std.proofs.lemmas.Option.{slice_get_within}
 use Rattle.vet_base.specs.declared.key_id.KeyId.{KeyId}
 use Rattle.access_path.specs.declared.path.Path.{Path}
 use Rattle.access_path.specs.Paths.{keys_of, cut, rest, empty_path}
@@ -34,9 +33,10 @@ use Rattle.rule_ground.specs.Exact.{IsListed}
 use Rattle.rule_ground.specs.Leading.{listed_in}
 use Rattle.vet_base.proofs.Members.{in_front, in_back, in_map, in_flat, in_found, found_passes}
 use Rattle.vet_base.proofs.Every.{in_where, in_unless}
-use Rattle.rule_ground.specs.Below.{in_below}
+use Rattle.static_readers.specs.Readers.{is_read, reader, readers_of}
+use Rattle.static_readers.specs.ReaderLaws.{is_reader}
 use Rattle.rule_ground.specs.Listing.{here, only, either, in_each, in_all, in_holds, itself, found}
-use Rattle.step_rules.specs.StepGiven.{step_here, step_leads, points_lead, taint_leads, goes_on, made, reads, reads_on, reader_gives, is_reader, readers_at, readers_in, static_on, static_gives, statics_read, reached_on, keeps, thrown, passes, put_gives, puts, content_alone, put_on_gives, got_gives, object_gives, points_on, is_bare, rest_gives, label_gives, taint_on, gets, gets_on, getter_gives, cell_gives, step_given}
+use Rattle.step_rules.specs.StepGiven.{step_here, step_leads, points_lead, taint_leads, goes_on, made, reads, reads_on, reader_gives, reader_takes, static_on, static_gives, statics_read, reached_on, keeps, thrown, passes, put_gives, puts, content_alone, put_on_gives, got_gives, object_gives, points_on, is_bare, rest_gives, label_gives, taint_on, gets, gets_on, getter_gives, cell_gives, step_given}
 use Rattle.step_rules.specs.Lifted.{next_in, catch_in}
 
 bare_of : (p : Path) → keys_of p ≡ [] → is_bare p ≡ true
@@ -275,15 +275,13 @@ module _ (app : App) (has : Row → Type 0) (hits : Key → List Row) (law : (k 
       has (Reached n) → IsListed (given (held_static v g)) 9 (Reached n ∷ held_static v g ∷ []) (held v (at_pc n pc) d)
   read_static v n pc g d ds h i k p =
       let c = concludes 9 (Two (Reached n) (held_static v g)) (held v (at_pc n pc) d) in
-      let f : ℕ → List Conclusion = λ method. readers_in app hits g v method (slice_get app.methods method) in
       let at = step_stands app n h.step h.there in
+      let reads_it : is_read h.step.act g ≡ true = ap (λ a. is_read a g) h.same ∙ itself g in
       here given (held_static v g) 9 (Two (Reached n) (held_static v g)) (held v (at_pc n pc) d)
-      (at_static v g c (in_below c f n.by.method (length app.methods) (slice_get_within app.methods n.by.method at.method at.there)
-      (subst (λ o. In c (readers_in app hits g v n.by.method o)) (sym at.there)
-      (in_flat (readers_at app hits g v n.by.method) at.method.steps h.step c at.is_step
-      (in_where c (is_reader h.step.act g) (flat_map (reader_gives app g v) (hits (ReachedAt n.by.method h.step.pc))) (ap (λ a. is_reader a g) h.same ∙ itself g)
+      (at_static v g c
+      (in_flat (reader_takes app hits g v) (readers_of app g) (reader n.by.method h.step) c (is_reader app g n.by.method at.method h.step at.there at.is_step reads_it)
       (found has hits law (ReachedAt n.by.method h.step.pc) (reader_gives app g v) (Reached n) c p (n, (refl, (sym at.same_pc, refl)))
-      (subst (λ z. In c (reads_on z n g v)) (sym h.there) (subst (λ z. In c (reads z h.step.next n g v)) (sym h.same) (read_by v n pc g d ds h i k)))))))))
+      (subst (λ z. In c (reads_on z n g v)) (sym h.there) (subst (λ z. In c (reads z h.step.next n g v)) (sym h.same) (read_by v n pc g d ds h i k))))))
 
   -- 5
   made_here : (n : Node) (pc r : ℕ) (a : Act) (h : Acts app n a) →

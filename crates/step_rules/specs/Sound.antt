@@ -1,12 +1,11 @@
 -- What is listed follows.
-use Rattle.std.proofs.Common.{◌≡◌, ◌==◌, ℕ, suc, arith, Bool, true, false, ◌&&◌, List, [], ◌∷◌, ◌++◌, Option, Some, None, cond, map, length, flat_map, slice_get, IsFalse, eqb-true, refl, sym, ap, subst}
+use Rattle.std.proofs.Common.{◌≡◌, ◌==◌, ℕ, suc, arith, Bool, true, false, ◌&&◌, List, [], ◌∷◌, ◌++◌, Option, Some, None, cond, map, length, flat_map, IsFalse, eqb-true, refl, sym, ap, subst}
 use Rattle.std.proofs.lemmas.Bool.{and_parts}
 use Rattle.vet_base.specs.declared.key_id.KeyId.{KeyId}
 use Rattle.access_path.specs.declared.path.Path.{Path}
 use Rattle.access_path.specs.Paths.{keys_of, cut, rest, empty_path}
 use Rattle.app_machine.specs.declared.method.Act.{Act}
 use Rattle.app_machine.specs.declared.method.Act.TheVariants as act
-use Rattle.app_machine.specs.declared.method.Method.{Method}
 use Rattle.app_machine.specs.declared.method.Step.{Step}
 use Rattle.app_machine.specs.declared.app.App.{App}
 use Rattle.vet_base.specs.Members.{In}
@@ -31,9 +30,9 @@ use Rattle.rule_ground.specs.Hits.{IsHits}
 use Rattle.rule_ground.specs.Exact.{IsSound}
 use Rattle.std.specs.List.{AllByRecursion}
 use Rattle.vet_base.proofs.Every.{each_append, each_map, each_flat, each_where, each_unless}
-use Rattle.rule_ground.specs.Below.{each_below}
+use Rattle.static_readers.specs.Readers.{readers_of}
 use Rattle.rule_ground.specs.Listing.{one, first, second, each_sound, all_sound, holds_in, at_hit, of_hits}
-use Rattle.step_rules.specs.StepGiven.{step_here, goes_on, made, reads, reads_on, reader_gives, is_reader, readers_at, readers_in, static_on, static_gives, statics_read, reached_on, keeps, thrown, passes, put_gives, puts, content_alone, put_on_gives, got_gives, object_gives, points_on, is_bare, rest_gives, label_gives, taint_on, gets, gets_on, getter_gives, cell_gives, step_given}
+use Rattle.step_rules.specs.StepGiven.{step_here, goes_on, made, reads, reads_on, reader_gives, reader_takes, static_on, static_gives, statics_read, reached_on, keeps, thrown, passes, put_gives, puts, content_alone, put_on_gives, got_gives, object_gives, points_on, is_bare, rest_gives, label_gives, taint_on, gets, gets_on, getter_gives, cell_gives, step_given}
 use Rattle.step_rules.specs.Lifted.{act_of, next_of, catch_of, keep, caught, moved, resulted, excepted, put_in, from_static, to_static, threw, threw_out, returned}
 
 bare_is : (ks : List KeyId) → length ks == 0 ≡ true → ks ≡ []
@@ -239,21 +238,11 @@ module _ (app : App) (has : Row → Type 0) (hits : Key → List Row) (law : (k 
 
   static_sound : (g : ℕ) (v : Content) → has (held_static v g) → AllByRecursion (Sound (held_static v g)) (static_on app hits g v)
   static_sound g v p =
-      each_below P (λ method. readers_in app hits g v method (slice_get app.methods method)) (length app.methods)
-      (λ method lt. in_method method (slice_get app.methods method))
-    where
-      P : Conclusion → Type 0
-      P = Sound (held_static v g)
-
-      at_step : (method : ℕ) (step : Step) → AllByRecursion P (readers_at app hits g v method step)
-      at_step method step = each_where P (is_reader step.act g) (flat_map (reader_gives app g v) (hits (ReachedAt method step.pc))) (λ t.
-          of_hits has hits law P (ReachedAt method step.pc) (reader_gives app g v) (λ row i.
-          let u = (law (ReachedAt method step.pc)).under row i in
-          (Reached u.0, u.1.1.1, reads_on_sound P u.0 g v (λ x by. second R has by (at_hit has hits law _ row _ i u.1.1.1) p) (step_here app u.0) refl)))
-
-      in_method : (method : ℕ) (o : Option Method) → AllByRecursion P (readers_in app hits g v method o)
-      in_method method None = tt
-      in_method method (Some m) = each_flat P (readers_at app hits g v method) m.steps (λ step i. at_step method step)
+      let P : Conclusion → Type 0 = Sound (held_static v g) in
+      each_flat P (reader_takes app hits g v) (readers_of app g) (λ reader there.
+      of_hits has hits law P (ReachedAt reader.method reader.pc) (reader_gives app g v) (λ row i.
+      let u = (law (ReachedAt reader.method reader.pc)).under row i in
+      (Reached u.0, u.1.1.1, reads_on_sound P u.0 g v (λ x by. second R has by (at_hit has hits law _ row _ i u.1.1.1) p) (step_here app u.0) refl)))
 
   gets_on_sound : (P : Conclusion → Type 0) (n : Node) (r : ℕ) (s : Site) (k : KeyId) (t : Site) →
       ((x : Row) → LocalRule app 7 (Points n r s ∷ Cell s k t ∷ []) x → P (concludes 7 (Two (Points n r s) (Cell s k t)) x)) →

@@ -1,11 +1,10 @@
 -- What a row gives by the rules of steps, as a list of conclusions.
-use Rattle.std.specs.Prelude.{◌==◌, ◌&&◌, ℕ, Bool, true, false, List, [], ◌∷◌, ◌++◌, length, Option, Some, None, cond, map, flat_map, slice_get}
+use Rattle.std.specs.Prelude.{◌==◌, ◌&&◌, ℕ, Bool, true, false, List, [], ◌∷◌, ◌++◌, length, Option, Some, None, cond, map, flat_map}
 use Rattle.vet_base.specs.declared.key_id.KeyId.{KeyId}
 use Rattle.access_path.specs.declared.path.Path.{Path}
 use Rattle.access_path.specs.Paths.{keys_of, cut, rest, empty_path}
 use Rattle.app_machine.specs.declared.method.Act.{Act}
 use Rattle.app_machine.specs.declared.method.Act.TheVariants as act
-use Rattle.app_machine.specs.declared.method.Method.{Method}
 use Rattle.app_machine.specs.declared.method.Step.{Step}
 use Rattle.app_machine.specs.declared.app.App.{App}
 use Rattle.app_machine.specs.Lookups.{step_at, elem_key}
@@ -25,8 +24,9 @@ use Rattle.rule_ground.specs.declared.content.Content.{Content}
 use Rattle.rule_ground.specs.declared.content.Content.TheVariants.{Object, Label}
 use Rattle.rule_ground.specs.declared.key.Key.{Key}
 use Rattle.rule_ground.specs.declared.key.Key.TheVariants.{PointsAt, TaintsAt, PointsTo, CellsOf, StaticPointsOf, StaticTaintsOf, ReachedAt}
-use Rattle.rule_ground.specs.Below.{for_below}
 use Rattle.rule_ground.specs.Given.{concludes, held, held_static, leaves, stored, at_each, to_all}
+use Rattle.static_readers.specs.declared.static_readers.Reader.{Reader}
+use Rattle.static_readers.specs.Readers.{readers_of}
 
 -- the step at a node
 abbrev pub step_here : App → Node → Option Step
@@ -55,20 +55,12 @@ abbrev pub reader_gives : App → ℕ → Content → Row → List Conclusion
 reader_gives app g v (Reached n) = reads_on (step_here app n) n g v
 reader_gives app g v _ = []
 
--- the same of each step of a method that reads the static, and of each method
-abbrev pub is_reader : Act → ℕ → Bool
-is_reader (act.GetStatic ds f) g = f == g
-is_reader _ g = false
-
-abbrev pub readers_at : App → (Key → List Row) → ℕ → Content → ℕ → Step → List Conclusion
-readers_at app hits g v method step = cond (is_reader step.act g) (flat_map (reader_gives app g v) (hits (ReachedAt method step.pc))) []
-
-abbrev pub readers_in : App → (Key → List Row) → ℕ → Content → ℕ → Option Method → List Conclusion
-readers_in app hits g v method None = []
-readers_in app hits g v method (Some m) = flat_map (readers_at app hits g v method) m.steps
+-- the same of the nodes at each step that reads the static
+abbrev pub reader_takes : App → (Key → List Row) → ℕ → Content → Reader → List Conclusion
+reader_takes app hits g v reader = flat_map (reader_gives app g v) (hits (ReachedAt reader.method reader.pc))
 
 abbrev pub static_on : App → (Key → List Row) → ℕ → Content → List Conclusion
-static_on app hits g v = for_below (λ method. readers_in app hits g v method (slice_get app.methods method)) (length app.methods)
+static_on app hits g v = flat_map (reader_takes app hits g v) (readers_of app g)
 
 abbrev pub static_gives : Act → List ℕ → Node → Row → List Conclusion
 static_gives act next n (StaticPoints g s) = reads act next n g (Object s)

@@ -1,13 +1,13 @@
 //! Rule 9: what a static holds goes to those that read it.
-ghost use Rattle.std.specs.Prelude.{◌≡◌, OnOk, fold, flat_map, length, slice_get};
-ghost use Rattle.std.specs.Option.{option_copied};
+ghost use Rattle.std.specs.Prelude.{◌≡◌, OnOk, fold, flat_map};
 ghost use Rattle.app_machine.specs.Sound.{SoundApp};
-ghost use Rattle.step_rules.specs.StepGiven.{reads, reader_gives, is_reader as reads_static, readers_at, readers_in, static_on, static_gives, statics_read};
+ghost use Rattle.step_rules.specs.StepGiven.{reads, reader_gives, reader_takes, static_on, static_gives, statics_read};
 
-use app_machine::{Act, App, Method, Step};
+use app_machine::{Act, App, Step};
 use app_model::step_at;
 use fact_rows::{Node, Row};
 use rule_ground::{Content, Facts, Join, Key, Premises, Sink, for_each_hit, put_all};
+use static_readers::{Reader, StaticReaders};
 
 /// The targets of a read of the static hold its content.
 fn read<S: Sink>(
@@ -122,76 +122,26 @@ pub fn read_statics<F: Facts, S: Sink>(
     }
 }
 
-/// Whether the act reads the static.
-fn is_reader(act: &Act, number: u32) -> bool
-    ensures { result ≡ reads_static act.now number }
-{
-    match act {
-        Act::GetStatic(_, own) => *own == number,
-        _ => false,
-    }
-}
-
-fn to_readers_at<F: Facts, S: Sink>(
+/// Each of the steps that read the static is asked for the nodes to which control comes there.
+fn to_readers<F: Facts, S: Sink>(
     facts: &F,
     with: &OfStatic<'_>,
-    method: u32,
-    step: &Step,
+    readers: &[Reader],
     out: &mut S,
 ) -> Result<(), S::Refusal>
     requires { SoundApp with.now.app.now }
-    ensures { OnOk result (out.new ≡ fold S.then out.old (readers_at with.now.app.now (F.hits facts.now) with.now.number with.now.content method step.now)) }
+    ensures { OnOk result (out.new ≡ fold S.then out.old (flat_map (reader_takes with.now.app.now (F.hits facts.now) with.now.number with.now.content) readers.now)) }
 {
-    if is_reader(&step.act, with.number) {
-        for_each_hit(facts, &Key::ReachedAt(method, step.pc), with, out)
-    } else {
-        Ok(())
-    }
-}
-
-fn to_readers_among<F: Facts, S: Sink>(
-    facts: &F,
-    with: &OfStatic<'_>,
-    method: u32,
-    steps: &[Step],
-    out: &mut S,
-) -> Result<(), S::Refusal>
-    requires { SoundApp with.now.app.now }
-    ensures { OnOk result (out.new ≡ fold S.then out.old (flat_map (readers_at with.now.app.now (F.hits facts.now) with.now.number with.now.content method) steps.now)) }
-{
-    for step in steps {
-        to_readers_at(facts, with, method, step, out)?;
+    for reader in readers {
+        let key = Key::ReachedAt(reader.method, reader.pc);
+        for_each_hit(facts, &key, with, out)?;
     }
     Ok(())
 }
 
-fn to_readers_in<F: Facts, S: Sink>(
-    facts: &F,
-    with: &OfStatic<'_>,
-    number: u32,
-    method: Option<&Method>,
-    out: &mut S,
-) -> Result<(), S::Refusal>
-    requires { SoundApp with.now.app.now }
-    ensures { OnOk result (out.new ≡ fold S.then out.old (readers_in with.now.app.now (F.hits facts.now) with.now.number with.now.content number (option_copied method.entry))) }
-{
-    match method {
-        None => Ok(()),
-        Some(method) => to_readers_among(facts, with, number, method.steps.as_slice(), out),
-    }
-}
-
-/// How many methods the app has.
-fn method_count(app: &App) -> u32
-    requires { SoundApp app.now }
-    ensures { result ≡ length app.now.methods }
-{
-    app.methods.len() as u32
-}
-
 /// What follows where the static holds the content.
 pub fn of_static<F: Facts, S: Sink>(
-    app: &App,
+    app: &StaticReaders<'_>,
     facts: &F,
     number: u32,
     content: Content,
@@ -201,12 +151,9 @@ pub fn of_static<F: Facts, S: Sink>(
     ensures { OnOk result (out.new ≡ fold S.then out.old (static_on app.now (F.hits facts.now) number content)) }
 {
     let with = OfStatic {
-        app,
+        app: app.app(),
         number,
         content,
     };
-    for method in 0..method_count(app) {
-        to_readers_in(facts, &with, method, app.methods.get(method as usize), out)?;
-    }
-    Ok(())
+    to_readers(facts, &with, app.readers(number), out)
 }
