@@ -1,0 +1,5 @@
+pub mod CallFacts
+pub mod EventFacts
+pub mod LibraryFacts
+pub mod Smallest
+pub mod StepFacts
