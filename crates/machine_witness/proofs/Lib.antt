@@ -10,4 +10,6 @@ pub mod Framing
 pub mod General
 pub mod Leaking
 pub mod Looking
+pub mod Resulting
+pub mod Standing
 pub mod Storing

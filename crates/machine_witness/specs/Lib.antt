@@ -3,4 +3,6 @@ pub mod Apps
 pub mod Ends
 pub mod Flows
 pub mod Frames
+pub mod Results
+pub mod Standing
 pub mod Witnesses

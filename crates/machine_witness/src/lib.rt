@@ -2,6 +2,8 @@
 //! over the definitions alone, so that a slip in a definition shows.
 #![tactic(auto)]
 
+ghost use Rattle.machine_witness.specs.Results.{EachResultComes, ClassesStandBelow};
+ghost use Rattle.machine_witness.specs.Standing.{StandsWhereNothingIsKnown, InitialisersComeFirst};
 ghost use Rattle.machine_witness.specs.Witnesses.{
   StrongUpdateForgets,
   ElementsStay,
@@ -132,4 +134,27 @@ pub fn leaking_apps_are_not_safe()
 /// registers.
 pub fn frames_come_and_go()
     ensures { FramesStep }
+{}
+
+/// A library call gives a blank, an argument or a new labelled object, and goes by the name where
+/// the receiver has no place.
+pub fn each_result_of_the_library_comes()
+    ensures { EachResultComes }
+{}
+
+/// A class is below itself, `Object`, what it extends and what the lists have above it.
+pub fn classes_stand_below_their_types()
+    ensures { ClassesStandBelow }
+{}
+
+/// A state stands at a call without a row, at a reflective one, and before a native initialiser or
+/// event.
+pub fn a_state_stands_where_nothing_is_known()
+    ensures { StandsWhereNothingIsKnown }
+{}
+
+/// The class of a component may be initialised before the component is made, and an event whose
+/// body is native passes.
+pub fn an_initialiser_comes_first()
+    ensures { InitialisersComeFirst }
 {}

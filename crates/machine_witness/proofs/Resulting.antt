@@ -1,0 +1,168 @@
+-- Library calls by the kind of their result.
+use Rattle.std.proofs.Common.{◌≡◌, ℕ, zero, suc, List, [], ◌∷◌, ◌⊎◌, ◌↔◌, inl, inr, false, Option, Some, None, refl, ap, sym, ◌∙◌, subst}
+use Rattle.std.specs.Prelude.{length, ◌++◌}
+use Rattle.app_machine.specs.declared.call.CallKind.TheVariants.{Static, Virtual}
+use Rattle.app_machine.specs.declared.method.Act.TheVariants.{Call}
+use Rattle.app_machine.specs.declared.summary.Gives.TheVariants as gives
+use Rattle.app_machine.specs.declared.lists.SummaryId.TheVariants.{Row}
+use Rattle.app_machine.specs.declared.summary.Summary.{Summary}
+use Rattle.vet_base.specs.Members.{In, IsAt}
+use Rattle.app_machine.specs.Names.{is_void, is_reference, is_wide, is_array, object_class}
+use Rattle.app_machine.specs.Lookups.{step_at, target, find_body, up, method_of, class_named, is_by_receiver, lists_bare, all_above}
+use Rattle.app_machine.specs.Summaries.{library_key, summary, row_walk, library_classes, listed_above, listed_class, row_of, is_same, is_object, is_through, is_listed}
+use Rattle.app_machine.specs.Heap.{Object, blank}
+use Rattle.app_machine.specs.State.{World, Frame}
+use Rattle.app_machine.specs.Calls.{by_name, by_nothing, hand}
+use Rattle.app_machine.specs.Library.{positions, value_at, Hands, all_there, as_blank, as_same, as_object, AreJoined, Library_call, Uses_row, joined_object}
+use Rattle.app_machine.specs.Run.{calls_library}
+use Rattle.machine_witness.specs.Apps.{step, one_class}
+use Rattle.machine_witness.specs.Acts.{frame_at}
+use Rattle.machine_witness.specs.Flows.{box_class, row_of_method}
+use Rattle.machine_witness.specs.Results.{gives_blank, gives_same, gives_box, on_receiver, results_app, results_lists, EachResultComes, ClassesStandBelow}
+use Rattle.machine_witness.proofs.Acting.{act_of, next_of}
+use Rattle.machine_witness.proofs.Flowing.{same_arrivals, no_adds}
+use Rattle.std.proofs.lemmas.Option.{none-some}
+
+abbrev same_row : Summary
+same_row = record (row_of_method gives_same) { gives = gives.Same 0 }
+
+abbrev box_row : Summary
+box_row = record (row_of_method gives_box) { gives = gives.Joined []; source = Some 0 }
+
+abbrev receiver_row : Summary
+receiver_row = record (row_of_method on_receiver) { is_static = false }
+
+blank_used : (heap : List Object) (f : Frame) → Uses_row results_app results_lists heap f Static gives_blank [] (row_of_method gives_blank)
+unfolding results_app results_lists target find_body up method_of is_by_receiver library_key summary row_walk library_classes class_named listed_above listed_class row_of is_array
+blank_used heap f = record { class = box_class; goes = by_name refl refl; key = Row 0; is_key = refl; is_row = refl; plain = refl }
+
+same_used : (heap : List Object) (f : Frame) → Uses_row results_app results_lists heap f Static gives_same (1 ∷ []) same_row
+unfolding results_app results_lists target find_body up method_of is_by_receiver library_key summary row_walk library_classes class_named listed_above listed_class row_of is_array
+same_used heap f = record { class = box_class; goes = by_name refl refl; key = Row 1; is_key = refl; is_row = refl; plain = refl }
+
+box_used : (heap : List Object) (f : Frame) → Uses_row results_app results_lists heap f Static gives_box [] box_row
+unfolding results_app results_lists target find_body up method_of is_by_receiver library_key summary row_walk library_classes class_named listed_above listed_class row_of is_array
+box_used heap f = record { class = box_class; goes = by_name refl refl; key = Row 2; is_key = refl; is_row = refl; plain = refl }
+
+no_place_of : (f : Frame) → (f.registers 1).place ≡ None → (x : ℕ) → IsAt (1 ∷ []) 0 x → (f.registers x).place ≡ None
+no_place_of f none x at = let first : 1 ≡ x = some_same at.there in subst (λ y. (f.registers y).place ≡ None) first none
+  where
+    some_same : {a b : ℕ} → ◌≡◌ {A = Option ℕ} (Some a) (Some b) → a ≡ b
+    some_same e = cc
+
+receiver_used : (heap : List Object) (f : Frame) → (f.registers 1).place ≡ None → Uses_row results_app results_lists heap f Virtual on_receiver (1 ∷ []) receiver_row
+unfolding results_app results_lists target find_body up method_of is_by_receiver library_key summary row_walk library_classes class_named listed_above listed_class row_of is_array lists_bare all_above
+receiver_used heap f none = record { class = box_class; goes = by_nothing refl (no_place_of f none) refl; key = Row 3; is_key = refl; is_row = refl; plain = refl }
+
+no_positions_blank : positions Static gives_blank [] ≡ []
+unfolding positions
+no_positions_blank = refl
+
+one_position_same : positions Static gives_same (1 ∷ []) ≡ 1 ∷ []
+unfolding positions is_wide
+one_position_same = refl
+
+no_positions_box : positions Static gives_box [] ≡ []
+unfolding positions
+no_positions_box = refl
+
+one_position_receiver : positions Virtual on_receiver (1 ∷ []) ≡ 1 ∷ []
+unfolding positions is_wide
+one_position_receiver = refl
+
+call_blank : (w : World) (f : Frame) → Library_call results_app results_lists w f [] gives_blank.proto.ret (row_of_method gives_blank) w blank
+unfolding is_void
+call_blank w f = record {
+  with_shared = w.heap;
+  with_result = w.heap;
+  added = [];
+  handed = λ p. (λ h. inl h, elim [ inl h ↦ h | inr hands ↦ absurd (none-some p hands.place) ]);
+  arrivals = same_arrivals w.arrivals refl;
+  shared = all_there;
+  results = as_blank refl;
+  adds = λ a. (λ h. absurd h, no_adds refl refl refl);
+  heap = refl;
+  components = refl;
+}
+
+-- the one position's place is handed, where it has one
+handed_one : (f : Frame) (o : Option ℕ) → (f.registers 1).place ≡ o → (handed : List ℕ) (p : ℕ) → In p (hand o handed) ↔ (In p handed ⊎ Hands f (1 ∷ []) p)
+handed_one f None e handed p = (λ h. inl h, elim [ inl h ↦ h | inr hands ↦ absurd (by hands.at hands.place) ])
+  where
+    by : (at : ℕ) → (value_at f (1 ∷ []) at).place ≡ Some p → ⊥
+    by zero there = none-some p (sym e ∙ there)
+    by (suc at) there = none-some p there
+handed_one f (Some q) e handed p = (elim [ inl same ↦ inr (record { at = 0; place = e ∙ ap (λ x. Some x) (sym same) }) | inr h ↦ inl h ], elim [ inl h ↦ inr h | inr hands ↦ inl (by hands.at hands.place) ])
+  where
+    by : (at : ℕ) → (value_at f (1 ∷ []) at).place ≡ Some p → p ≡ q
+    by zero there = let both : ◌≡◌ {A = Option ℕ} (Some q) (Some p) = sym e ∙ there in cc
+    by (suc at) there = absurd (none-some p there)
+
+call_same : (w : World) (f : Frame) → Library_call results_app results_lists w f (1 ∷ []) gives_same.proto.ret same_row (record w { handed = hand (f.registers 1).place w.handed }) (f.registers 1)
+unfolding is_void
+call_same w f = record {
+  with_shared = w.heap;
+  with_result = w.heap;
+  added = [];
+  handed = handed_one f (f.registers 1).place refl w.handed;
+  arrivals = same_arrivals w.arrivals refl;
+  shared = all_there;
+  results = as_same refl;
+  adds = λ a. (λ h. absurd h, no_adds refl refl refl);
+  heap = refl;
+  components = refl;
+}
+
+source_alone : (heap : List Object) (f : Frame) → AreJoined heap f [] [] (Some 0) (0 ∷ [])
+source_alone heap f l = (elim [ inl e ↦ inl (ap (λ x. Some x) (sym e)) | inr none ↦ absurd none ], elim [ inl e ↦ inl (same e) | inr h ↦ absurd h.1 ])
+  where
+    same : ◌≡◌ {A = Option ℕ} (Some 0) (Some l) → l ≡ 0
+    same e = cc
+
+call_box : (w : World) (f : Frame) → Library_call results_app results_lists w f [] gives_box.proto.ret box_row (record w { heap = w.heap ++ joined_object box_class (0 ∷ []) ∷ [] }) (record { place = Some (length w.heap); labels = 0 ∷ [] })
+unfolding is_void is_reference
+call_box w f = record {
+  with_shared = w.heap;
+  with_result = w.heap ++ joined_object box_class (0 ∷ []) ∷ [];
+  added = [];
+  handed = λ p. (λ h. inl h, elim [ inl h ↦ h | inr hands ↦ absurd (none-some p hands.place) ]);
+  arrivals = same_arrivals w.arrivals refl;
+  shared = all_there;
+  results = as_object refl refl (source_alone w.heap f);
+  adds = λ a. (λ h. absurd h, no_adds refl refl refl);
+  heap = refl;
+  components = refl;
+}
+
+call_on_nothing : (w : World) (f : Frame) → (f.registers 1).place ≡ None → Library_call results_app results_lists w f (1 ∷ []) on_receiver.proto.ret receiver_row w blank
+unfolding is_void
+call_on_nothing w f none = record {
+  with_shared = w.heap;
+  with_result = w.heap;
+  added = [];
+  handed = handed_one f None none w.handed;
+  arrivals = same_arrivals w.arrivals refl;
+  shared = all_there;
+  results = as_blank refl;
+  adds = λ a. (λ h. absurd h, no_adds refl refl refl);
+  heap = refl;
+  components = refl;
+}
+
+pub each_result_comes : EachResultComes
+unfolding results_app step_at
+each_result_comes w r = record {
+  gives_blank = λ fs. calls_library (act_of (step 0 (Call Static gives_blank []) (1 ∷ [])) refl) (next_of (step 0 (Call Static gives_blank []) (1 ∷ [])) refl (inl refl)) (blank_used w.heap (frame_at 0 r)) (subst (λ places. Library_call results_app results_lists w (frame_at 0 r) places gives_blank.proto.ret (row_of_method gives_blank) w blank) (sym no_positions_blank) (call_blank w (frame_at 0 r)));
+  gives_same = λ fs. calls_library (act_of (step 1 (Call Static gives_same (1 ∷ [])) (2 ∷ [])) refl) (next_of (step 1 (Call Static gives_same (1 ∷ [])) (2 ∷ [])) refl (inl refl)) (same_used w.heap (frame_at 1 r)) (subst (λ places. Library_call results_app results_lists w (frame_at 1 r) places gives_same.proto.ret same_row (record w { handed = hand (r 1).place w.handed }) (r 1)) (sym one_position_same) (call_same w (frame_at 1 r)));
+  gives_box = λ fs. calls_library (act_of (step 2 (Call Static gives_box []) (3 ∷ [])) refl) (next_of (step 2 (Call Static gives_box []) (3 ∷ [])) refl (inl refl)) (box_used w.heap (frame_at 2 r)) (subst (λ places. Library_call results_app results_lists w (frame_at 2 r) places gives_box.proto.ret box_row (record w { heap = w.heap ++ joined_object box_class (0 ∷ []) ∷ [] }) (record { place = Some (length w.heap); labels = 0 ∷ [] })) (sym no_positions_box) (call_box w (frame_at 2 r)));
+  on_nothing = λ none fs. calls_library (act_of (step 3 (Call Virtual on_receiver (1 ∷ [])) (4 ∷ [])) refl) (next_of (step 3 (Call Virtual on_receiver (1 ∷ [])) (4 ∷ [])) refl (inl refl)) (receiver_used w.heap (frame_at 3 r) none) (subst (λ places. Library_call results_app results_lists w (frame_at 3 r) places on_receiver.proto.ret receiver_row w blank) (sym one_position_receiver) (call_on_nothing w (frame_at 3 r) none));
+}
+
+pub classes_stand_below : ClassesStandBelow
+unfolding results_app results_lists class_named listed_above listed_class object_class
+classes_stand_below = record {
+  itself = is_same;
+  object = is_object refl;
+  superclass = is_through one_class refl (inl refl) is_same;
+  listed = is_listed (inr (inl refl));
+}
