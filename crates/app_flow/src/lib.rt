@@ -1,16 +1,26 @@
 //! The flow in an app: the solver and the checker over its rules.
 #![tactic(auto)]
 
+ghost use Rattle.app_flow.specs.Defect.{OneDefect};
 ghost use Rattle.app_flow.specs.Flow.{OneFlow};
 
+mod defect;
 mod flow;
 
+pub use defect::{TableDefect, defect_of};
 use fact_rows::rows_stand_in_order;
 pub use flow::{Flow, flow_of};
 
 /// An app has one flow by its lists.
 pub fn one_flow()
     ensures { OneFlow }
+{
+    rows_stand_in_order();
+}
+
+/// Rows are a good table of an app, or have one defect, and not both.
+pub fn one_defect()
+    ensures { OneDefect }
 {
     rows_stand_in_order();
 }

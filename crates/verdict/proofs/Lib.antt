@@ -2,4 +2,5 @@ pub mod Halting
 pub mod OneReading
 pub mod OneVerdict
 pub mod Outcomes
+pub mod Rechecks
 pub mod Texts

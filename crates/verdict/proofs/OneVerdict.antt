@@ -29,8 +29,10 @@ use Rattle.verdict.specs.declared.outcome.Part.{Part}
 use Rattle.verdict.specs.declared.outcome.Part.TheVariants as part
 use Rattle.verdict.specs.declared.outcome.Reason.{Reason}
 use Rattle.verdict.specs.declared.outcome.Reason.TheVariants as reason
+use Rattle.verdict.specs.declared.linking.Linked.{Linked}
 use Rattle.verdict.specs.declared.papers.Papers.{Papers}
 use Rattle.verdict.specs.declared.parts.Parts.{Parts}
+use Rattle.verdict.specs.Linked.{IsLinked}
 use Rattle.verdict.specs.OneVerdict.{LowerLaws, OnlyJudgement, RefusesOnly}
 use Rattle.verdict.specs.Refuses.{HasManifest, HasPapers, AreDex, IsFirstBad, Reads, Refuses, bad_manifest, other_count, bad_layouts, bad_declaration, bad_lists, bad_dex, bad_app}
 use Rattle.verdict.specs.Verdict.{ComesTo, Judgement, refused, linked, refusal, judged_by}
@@ -172,10 +174,11 @@ module _ (laws : LowerLaws) (parts : Parts) where
     judgement_only : (o : Judged) → Judgement parts o → OnlyJudgement parts o
     judgement_only o is other too = one_judgement other o too is
 
-  no_app : ((papers : Papers) (dexes : List Dex) (app : App) → Reads parts papers dexes → IsApp dexes papers.manifest papers.layouts app → ⊥) → OneApp parts
-  no_app none papers dexes a b reads one two = absurd (none papers dexes a reads one)
+  -- the parts are no app
+  abbrev NoApp : Type 0
+  NoApp = (papers : Papers) (dexes : List Dex) (app : App) → Reads parts papers dexes → IsApp dexes papers.manifest papers.layouts app → ⊥
 
-  as_read : (papers others : Papers) (dexes files : List Dex) (app : App) → Reads parts papers dexes → Reads parts others files → IsApp dexes papers.manifest papers.layouts app → IsApp files others.manifest others.layouts app
+  pub as_read : (papers others : Papers) (dexes files : List Dex) (app : App) → Reads parts papers dexes → Reads parts others files → IsApp dexes papers.manifest papers.layouts app → IsApp files others.manifest others.layouts app
   as_read papers others dexes files app one two is =
       let list : dexes ≡ files = one_list laws.files parts.dex dexes files one.files two.files in
       let manifest : papers.manifest ≡ others.manifest = (laws.forms.manifest parts.manifest).one_form papers.manifest others.manifest one.forms.manifest.form two.forms.manifest.form in
@@ -188,21 +191,25 @@ module _ (laws : LowerLaws) (parts : Parts) where
   one_app_of : (papers : Papers) (dexes : List Dex) (app : App) → Reads parts papers dexes → OnlyApp dexes papers.manifest papers.layouts app → OneApp parts
   one_app_of papers dexes app reads only others files a b too one two = only.only a (as_read others papers files dexes a too reads one) ∙ sym (only.only b (as_read others papers files dexes b too reads two))
 
+  -- parts that are refused are no app
+  pub no_app_of : (part : Part) (why : Reason) → Refuses parts part why → NoApp
+  no_app_of _ _ (bad_manifest e first) = λ papers dexes app reads is. (laws.forms.manifest parts.manifest).not_both papers.manifest e reads.forms.manifest.form first
+  no_app_of _ _ (other_count m form other) =
+      λ papers dexes app reads is. other (ap (λ (n : Manifest). n.dex_files) ((laws.forms.manifest parts.manifest).one_form m papers.manifest form reads.forms.manifest.form) ∙ reads.forms.manifest.count)
+  no_app_of _ _ (bad_layouts m e has first) = λ papers dexes app reads is. (laws.forms.layouts parts.layouts).not_both papers.layouts e reads.forms.layouts first
+  no_app_of _ _ (bad_declaration m l e has layouts first) = λ papers dexes app reads is. (laws.forms.declaration parts.declaration).not_both papers.declaration e reads.forms.declaration first
+  no_app_of _ _ (bad_lists m l d e has layouts declaration first) = λ papers dexes app reads is. (laws.forms.lists parts.lists).not_both papers.lists e reads.forms.lists first
+  no_app_of _ _ (bad_dex papers i fault has first) = λ others files app reads is. all_or_bad laws.files parts.dex files i fault reads.files first
+  no_app_of _ _ (bad_app papers dexes fault reads first) =
+      λ others files app too is. (laws.links dexes papers.manifest papers.layouts).not_both app fault (as_read others papers files dexes app too reads is) first
+
   fault_alone : (part : Part) (why : Reason) → Refuses parts part why → OneApp parts
-  fault_alone _ _ (bad_manifest e first) = no_app (λ papers dexes app reads is. (laws.forms.manifest parts.manifest).not_both papers.manifest e reads.forms.manifest.form first)
-  fault_alone _ _ (other_count m form other) =
-      no_app (λ papers dexes app reads is. other (ap (λ (n : Manifest). n.dex_files) ((laws.forms.manifest parts.manifest).one_form m papers.manifest form reads.forms.manifest.form) ∙ reads.forms.manifest.count))
-  fault_alone _ _ (bad_layouts m e has first) = no_app (λ papers dexes app reads is. (laws.forms.layouts parts.layouts).not_both papers.layouts e reads.forms.layouts first)
-  fault_alone _ _ (bad_declaration m l e has layouts first) = no_app (λ papers dexes app reads is. (laws.forms.declaration parts.declaration).not_both papers.declaration e reads.forms.declaration first)
-  fault_alone _ _ (bad_lists m l d e has layouts declaration first) = no_app (λ papers dexes app reads is. (laws.forms.lists parts.lists).not_both papers.lists e reads.forms.lists first)
-  fault_alone _ _ (bad_dex papers i fault has first) = no_app (λ others files app reads is. all_or_bad laws.files parts.dex files i fault reads.files first)
-  fault_alone _ _ (bad_app papers dexes fault reads first) =
-      no_app (λ others files app too is. (laws.links dexes papers.manifest papers.layouts).not_both app fault (as_read others papers files dexes app too reads is) first)
+  fault_alone part why refuses papers dexes a b reads one two = absurd (no_app_of part why refuses papers dexes a reads one)
 
   -- a fault is the only judgement
   pub fault_only : (part : Part) (why : Reason) → Refuses parts part why → RefusesOnly parts part why
   fault_only part why refuses = refuses_only (fault_alone part why refuses) part why refuses
 
   -- and so is what comes of the only app
-  pub judged_only : (papers : Papers) (dexes : List Dex) (app : App) (o : Judged) → Reads parts papers dexes → OnlyApp dexes papers.manifest papers.layouts app → Judgement parts o → OnlyJudgement parts o
-  judged_only papers dexes app o reads only is = judgement_only (one_app_of papers dexes app reads only) o is
+  pub judged_only : (l : Linked) (o : Judged) → IsLinked parts l → Judgement parts o → OnlyJudgement parts o
+  judged_only l o is judged = judgement_only (one_app_of l.papers is.dexes l.app is.reads is.only) o judged

@@ -2,8 +2,6 @@
 use Rattle.std.proofs.Common.{◌≡◌, ◌==◌, ◌<◌, ℕ, true, List, [], ◌∷◌, ◌++◌, Option, Some, refl, sym, ◌∙◌, ap, subst, inl, inr}
 use Rattle.std.specs.Prelude.{length}
 use Rattle.std.proofs.lemmas.Bool.{eq-eqb}
-use Rattle.dex_reader.specs.declared.dex.Dex.{Dex}
-use Rattle.app_link.specs.IsApp.{IsApp}
 use Rattle.app_machine.specs.declared.app.App.{App}
 use Rattle.app_machine.specs.declared.lists.Lists.{Lists}
 use Rattle.app_machine.specs.declared.papers.Declaration.{Declaration}
@@ -29,15 +27,15 @@ use Rattle.outcomes.specs.Places.{place_in}
 use Rattle.outcomes.specs.Within.{IsWithin, AreWithin}
 use Rattle.vet_base.specs.Members.{In}
 use Rattle.vet_base.proofs.Members.{in_back, in_filter_map}
+use Rattle.verdict.specs.declared.linking.Linked.{Linked}
 use Rattle.verdict.specs.declared.outcome.Judged.{Judged}
 use Rattle.verdict.specs.declared.outcome.Outcome.{Outcome}
 use Rattle.verdict.specs.declared.outcome.Outcome.TheVariants.{Clear, Refused}
-use Rattle.verdict.specs.declared.papers.Papers.{Papers}
 use Rattle.verdict.specs.declared.papers.Refusal.{Refusal}
 use Rattle.verdict.specs.declared.parts.Parts.{Parts}
+use Rattle.verdict.specs.Linked.{IsLinked}
 use Rattle.verdict.specs.OneVerdict.{RefusesOnly}
 use Rattle.verdict.specs.Outcome.{causes_in, findings_in, outcome_of}
-use Rattle.verdict.specs.Refuses.{HasPapers, AreDex}
 use Rattle.verdict.specs.Tells.{IsFollowed, TellsAll, TellsOfApp}
 use Rattle.verdict.specs.Verdict.{ComesTo, Judgement, refused, linked, refusal, IsSafeApp, judged_by}
 
@@ -78,7 +76,7 @@ stands_at app rows method pc cause there =
     in_filter_map (place_of app cause) rows (Unknown there.node cause) (place_in app method pc) there.holds (gives ∙ ap (λ (p : Place). Some p) same)
 
 -- the outcome of a good table tells of every run
-rows_tell : EachIsFound → EachIsNamed → (app : App) (lists : Lists) (declaration : Declaration) (rows : List Row) → SoundApp app → GoodTable app lists rows → CoversEveryRun app lists (λ row. In row rows)
+pub rows_tell : EachIsFound → EachIsNamed → (app : App) (lists : Lists) (declaration : Declaration) (rows : List Row) → SoundApp app → GoodTable app lists rows → CoversEveryRun app lists (λ row. In row rows)
     → TellsAll app lists declaration (outcome_of (causes_of app rows) (findings_of app lists declaration rows))
 rows_tell found named app lists declaration rows sound good covers = record {
   arrivals = λ w fs run a is_in.
@@ -108,14 +106,11 @@ flow_tells found named covers app lists declaration flow j sound good same follo
     subst (λ (k : Judged). TellsAll app lists declaration k.outcome) (sym same) told
 
 -- what is said of the app is said of the parts
-pub judgement_on : (parts : Parts) (papers : Papers) (dexes : List Dex) (app : App) (j : Judged) → HasPapers parts papers → AreDex parts.dex dexes → IsApp dexes papers.manifest papers.layouts app
-    → ComesTo app papers.lists papers.declaration j → Judgement parts j
-judgement_on parts papers dexes app j has stand is_app comes = linked papers dexes app (record { forms = has; files = stand }) is_app comes
+pub judgement_on : (parts : Parts) (l : Linked) (j : Judged) → IsLinked parts l → ComesTo l.app l.papers.lists l.papers.declaration j → Judgement parts j
+judgement_on parts l j is comes = linked l.papers is.dexes l.app is.reads is.is_app comes
 
-pub tells_of_parts : (parts : Parts) (papers : Papers) (dexes : List Dex) (app : App) (outcome : Outcome) → HasPapers parts papers → AreDex parts.dex dexes → IsApp dexes papers.manifest papers.layouts app
-    → (IsFollowed outcome → TellsAll app papers.lists papers.declaration outcome) → IsFollowed outcome → TellsOfApp parts outcome
-tells_of_parts parts papers dexes app outcome has stand is_app tells followed =
-    record { papers = papers; dexes = dexes; reads = record { forms = has; files = stand }; app = app; is_app = is_app; tells = tells followed }
+pub tells_of_parts : (parts : Parts) (l : Linked) (outcome : Outcome) → IsLinked parts l → (IsFollowed outcome → TellsAll l.app l.papers.lists l.papers.declaration outcome) → IsFollowed outcome → TellsOfApp parts outcome
+tells_of_parts parts l outcome is tells followed = record { papers = l.papers; dexes = is.dexes; reads = is.reads; app = l.app; is_app = is.is_app; tells = tells followed }
 
 -- an app of which clear tells all is safe
 clear_tells : (app : App) (lists : Lists) (declaration : Declaration) → TellsAll app lists declaration Clear → Safe app lists declaration

@@ -1,8 +1,10 @@
 pub mod Halts
+pub mod Linked
 pub mod OneVerdict
 pub mod Outcome
 pub mod Printed
 pub mod Reasons
+pub mod Recheck
 pub mod Refuses
 pub mod Report
 pub mod Tells

@@ -1,68 +1,29 @@
 //! What the bytes of all parts of an app come to.
 
-ghost use Rattle.std.specs.Prelude.{◌≡◌, ◌⊎◌, All, IfOk, IfErr, IsErr, OnOk};
-ghost use Rattle.app_link.specs.IsApp.{IsApp};
-ghost use Rattle.app_link.specs.OneAnswer.{OnlyApp};
-ghost use Rattle.dex_reader.specs.Sound.{SoundDex};
-ghost use Rattle.office_forms.specs.Sound.{SoundManifest, SoundLayouts};
+ghost use Rattle.std.specs.Prelude.{◌≡◌, ◌⊎◌, IfOk, IfErr, IsErr};
 ghost use Rattle.app_machine.specs.SoundLists.{SoundLists};
 ghost use Rattle.app_machine.specs.Sound.{SoundApp};
 ghost use Rattle.app_flow.specs.Flow.{IsGoodFlow};
 ghost use Rattle.outcomes.specs.Causes.{causes_of};
 ghost use Rattle.outcomes.specs.Findings.{findings_of};
 ghost use Rattle.outcomes.specs.Within.{AreWithin};
-ghost use Rattle.verdict.specs.Halts.{Halts, HaltsLink};
+ghost use Rattle.verdict.specs.Halts.{Halts};
 ghost use Rattle.verdict.specs.OneVerdict.{OnlyJudgement, RefusesOnly};
 ghost use Rattle.verdict.specs.Outcome.{outcome_of};
-ghost use Rattle.verdict.specs.Refuses.{AreDex, HasPapers};
 ghost use Rattle.verdict.specs.Tells.{IsFollowed, TellsAll, TellsOfApp};
 ghost use Rattle.verdict.specs.Verdict.{ComesTo, Judgement, IsSafeApp, judged_by};
 
-use crate::dexes::dexes_of;
 use crate::laws::lower_laws;
-use crate::papers::{Halt, Papers, Refusal, papers_of};
-use crate::{Cause, Finding, Judged, Outcome, Part, Parts, Reason};
+use crate::linking::linked_parts;
+use crate::papers::{Halt, Papers};
+use crate::{Cause, Finding, Judged, Outcome, Parts};
 use app_flow::{Flow, flow_of};
-use app_link::{LinkFault, link};
 use app_model::App;
-use dex_reader::Dex;
 use fact_rows::Row;
 use flow_proof::every_good_table_covers_every_run;
 use outcomes::{causes_of, causes_too_large, findings_of, nothing_is_left_out};
 use std::alloc::Global;
 use vet_base::{Memory, Seq, Stop};
-
-fn halt_of(fault: LinkFault) -> Halt
-    ensures { HaltsLink fault result }
-{
-    match fault {
-        LinkFault::Memory => Stop::Memory,
-        fault => Stop::Fault(Refusal {
-            part: Part::App,
-            reason: Reason::Link(fault),
-        }),
-    }
-}
-
-/// The app that the files are.
-#[tactic(auto, using(crate::proofs::Halting::few_components, crate::proofs::Halting::few_clicks, crate::proofs::Halting::few_classes))]
-fn linked_app(alloc: Global, parts: &Parts, papers: &Papers, dexes: &[Dex]) -> Result<App, Halt>
-    requires papers { HasPapers parts.now papers.now }
-    requires files { AreDex parts.now.dex dexes.now }
-    requires manifest { SoundManifest papers.now.manifest }
-    requires layouts { SoundLayouts papers.now.layouts }
-    requires sound { All SoundDex dexes.now }
-    ensures app { IfOk result (λ app. IsApp dexes.now papers.now.manifest papers.now.layouts app) }
-    ensures only { IfOk result (λ app. OnlyApp dexes.now papers.now.manifest papers.now.layouts app) }
-    ensures sound { IfOk result SoundApp }
-    ensures err { IfErr result (λ h. Halts (RefusesOnly parts.now) h) }
-{
-    lower_laws();
-    match link(alloc, dexes, &papers.manifest, &papers.layouts) {
-        Ok(app) => Ok(app),
-        Err(fault) => Err(halt_of(fault)),
-    }
-}
 
 fn outcome_with(causes: Vec<Cause>, findings: Vec<Finding>) -> Outcome
     ensures { result ≡ outcome_of causes.items findings.items }
@@ -76,8 +37,8 @@ fn outcome_with(causes: Vec<Cause>, findings: Vec<Finding>) -> Outcome
     }
 }
 
-/// What an app comes to by the rows that follow.
-fn outcome_of_rows(
+/// What an app comes to by rows.
+pub fn outcome_of_rows(
     alloc: Global,
     app: &App,
     papers: &Papers,
@@ -139,10 +100,8 @@ fn judged_parts(alloc: Global, parts: &Parts, seed: u64) -> Result<Judged, Halt>
     ensures err { IfErr result (λ h. Halts (RefusesOnly parts.now) h) }
 {
     lower_laws();
-    let papers = papers_of(alloc, parts)?;
-    let dexes = dexes_of(alloc, parts, &papers)?;
-    let app = linked_app(alloc, parts, &papers, &dexes)?;
-    Ok(judged_app(alloc, &app, &papers, seed)?)
+    let linked = linked_parts(alloc, parts)?;
+    Ok(judged_app(alloc, &linked.app, &linked.papers, seed)?)
 }
 
 /// What the parts of an app come to.

@@ -4,6 +4,7 @@ ghost use Rattle.std.specs.Prelude.{◌≡◌};
 ghost use Rattle.verdict.specs.Outcome.{status_of};
 
 use crate::{Cause, Finding};
+use app_flow::TableDefect;
 use app_link::LinkFault;
 use dex_reader::DexFault;
 use fact_rows::Row;
@@ -53,6 +54,17 @@ pub struct Judged {
     pub outcome: Outcome,
     /// The derivable rows, in ascending order: there just where the parts make an app and it is not too large.
     pub table: Option<Seq<Row>>,
+}
+
+/// What the parts of an app come to by rows that anyone made.
+#[derive(Debug, Drop)]
+pub enum Rechecked {
+    /// The parts are refused, whatever the rows are.
+    Refused(Part, Reason),
+    /// The rows are no good table of the app.
+    Defect(TableDefect),
+    /// They are one, and say this of the app.
+    By(Outcome),
 }
 
 /// The exit status that says the outcome: 0 clear, 1 flagged, 2 undecided, 3 refused.

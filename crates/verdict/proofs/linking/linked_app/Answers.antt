@@ -1,5 +1,5 @@
 use Rattle.verdict.proofs.Halting.{of_link, only_linked}
-use Rattle.verdict.proofs.judging.linked_app.Goals as goal
+use Rattle.verdict.proofs.linking.linked_app.Goals as goal
 
 pub returns-in-Ok-clause-only : goal.returns-in-Ok-clause-only
 returns-in-Ok-clause-only c = only_linked c.args.dexes.now c.args.papers.now.manifest c.args.papers.now.layouts c.in-Ok.app c.in-Ok.ensures.one

@@ -1,0 +1,151 @@
+-- What the checker says of rows is one thing, and goes by which rows are there alone.
+use Rattle.std.proofs.Common.{◌≡◌, ◌↔◌, ◌⊎◌, ℕ, ◌+◌, ◌<◌, Bool, true, false, List, [], ◌∷◌, ◌++◌, Option, Some, None, get_or, length, take, refl, sym, ap, subst, ◌∙◌, inl, inr}
+use Rattle.std.specs.Prelude.{MatchBool}
+use Rattle.std.specs.declared.cmp.Ordering.{Ordering}
+use Rattle.std.specs.declared.cmp.Ordering.TheVariants.{Less, Equal, Greater}
+use Rattle.std.proofs.lemmas.List.{take_more}
+use Rattle.app_machine.specs.declared.app.App.{App}
+use Rattle.app_machine.specs.declared.lists.Lists.{Lists}
+use Rattle.cert_checker.specs.Defects.{LacksStart as LacksStartBy, LacksConsequence}
+use Rattle.cert_checker.specs.Least.{FollowsFrom, IsLeastFailing}
+use Rattle.chained_rows.specs.Chains.{IsGrown}
+use Rattle.fact_rows.specs.declared.row.Row.{Row}
+use Rattle.fact_rows.specs.InApp.{InApp}
+use Rattle.fact_rows.specs.Order.{RowOrder, row_cmp}
+use Rattle.flow_rules.specs.Rules.{Each, Follows, Starts, GoodTable}
+use Rattle.rule_ground.specs.declared.conclusion.Conclusion.{Conclusion}
+use Rattle.rule_ground.specs.Hits.{Among}
+use Rattle.vet_base.specs.Members.{In}
+use Rattle.vet_base.proofs.Members.{in_front, in_back, in_either}
+use Rattle.vet_base.proofs.Orders.{turned}
+use Rattle.app_flow.specs.declared.defect.TableDefect.{TableDefect}
+use Rattle.app_flow.specs.declared.defect.TableDefect.TheVariants.{Stranger, NoStart, NotClosed}
+use Rattle.app_flow.specs.Defect.{SameRows, LacksStart, IsNotClosed, IsTableDefect, IsChecked, OneDefect}
+use Rattle.app_flow.proofs.Accepting.{each_there}
+
+-- the least row of which something fails is one row
+same_least : RowOrder → (Due Met : Row → Type 0) (a b : Row) → IsLeastFailing Due Met a → IsLeastFailing Due Met b → a ≡ b
+same_least order Due Met a b one other = go (row_cmp a b) refl
+  where
+    go : (o : Ordering) → row_cmp a b ≡ o → a ≡ b
+    go Less e = absurd (other.least a one.due one.fails (turned order.total a b e))
+    go Equal e = order.exact a b e
+    go Greater e = absurd (one.least b other.due other.fails e)
+
+module _ (app : App) (lists : Lists) (rows : List Row) where
+  -- no two of a good table and the three defects
+  all_there : (row : Row) → IsLeastFailing (Among rows) (InApp app lists) row → ((x : Row) → Among rows x → InApp app lists x) → ⊥
+  all_there row strange in_app = strange.fails (in_app row strange.due)
+
+  all_started : (row : Row) → LacksStart app lists rows row → ((x : Row) → Starts app x → Among rows x) → ⊥
+  all_started row lacking starts = lacking.lacks.fails (starts row lacking.lacks.due)
+
+  all_closed : (row : Row) → IsNotClosed app lists rows row → GoodTable app lists rows → ⊥
+  all_closed row open_at good = let due = open_at.lacks.due in open_at.lacks.fails (good.closed due.0 due.1.0 row due.1.1.0 due.1.1.1)
+
+  one_of : RowOrder → (one other : Option TableDefect) → IsChecked app lists rows one → IsChecked app lists rows other → one ≡ other
+  one_of order None None a b = refl
+  one_of order None (Some (Stranger x)) a b = absurd (all_there x b a.in_app)
+  one_of order None (Some (NoStart x)) a b = absurd (all_started x b a.starts)
+  one_of order None (Some (NotClosed x)) a b = absurd (all_closed x b a)
+  one_of order (Some (Stranger x)) None a b = absurd (all_there x a b.in_app)
+  one_of order (Some (Stranger x)) (Some (Stranger y)) a b = ap (λ r. Some (Stranger r)) (same_least order (Among rows) (InApp app lists) x y a b)
+  one_of order (Some (Stranger x)) (Some (NoStart y)) a b = absurd (all_there x a b.in_app)
+  one_of order (Some (Stranger x)) (Some (NotClosed y)) a b = absurd (all_there x a b.in_app)
+  one_of order (Some (NoStart x)) None a b = absurd (all_started x a b.starts)
+  one_of order (Some (NoStart x)) (Some (Stranger y)) a b = absurd (all_there y b a.in_app)
+  one_of order (Some (NoStart x)) (Some (NoStart y)) a b = ap (λ r. Some (NoStart r)) (same_least order (Starts app) (Among rows) x y a.lacks b.lacks)
+  one_of order (Some (NoStart x)) (Some (NotClosed y)) a b = absurd (all_started x a b.starts)
+  one_of order (Some (NotClosed x)) None a b = absurd (all_closed x a b)
+  one_of order (Some (NotClosed x)) (Some (Stranger y)) a b = absurd (all_there y b a.in_app)
+  one_of order (Some (NotClosed x)) (Some (NoStart y)) a b = absurd (all_started y b a.starts)
+  one_of order (Some (NotClosed x)) (Some (NotClosed y)) a b = ap (λ r. Some (NotClosed r)) (same_least order (FollowsFrom (Follows app lists) rows) (Among rows) x y a.lacks b.lacks)
+
+pub one_defect : RowOrder → OneDefect
+one_defect order app lists rows one other a b = one_of app lists rows order one other a b
+
+-- what the checker says of an app's rows
+pub stranger_is : (app : App) (lists : Lists) (rows : List Row) (row : Row) → IsLeastFailing (Among rows) (InApp app lists) row → IsChecked app lists rows (Some (Stranger row))
+stranger_is app lists rows row strange = strange
+
+pub start_is : (app : App) (lists : Lists) (rows : List Row) (row : Row) → LacksStartBy (Starts app) (InApp app lists) rows row → IsChecked app lists rows (Some (NoStart row))
+start_is app lists rows row lacking = record { in_app = lacking.in_app; lacks = lacking.lacks }
+
+pub consequence_is : (app : App) (lists : Lists) (rows : List Row) (c : Conclusion) → LacksConsequence (Follows app lists) (Starts app) (InApp app lists) rows c → IsChecked app lists rows (Some (NotClosed c.row))
+consequence_is app lists rows c lacking = record { in_app = lacking.in_app; starts = lacking.starts; lacks = lacking.lacks.least }
+
+-- one row more of a list, and of the rows that have their keys
+pub one_more : (rows : List Row) (i : ℕ) (row : Row) (old new : List Row) (fresh : Bool) → i < length rows → row ≡ get_or rows i row →
+    MatchBool fresh (IsGrown old row new) (In row old × (new ≡ old)) → SameRows old (take i rows) → SameRows new (take (i + 1) rows)
+one_more rows i row old new fresh within is added same =
+    let front : take (i + 1) rows ≡ take i rows ++ row ∷ [] = take_more rows i row within ∙ ap (λ y. take i rows ++ y ∷ []) (sym is) in
+    subst (SameRows new) (sym front) (grown fresh added)
+  where
+    among_old : (x : Row) → In x (take i rows) ⊎ In x (row ∷ []) → In row old → In x old
+    among_old x (inl k) there = (same x).1 k
+    among_old x (inr (inl e)) there = subst (λ y. In y old) (sym e) there
+    among_old x (inr (inr none)) there = absurd none
+
+    onward : (x : Row) → In x old ⊎ In x (row ∷ []) → In x (take i rows ++ row ∷ [])
+    onward x (inl k) = in_front x (take i rows) (row ∷ []) ((same x).0 k)
+    onward x (inr k) = in_back x (take i rows) (row ∷ []) k
+
+    back : (x : Row) → In x (take i rows) ⊎ In x (row ∷ []) → In x (old ++ row ∷ [])
+    back x (inl k) = in_front x old (row ∷ []) ((same x).1 k)
+    back x (inr k) = in_back x old (row ∷ []) k
+
+    grown : (b : Bool) → MatchBool b (IsGrown old row new) (In row old × (new ≡ old)) → SameRows new (take i rows ++ row ∷ [])
+    grown true g = λ x. (
+      λ there. onward x (in_either x old (row ∷ []) (subst (λ (ys : List Row). In x ys) g.is there)),
+      λ there. subst (λ (ys : List Row). In x ys) (sym g.is) (back x (in_either x (take i rows) (row ∷ []) there)),
+    )
+    grown false g = λ x. (
+      λ there. in_front x (take i rows) (row ∷ []) ((same x).0 (subst (λ (ys : List Row). In x ys) g.1 there)),
+      λ there. subst (λ (ys : List Row). In x ys) (sym g.1) (among_old x (in_either x (take i rows) (row ∷ []) there) g.0),
+    )
+
+-- the same rows in another order, or some of them twice, are checked alike
+module _ (app : App) (lists : Lists) (rows others : List Row) (same : SameRows rows others) where
+  each_other : (premises : List Row) → Each (Among others) premises → Each (Among rows) premises
+  each_other premises known = each_there (Among others) (Among rows) (λ x. (same x).1) premises known
+
+  follows_other : (x : Row) → FollowsFrom (Follows app lists) others x → FollowsFrom (Follows app lists) rows x
+  follows_other x due = (due.0, (due.1.0, (due.1.1.0, each_other due.1.0 due.1.1.1)))
+
+  follows_on : (x : Row) → FollowsFrom (Follows app lists) rows x → FollowsFrom (Follows app lists) others x
+  follows_on x due = (due.0, (due.1.0, (due.1.1.0, each_there (Among rows) (Among others) (λ y. (same y).0) due.1.0 due.1.1.1)))
+
+  pub moved_checked : (found : Option TableDefect) → IsChecked app lists rows found → IsChecked app lists others found
+  moved_checked None good = record {
+    in_app = λ x there. good.in_app x ((same x).1 there);
+    starts = λ x start. (same x).0 (good.starts x start);
+    closed = λ rule premises x follows known. (same x).0 (good.closed rule premises x follows (each_other premises known));
+  }
+  moved_checked (Some (Stranger row)) strange = record {
+    due = (same row).0 strange.due;
+    fails = strange.fails;
+    least = λ x there. strange.least x ((same x).1 there);
+  }
+  moved_checked (Some (NoStart row)) lacking = record {
+    in_app = λ x there. lacking.in_app x ((same x).1 there);
+    lacks = record {
+      due = lacking.lacks.due;
+      fails = λ there. lacking.lacks.fails ((same row).1 there);
+      least = λ x due absent. lacking.lacks.least x due (λ there. absent ((same x).0 there));
+    };
+  }
+  moved_checked (Some (NotClosed row)) lacking = record {
+    in_app = λ x there. lacking.in_app x ((same x).1 there);
+    starts = λ x start. (same x).0 (lacking.starts x start);
+    lacks = record {
+      due = follows_on row lacking.lacks.due;
+      fails = λ there. lacking.lacks.fails ((same row).1 there);
+      least = λ x due absent. lacking.lacks.least x (follows_other x due) (λ there. absent ((same x).0 there));
+    };
+  }
+
+-- and so are rows of an app and lists that are the same
+pub checked_as : (app same_app : App) (lists same_lists : Lists) (rows : List Row) (found : Option TableDefect) → same_app ≡ app → same_lists ≡ lists → IsChecked same_app same_lists rows found → IsChecked app lists rows found
+checked_as app same_app lists same_lists rows found is_app is_lists checked =
+    let first : IsChecked app same_lists rows found = subst (λ (a : App). IsChecked a same_lists rows found) is_app checked in
+    subst (λ (ls : Lists). IsChecked app ls rows found) is_lists first

@@ -1,0 +1,42 @@
+-- Why rows are no good table of an app.
+use Rattle.std.specs.Prelude.{◌≡◌, ◌↔◌, List, Option, Some, None}
+use Rattle.app_machine.specs.declared.app.App.{App}
+use Rattle.app_machine.specs.declared.lists.Lists.{Lists}
+use Rattle.cert_checker.specs.Least.{FollowsFrom, IsLeastFailing}
+use Rattle.fact_rows.specs.declared.row.Row.{Row}
+use Rattle.fact_rows.specs.InApp.{InApp}
+use Rattle.flow_rules.specs.Rules.{Follows, Starts, GoodTable}
+use Rattle.rule_ground.specs.Hits.{Among}
+use Rattle.vet_base.specs.Members.{In}
+use Rattle.app_flow.specs.declared.defect.TableDefect.{TableDefect}
+use Rattle.app_flow.specs.declared.defect.TableDefect.TheVariants.{Stranger, NoStart, NotClosed}
+
+-- the same rows, in whatever order and however often each
+abbrev pub SameRows : List Row → List Row → Type 0
+SameRows rows others = (row : Row) → In row rows ↔ In row others
+
+-- the rows name only what app and lists have, and the row is the least start that is not among them
+pub record LacksStart (app : App) (lists : Lists) (rows : List Row) (row : Row) : Type 0 where
+  pub in_app : (x : Row) → Among rows x → InApp app lists x
+  pub lacks : IsLeastFailing (Starts app) (Among rows) row
+
+-- they have the starts too, and the row is the least that follows from them and is not among them
+pub record IsNotClosed (app : App) (lists : Lists) (rows : List Row) (row : Row) : Type 0 where
+  pub in_app : (x : Row) → Among rows x → InApp app lists x
+  pub starts : (x : Row) → Starts app x → Among rows x
+  pub lacks : IsLeastFailing (FollowsFrom (Follows app lists) rows) (Among rows) row
+
+-- the first of the three that holds, with the least row of which it does
+abbrev pub IsTableDefect : App → Lists → List Row → TableDefect → Type 0
+IsTableDefect app lists rows (Stranger row) = IsLeastFailing (Among rows) (InApp app lists) row
+IsTableDefect app lists rows (NoStart row) = LacksStart app lists rows row
+IsTableDefect app lists rows (NotClosed row) = IsNotClosed app lists rows row
+
+-- the rows are a good table, or have the defect
+abbrev pub IsChecked : App → Lists → List Row → Option TableDefect → Type 0
+IsChecked app lists rows None = GoodTable app lists rows
+IsChecked app lists rows (Some defect) = IsTableDefect app lists rows defect
+
+-- rows are a good table or have one defect, and not both
+abbrev pub OneDefect : Type 0
+OneDefect = (app : App) (lists : Lists) (rows : List Row) (one other : Option TableDefect) → IsChecked app lists rows one → IsChecked app lists rows other → one ≡ other

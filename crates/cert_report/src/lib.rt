@@ -1,0 +1,12 @@
+//! Why a certificate is refused, and the text that says so.
+#![tactic(auto)]
+
+mod refusal;
+mod reporting;
+mod spelled;
+
+pub use refusal::CertRefusal;
+pub use reporting::report_refusal;
+
+#[cfg(test)]
+mod tests;

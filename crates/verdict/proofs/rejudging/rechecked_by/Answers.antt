@@ -1,0 +1,9 @@
+use Rattle.std.proofs.Common.{subst}
+use Rattle.app_flow.specs.Defect.{IsChecked}
+use Rattle.verdict.proofs.Outcomes.{good_is_within}
+use Rattle.verdict.proofs.rejudging.rechecked_by.Goals as goal
+
+pub outcome_of_rows-requires-clause-within : goal.outcome_of_rows-requires-clause-within
+outcome_of_rows-requires-clause-within c =
+    let good = subst (IsChecked c.args.app.now c.args.papers.now.lists c.args.rows.now) c.in-None.is c.requires.found in
+    good_is_within c.args.app.now c.args.papers.now.lists c.args.rows.now good

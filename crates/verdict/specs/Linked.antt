@@ -1,0 +1,15 @@
+-- The app that the parts are.
+use Rattle.std.specs.Prelude.{List}
+use Rattle.app_link.specs.IsApp.{IsApp}
+use Rattle.app_link.specs.OneAnswer.{OnlyApp}
+use Rattle.dex_reader.specs.declared.dex.Dex.{Dex}
+use Rattle.verdict.specs.declared.linking.Linked.{Linked}
+use Rattle.verdict.specs.declared.parts.Parts.{Parts}
+use Rattle.verdict.specs.Refuses.{Reads}
+
+-- the parts are forms and DEX files that make this app and no other
+pub record IsLinked (parts : Parts) (linked : Linked) : Type 0 where
+  pub dexes : List Dex
+  pub reads : Reads parts linked.papers dexes
+  pub is_app : IsApp dexes linked.papers.manifest linked.papers.layouts linked.app
+  pub only : OnlyApp dexes linked.papers.manifest linked.papers.layouts linked.app

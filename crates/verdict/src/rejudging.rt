@@ -1,0 +1,113 @@
+//! What the bytes of all parts of an app come to by rows that anyone made.
+
+ghost use Rattle.std.specs.Prelude.{◌≡◌, ◌⊎◌, IfOk, IfErr, IsErr};
+ghost use Rattle.app_flow.specs.Defect.{IsChecked};
+ghost use Rattle.app_machine.specs.Sound.{SoundApp};
+ghost use Rattle.app_machine.specs.SoundLists.{SoundLists};
+ghost use Rattle.verdict.specs.Halts.{Halts};
+ghost use Rattle.verdict.specs.OneVerdict.{RefusesOnly};
+ghost use Rattle.verdict.specs.Recheck.{OnlyRejudgement, RechecksTo, Rejudgement, TellsAllBy, TellsBy};
+ghost use Rattle.verdict.specs.Verdict.{IsSafeApp};
+
+use crate::judging::outcome_of_rows;
+use crate::laws::lower_laws;
+use crate::linking::linked_parts;
+use crate::papers::{Halt, Papers};
+use crate::{Outcome, Parts, Rechecked};
+use app_flow::{TableDefect, defect_of, one_defect};
+use app_model::App;
+use fact_rows::Row;
+use flow_proof::every_good_table_covers_every_run;
+use outcomes::nothing_is_left_out;
+use std::alloc::Global;
+use vet_base::{Memory, Stop};
+
+/// What an app comes to by rows of which the checker has said this.
+fn rechecked_by(
+    alloc: Global,
+    app: &App,
+    papers: &Papers,
+    rows: &[Row],
+    found: Option<TableDefect>,
+) -> Result<Rechecked, Memory>
+    requires sound { SoundApp app.now }
+    requires found { IsChecked app.now papers.now.lists rows.now found }
+    ensures { IfOk result (λ r. RechecksTo app.now papers.now.lists papers.now.declaration rows.now r) }
+{
+    match found {
+        Some(defect) => Ok(Rechecked::Defect(defect)),
+        None => {
+            let outcome = outcome_of_rows(alloc, app, papers, rows)?;
+            Ok(Rechecked::By(outcome))
+        }
+    }
+}
+
+/// What an app comes to by rows.
+#[tactic(auto, using(crate::proofs::Rechecks::recheck_tells))]
+fn rejudged_app(
+    alloc: Global,
+    app: &App,
+    papers: &Papers,
+    rows: &[Row],
+    seed: u64,
+) -> Result<Rechecked, Memory>
+    requires sound { SoundApp app.now }
+    requires lists { SoundLists papers.now.lists }
+    ensures value { IfOk result (λ r. RechecksTo app.now papers.now.lists papers.now.declaration rows.now r) }
+    ensures told { IfOk result (λ r. TellsAllBy app.now papers.now.lists papers.now.declaration r) }
+{
+    nothing_is_left_out();
+    every_good_table_covers_every_run();
+    let found = defect_of(alloc, app, &papers.lists, rows, seed)?;
+    let rechecked = rechecked_by(alloc, app, papers, rows, found)?;
+    Ok(rechecked)
+}
+
+#[tactic(auto, using(crate::proofs::Rechecks::rejudgement_on, crate::proofs::Rechecks::tells_by_parts))]
+fn rejudged_parts(alloc: Global, parts: &Parts, rows: &[Row], seed: u64) -> Result<Rechecked, Halt>
+    ensures value { IfOk result (λ r. Rejudgement parts.now rows.now r) }
+    ensures one { IfOk result (λ r. OnlyRejudgement parts.now rows.now r) }
+    ensures told { IfOk result (λ r. TellsBy parts.now r) }
+    ensures err { IfErr result (λ h. Halts (RefusesOnly parts.now) h) }
+{
+    lower_laws();
+    one_defect();
+    let linked = linked_parts(alloc, parts)?;
+    Ok(rejudged_app(alloc, &linked.app, &linked.papers, rows, seed)?)
+}
+
+/// What the parts of an app come to by rows that anyone made, as those of a certificate.
+///
+/// Refused with the first fault, as `judge` refuses, whatever the rows are. Else the rows are checked, and where they are no
+/// good table of the app, that is told: the least row that names what app and lists do not have; or else the least start row
+/// that is not among them; or else the least row that follows from them and is not among them. Else the outcome is that of the
+/// causes and findings which these rows tell, in the order that `judge` has. A good table may have more rows than follow, so
+/// there may be more of both than `judge` finds, and never less; where the outcome is clear, no run of the app brings a
+/// value of a source to a sink unless the declaration names the pair.
+///
+/// The number of rows has no limit here: it is never told that an app is too large. The order of the rows, and how often a row
+/// stands among them, makes no difference; nor does the seed, which says where rows are stored meanwhile.
+#[tactic(auto, using(crate::proofs::Rechecks::refused_anyway, crate::proofs::Rechecks::only_refused, crate::proofs::Rechecks::clear_by_is_safe))]
+pub fn judge_table(
+    alloc: Global,
+    parts: &Parts,
+    rows: &[Row],
+    seed: u64,
+) -> Result<Rechecked, Memory>
+    ensures value { IfOk result (λ r. Rejudgement parts.now rows.now r) }
+
+    // The parts come to nothing else by these rows.
+    ensures one { (r : Rechecked) → Rejudgement parts.now rows.now r → (result ≡ Ok r) ⊎ IsErr result }
+
+    // An outcome by good rows leaves out nothing that a run does.
+    ensures told { IfOk result (λ r. TellsBy parts.now r) }
+    ensures safe { IfOk result (λ r. r ≡ Rechecked.By Outcome.Clear → IsSafeApp parts.now) }
+{
+    lower_laws();
+    match rejudged_parts(alloc, parts, rows, seed) {
+        Ok(rechecked) => Ok(rechecked),
+        Err(Stop::Memory) => Err(Memory),
+        Err(Stop::Fault(refusal)) => Ok(Rechecked::Refused(refusal.part, refusal.reason)),
+    }
+}
