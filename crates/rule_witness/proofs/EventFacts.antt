@@ -16,7 +16,7 @@ use Rattle.fact_rows.specs.declared.site.Site.TheVariants.{Param, Component}
 use Rattle.flow_rules.specs.Nodes.{ArgumentRegister, EventRegister}
 use Rattle.flow_rules.specs.Sites.{SiteClass, site_class}
 use Rattle.flow_rules.specs.EventRules.{life_live, life_begins, life_receiver, life_taint, life_receiver_taint, live_begins, live_receiver, live_receiver_taint, handed_begins, handed_receiver, handed_receiver_taint, initialiser_begins, handed_parameter, handed_parameter_taint, exit_handed, exit_handed_taint, application_live, ReferenceParameter, begin_reached, begin_points, begin_taint, begin_element, begin_receiver_element, begin_native, by_callback, by_click}
-use Rattle.flow_rules.specs.Rules.{by_event}
+use Rattle.flow_rules.specs.Rules.{by_event, the_application}
 use Rattle.rule_witness.specs.Smallest.{main_class, activity_class}
 use Rattle.rule_witness.specs.CallFacts.{box_class, method_of as own_method, only_ends, initialiser}
 use Rattle.rule_witness.specs.EventFacts.{first_class, bundle, on_create, on_box, tap, own, events_app, events_lists, EventRulesHold}
@@ -119,9 +119,9 @@ bundle_site : SiteClass events_app events_lists (Param own 1) bundle
 unfolding events_app site_class event_types life_events body_named method_with up descriptor_of is_reference
 bundle_site = record { is_class = refl }
 
-the_application : IsApplication events_app 0
+the_application_object : IsApplication events_app 0
 unfolding events_app
-the_application = record { component = record { kind = Application; class = first_class }; there = record { there = refl }; kind = refl }
+the_application_object = record { component = record { kind = Application; class = first_class }; there = record { there = refl }; kind = refl }
 
 the_activity : IsAt events_app.components 1 (record { kind = Activity; class = main_class })
 unfolding events_app
@@ -154,5 +154,6 @@ event_rules_hold p l = record {
   comes_back_labelled = by_event (handed_parameter_taint tt create_parameter create_type bundle_site is_same);
   result_handed = by_event (exit_handed tt);
   result_handed_labelled = by_event (exit_handed_taint tt);
-  others_after_application = by_event (application_live the_application the_activity (not_zero 0));
+  application_starts = the_application the_application_object;
+  others_after_application = by_event (application_live the_application_object the_activity (not_zero 0));
 }

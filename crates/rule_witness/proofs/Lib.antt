@@ -1,4 +1,5 @@
 pub mod CallFacts
+pub mod Deriving
 pub mod EventFacts
 pub mod LibraryFacts
 pub mod Smallest

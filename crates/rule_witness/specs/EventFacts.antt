@@ -18,7 +18,7 @@ use Rattle.fact_rows.specs.declared.site.Site.TheVariants.{Param, Component}
 use Rattle.fact_rows.specs.declared.row.Row.{Row}
 use Rattle.fact_rows.specs.declared.row.Row.TheVariants.{Reached, Points, Taint, ExitPoints, ExitTaint, Live, CompTaint, Handed, HandedTaint, Unknown}
 use Rattle.flow_rules.specs.Nodes.{entry}
-use Rattle.flow_rules.specs.Rules.{Follows}
+use Rattle.flow_rules.specs.Rules.{Follows, Starts}
 use Rattle.rule_witness.specs.Smallest.{main_class, activity_class}
 use Rattle.rule_witness.specs.CallFacts.{box_class, void, ref, method_of, only_ends, initialiser}
 
@@ -131,6 +131,7 @@ pub record EventRulesGive (p : Path) (l : ℕ) : Type 0 where
   pub comes_back_labelled : Gives 45 (Reached at_create ∷ Handed (Param own 1) ∷ HandedTaint (Param own 1) p l ∷ []) (Taint at_create 2 p l)
   pub result_handed : Gives 46 (ExitPoints (body_in own 1) 0 (Component 1) ∷ []) (Handed (Component 1))
   pub result_handed_labelled : Gives 46 (ExitPoints (body_in own 1) 0 (Component 1) ∷ ExitTaint (body_in own 1) 0 p l ∷ []) (HandedTaint (Component 1) p l)
+  pub application_starts : Starts events_app (Live 0 0)
   pub others_after_application : Gives 47 (Live 0 2 ∷ []) (Live 1 0)
 
 abbrev pub EventRulesHold : Type 0

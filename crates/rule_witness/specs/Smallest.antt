@@ -5,13 +5,14 @@ use Rattle.app_machine.specs.declared.method.Act.TheVariants.{Return}
 use Rattle.app_machine.specs.declared.app.Key.TheVariants.{Elem}
 use Rattle.app_machine.specs.declared.app.App.{App}
 use Rattle.app_machine.specs.declared.lists.Lists.{Lists}
+use Rattle.vet_base.specs.Members.{In}
 use Rattle.app_machine.specs.Names.{Name}
 use Rattle.fact_rows.specs.declared.context.Ctx.TheVariants as ctx
 use Rattle.fact_rows.specs.declared.context.Node.{Node}
 use Rattle.fact_rows.specs.declared.site.Site.TheVariants.{Param, Component}
 use Rattle.fact_rows.specs.declared.row.Row.{Row}
 use Rattle.fact_rows.specs.declared.row.Row.TheVariants.{Reached, Points, Live}
-use Rattle.flow_rules.specs.Rules.{GoodTable}
+use Rattle.flow_rules.specs.Rules.{Derivable, GoodTable}
 
 abbrev pub main_class : Name
 main_class = codes "La/Main;"
@@ -57,3 +58,7 @@ smallest_table =
 
 abbrev pub SmallestTableIsGood : Type 0
 SmallestTableIsGood = GoodTable smallest_app no_lists smallest_table
+
+-- each of the rows is derivable, and so they are all that is
+abbrev pub SmallestTableIsDerivable : Type 0
+SmallestTableIsDerivable = (row : Row) → In row smallest_table → Derivable smallest_app no_lists row

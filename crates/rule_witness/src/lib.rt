@@ -6,7 +6,7 @@
 ghost use Rattle.rule_witness.specs.CallFacts.{CallRulesHold};
 ghost use Rattle.rule_witness.specs.EventFacts.{EventRulesHold};
 ghost use Rattle.rule_witness.specs.LibraryFacts.{LibraryRulesHold};
-ghost use Rattle.rule_witness.specs.Smallest.{SmallestTableIsGood};
+ghost use Rattle.rule_witness.specs.Smallest.{SmallestTableIsGood, SmallestTableIsDerivable};
 ghost use Rattle.rule_witness.specs.StepFacts.{StepRulesHold, EffectRulesHold};
 
 /// The eleven rows of the smallest app are a good table.
@@ -37,4 +37,9 @@ pub fn the_rules_of_the_library_hold()
 /// Rules 40 to 47, of events, each give their rows.
 pub fn the_rules_of_events_hold()
     ensures { EventRulesHold }
+{}
+
+/// Each of the eleven rows is derivable.
+pub fn the_smallest_table_is_derivable()
+    ensures { SmallestTableIsDerivable }
 {}

@@ -3,4 +3,5 @@ pub mod OneReading
 pub mod OneVerdict
 pub mod Outcomes
 pub mod Rechecks
+pub mod Tables
 pub mod Texts

@@ -7,5 +7,6 @@ pub mod Reasons
 pub mod Recheck
 pub mod Refuses
 pub mod Report
+pub mod Table
 pub mod Tells
 pub mod Verdict

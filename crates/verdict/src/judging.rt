@@ -1,6 +1,6 @@
 //! What the bytes of all parts of an app come to.
 
-ghost use Rattle.std.specs.Prelude.{◌≡◌, ◌⊎◌, IfOk, IfErr, IsErr};
+ghost use Rattle.std.specs.Prelude.{◌≡◌, ◌⊎◌, IfOk, IfErr, IfSome, IsErr};
 ghost use Rattle.app_machine.specs.SoundLists.{SoundLists};
 ghost use Rattle.app_machine.specs.Sound.{SoundApp};
 ghost use Rattle.app_flow.specs.Flow.{IsGoodFlow};
@@ -10,6 +10,7 @@ ghost use Rattle.outcomes.specs.Within.{AreWithin};
 ghost use Rattle.verdict.specs.Halts.{Halts};
 ghost use Rattle.verdict.specs.OneVerdict.{OnlyJudgement, RefusesOnly};
 ghost use Rattle.verdict.specs.Outcome.{outcome_of};
+ghost use Rattle.verdict.specs.Table.{IsTable};
 ghost use Rattle.verdict.specs.Tells.{IsFollowed, TellsAll, TellsOfApp};
 ghost use Rattle.verdict.specs.Verdict.{ComesTo, Judgement, IsSafeApp, judged_by};
 
@@ -84,6 +85,7 @@ fn judged_app(alloc: Global, app: &App, papers: &Papers, seed: u64) -> Result<Ju
     requires lists { SoundLists papers.now.lists }
     ensures value { IfOk result (λ j. ComesTo app.now papers.now.lists papers.now.declaration j) }
     ensures told { IfOk result (λ j. IsFollowed j.outcome → TellsAll app.now papers.now.lists papers.now.declaration j.outcome) }
+    ensures table { IfOk result (λ j. IfSome j.table IsTable) }
 {
     nothing_is_left_out();
     every_good_table_covers_every_run();
@@ -97,6 +99,7 @@ fn judged_parts(alloc: Global, parts: &Parts, seed: u64) -> Result<Judged, Halt>
     ensures value { IfOk result (λ j. Judgement parts.now j) }
     ensures one { IfOk result (λ j. OnlyJudgement parts.now j) }
     ensures told { IfOk result (λ j. IsFollowed j.outcome → TellsOfApp parts.now j.outcome) }
+    ensures table { IfOk result (λ j. IfSome j.table IsTable) }
     ensures err { IfErr result (λ h. Halts (RefusesOnly parts.now) h) }
 {
     lower_laws();
@@ -128,6 +131,9 @@ pub fn judge(alloc: Global, parts: &Parts, seed: u64) -> Result<Judged, Memory>
     // Unless the parts are refused or the app is too large, the outcome leaves out nothing that a run does.
     ensures told { IfOk result (λ j. IsFollowed j.outcome → TellsOfApp parts.now j.outcome) }
     ensures safe { IfOk result (λ j. j.outcome ≡ Outcome.Clear → IsSafeApp parts.now) }
+
+    // The table, where there is one, ascends and has few rows, which name only what there is.
+    ensures table { IfOk result (λ j. IfSome j.table IsTable) }
 {
     match judged_parts(alloc, parts, seed) {
         Ok(judged) => Ok(judged),
