@@ -12,17 +12,26 @@ use std::{env, io};
 
 fn read_all<R: Files>(rt: &R, alloc: Global, name: &str) -> io::Result<Vec<u8>> {
     let mut bytes = Vec::new(alloc);
-    File::open(rt, name)?.take(16_777_216).read_to_end(&mut bytes)?;
+    File::open(rt, name)?
+        .take(16_777_216)
+        .read_to_end(&mut bytes)?;
     Ok(bytes)
 }
 
 fn insn_to<W: Write>(out: &mut W, insn: &Insn) -> io::Result<()> {
     match insn {
         Insn::F10x(op) => write!(out, "{op:02x}"),
-        Insn::F11n(op, a, n) | Insn::F21s(op, a, n) | Insn::F21h(op, a, n) | Insn::F31i(op, a, n) | Insn::F51l(op, a, n) => write!(out, "{op:02x} v{a} #{n}"),
+        Insn::F11n(op, a, n)
+        | Insn::F21s(op, a, n)
+        | Insn::F21h(op, a, n)
+        | Insn::F31i(op, a, n)
+        | Insn::F51l(op, a, n) => write!(out, "{op:02x} v{a} #{n}"),
         Insn::F11x(op, a) => write!(out, "{op:02x} v{a}"),
         Insn::F10t(op, t) | Insn::F20t(op, t) | Insn::F30t(op, t) => write!(out, "{op:02x} >{t}"),
-        Insn::F12x(op, a, b) | Insn::F22x(op, a, b) | Insn::F32x(op, a, b) => write!(out, "{op:02x} v{a} v{b}"),
+        Insn::F12x(op, a, b) | Insn::F22x(op, a, b) | Insn::F32x(op, a, b) => write!(
+            out,
+            "{op:02x} v{a} v{b}"
+        ),
         Insn::F21t(op, a, t) | Insn::F31t(op, a, t) => write!(out, "{op:02x} v{a} >{t}"),
         Insn::F21c(op, a, i) | Insn::F31c(op, a, i) => write!(out, "{op:02x} v{a} @{i}"),
         Insn::F23x(op, a, b, c) => write!(out, "{op:02x} v{a} v{b} v{c}"),
@@ -59,6 +68,9 @@ fn body_to<W: Write>(out: &mut W, alloc: Global, counts: &Counts, body: &Body) -
         return Ok(());
     };
     writeln!(out, "method")?;
+    if code.units.len() > 0xFFFF_FFFF || code.tries.len() > 0xFFFF_FFFF {
+        return writeln!(out, "too long");
+    }
     match decode(alloc, code, counts) {
         Ok(decoded) => {
             for (pc, insn) in decoded.lines.as_slice() {
@@ -72,12 +84,17 @@ fn body_to<W: Write>(out: &mut W, alloc: Global, counts: &Counts, body: &Body) -
     }
 }
 
+/// The number of rows of a table, which a DEX file says in 32 bits.
+fn rows_of(count: usize) -> u32 {
+    u32::try_from(count).unwrap_or(u32::MAX)
+}
+
 fn dex_to<W: Write>(out: &mut W, alloc: Global, dex: &Dex) -> io::Result<()> {
     let counts = Counts {
-        strings: dex.strings.len() as u32,
-        types: dex.types.len() as u32,
-        fields: dex.fields.len() as u32,
-        methods: dex.methods.len() as u32,
+        strings: rows_of(dex.strings.len()),
+        types: rows_of(dex.types.len()),
+        fields: rows_of(dex.fields.len()),
+        methods: rows_of(dex.methods.len()),
     };
     for class in dex.classes.as_slice() {
         for body in class.directs.as_slice() {
