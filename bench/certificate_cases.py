@@ -226,4 +226,5 @@ def main():
     print("each_kind.cert", hashlib.sha256(kinds).hexdigest())
 
 
-main()
+if __name__ == "__main__":
+    main()

@@ -1,9 +1,11 @@
 //! Answers of the desk to folders in memory: how many of a file of cases are those that are due, and what is answered
-//! where a DEX file is cut at each byte and where a manifest has too many components.
+//! where a DEX file is cut at each byte, where a manifest has too many components, and to certificates.
 #![tactic(auto)]
 
+mod certificates;
 mod folder;
 
+use crate::certificates::certificates;
 use crate::folder::{Held, answer_to, folder_with, path_of};
 use std::rt::Files;
 use std::{fs, io};
@@ -132,5 +134,6 @@ fn main(rt: HostRuntime) -> io::Result<()> {
     cases(&rt, "example_cases.txt", &sample)?;
     cases(&rt, "opcode_cases.txt", &sample)?;
     cuts(&rt, "device_id_posted.dex", &sample)?;
-    components(&rt, 4097, &sample)
+    components(&rt, 4097, &sample)?;
+    certificates(&rt)
 }

@@ -1,6 +1,7 @@
 -- Reading the files of a folder one after the other.
 use Rattle.std.proofs.Common.{◌≡◌, ℕ, ◌+◌, ◌<◌, List, [], ◌∷◌, ◌++◌, Option, Result, Ok, Err, refl, sym, subst}
 use Rattle.std.specs.Prelude.{IsTrue, is_some}
+use Rattle.std.specs.List.{AllByRecursion}
 use Rattle.vet_base.specs.Outside.{Told, held_by}
 use Rattle.vet_base.specs.Script.{Value, run, Fails}
 use Rattle.vet_base.proofs.Scripts.{run_bind, first_fails, Continues, goes_on, ends}
@@ -74,3 +75,8 @@ of_others new told dir text seen count (Err (Refused part reason)) same is_text 
     gathers_others told dir text count (Err (part, reason)) (reads tells) (subst Counts is_text counts) (subst P same is tells)
 of_others new told dir text seen count (Err (ReadFault name)) same is_text reads counts is = tt
 of_others new told dir text seen count (Err Memory) same is_text reads counts is = tt
+
+-- what holds of all and of one more holds of all of them
+pub all_then : {A : Type 0} (P : A → Type 0) (xs : List A) (x : A) → AllByRecursion P xs → P x → AllByRecursion P (xs ++ x ∷ [])
+all_then P [] x all here = (here, tt)
+all_then P (y ∷ ys) x all here = (all.0, all_then P ys x all.1 here)

@@ -1,5 +1,9 @@
+pub mod PartsDue
+pub mod ByFile
+pub mod Commands
 pub mod Ending
 pub mod Folders
 pub mod Holding
 pub mod OneFolder
-pub mod Safety
+pub mod Writes
+pub mod Writing

@@ -1,6 +1,6 @@
--- A folder gives one thing, and comes to one outcome.
-use Rattle.std.proofs.Common.{◌≡◌, ◌⊎◌, ℕ, List, Option, Result, Ok, Err, sym, ◌∙◌, ap, subst, inl, inr}
-use Rattle.std.specs.Prelude.{IsTrue, is_some, IsErr}
+-- A folder gives one thing, and has one due.
+use Rattle.std.proofs.Common.{◌≡◌, ℕ, List, Option, Result, Ok, Err, refl, sym, ◌∙◌, ap, subst}
+use Rattle.std.specs.Prelude.{IsTrue, is_some}
 use Rattle.vet_base.specs.Outside.{Told, held_by}
 use Rattle.vet_base.specs.Script.{run}
 use Rattle.app_machine.specs.declared.papers.Manifest.{Manifest}
@@ -8,15 +8,13 @@ use Rattle.office_forms.specs.declared.told.FormFault.{FormFault}
 use Rattle.office_forms.specs.Form.{IsForm, FirstFormFault}
 use Rattle.office_forms.specs.Manifest.{manifest_form}
 use Rattle.office_forms.specs.OneForm.{OneFormOrFault}
-use Rattle.verdict.specs.declared.outcome.Judged.{Judged}
-use Rattle.verdict.specs.declared.outcome.Outcome.{Outcome}
 use Rattle.verdict.specs.declared.outcome.Outcome.TheVariants.{Refused}
 use Rattle.verdict.specs.declared.outcome.Part.TheVariants.{Manifest as manifest_part}
 use Rattle.verdict.specs.declared.outcome.Reason.TheVariants.{Form}
 use Rattle.verdict.specs.declared.parts.Parts.{Parts}
-use Rattle.verdict.specs.Verdict.{Judgement, Verdict}
-use Rattle.vetting_desk.specs.Answer.{ComesTo, IsOutcome}
+use Rattle.vetting_desk.specs.Due.{Due, reported}
 use Rattle.vetting_desk.specs.Folder.{Held, Refusal, part_at, parts_at, Gathers, no_manifest, bad_manifest, others}
+use Rattle.vetting_desk.specs.FolderDue.{FolderDue}
 use Rattle.vetting_desk.specs.Reading.{GathersTold}
 use Rattle.vet_base.proofs.Results.{one_ok, one_err, ok_or_err}
 
@@ -50,21 +48,22 @@ module _ (forms : OneFormOrFault) (held : Held) (dir : List ℕ) where
       let same : text ≡ seen = same_text text seen first second in
       sym rest ∙ (same_others text seen m n same ((forms.manifest seen).one_form m n (form_as text seen m same is) too) ∙ more)
 
-comes_as : (forms : OneFormOrFault) (dir : List ℕ) (told : Option Told) (gathered : Result Parts Refusal) (other : Outcome) → GathersTold told dir gathered → IsTrue (is_some told) → IsOutcome dir told other → ComesTo gathered other
-comes_as forms dir told gathered other gathers tells is = subst (λ (g : Result Parts Refusal). ComesTo g other) (one_gathered forms (held_by told) dir is.gathered gathered (is.gathers tells) (gathers tells)) is.comes
-
--- parts that were judged come to nothing else
-pub only_of_parts : {E : Type 0} (forms : OneFormOrFault) (dir : List ℕ) (told : Option Told) (parts : Parts) (judged : Judged) (other : Outcome)
-    → GathersTold told dir (Ok parts) → ((j : Judged) → Judgement parts j → (let r : Result Judged E = Ok judged in r ≡ Ok j) ⊎ (let r : Result Judged E = Ok judged in IsErr r))
-    → IsTrue (is_some told) → IsOutcome dir told other → other ≡ judged.outcome
-only_of_parts {E} forms dir told parts judged other gathers one tells is =
-    let verdict : Verdict parts other = comes_as forms dir told (Ok parts) other gathers tells is in
-    of_answer (record { outcome = other; table = verdict.0 }) (one (record { outcome = other; table = verdict.0 }) verdict.1)
-  where
-    of_answer : (j : Judged) → (let r : Result Judged E = Ok judged in r ≡ Ok j) ⊎ (let r : Result Judged E = Ok judged in IsErr r) → j.outcome ≡ judged.outcome
-    of_answer j (inl same) = let e : judged ≡ j = cc in sym (ap (λ (k : Judged). k.outcome) e)
-    of_answer j (inr fails) = absurd cc
+-- a folder that gives parts has no due but what they have
+pub only_of_parts : (forms : OneFormOrFault) (dir : List ℕ) (told : Option Told) (PartsDue : Parts → Due → Type 0) (parts : Parts) (due : Due)
+    → GathersTold told dir (Ok parts) → IsTrue (is_some told) → ((other : Due) → PartsDue parts other → other ≡ due)
+    → (other : Due) → FolderDue PartsDue dir told other → other ≡ due
+only_of_parts forms dir told PartsDue parts due gathers tells only _ (FolderDue.refused refusal is) =
+    absurd (ok_or_err (Ok parts) parts refusal refl (one_gathered forms (held_by told) dir (Ok parts) (Err refusal) (gathers tells) (is tells)))
+only_of_parts forms dir told PartsDue parts due gathers tells only _ (FolderDue.given parts2 due2 is has) =
+    let same : parts ≡ parts2 = one_ok (Ok parts) parts parts2 refl (one_gathered forms (held_by told) dir (Ok parts) (Ok parts2) (gathers tells) (is tells)) in
+    only due2 (subst (λ (p : Parts). PartsDue p due2) (sym same) has)
 
 -- nor does a folder that is refused
-pub only_of_refusal : (forms : OneFormOrFault) (dir : List ℕ) (told : Option Told) (refusal : Refusal) (other : Outcome) → GathersTold told dir (Err refusal) → IsTrue (is_some told) → IsOutcome dir told other → other ≡ Refused refusal.0 refusal.1
-only_of_refusal forms dir told refusal other gathers tells is = comes_as forms dir told (Err refusal) other gathers tells is
+pub only_of_refusal : (forms : OneFormOrFault) (dir : List ℕ) (told : Option Told) (PartsDue : Parts → Due → Type 0) (refusal : Refusal)
+    → GathersTold told dir (Err refusal) → IsTrue (is_some told)
+    → (other : Due) → FolderDue PartsDue dir told other → other ≡ reported (Refused refusal.0 refusal.1)
+only_of_refusal forms dir told PartsDue refusal gathers tells _ (FolderDue.refused other is) =
+    let same : refusal ≡ other = one_err (Err refusal) refusal other refl (one_gathered forms (held_by told) dir (Err refusal) (Err other) (gathers tells) (is tells)) in
+    ap (λ (r : Refusal). reported (Refused r.0 r.1)) (sym same)
+only_of_refusal forms dir told PartsDue refusal gathers tells _ (FolderDue.given parts2 due2 is has) =
+    absurd (ok_or_err (Err refusal) parts2 refusal (one_gathered forms (held_by told) dir (Err refusal) (Ok parts2) (gathers tells) (is tells)) refl)

@@ -1,23 +1,45 @@
 -- What is due: the status with which a run is to end, the text to be printed, and the file to be written.
-use Rattle.std.specs.Prelude.{ℕ, List, ◌++◌, Option, None, codes}
+use Rattle.std.specs.Prelude.{ℕ, ◌==◌, List, [], ◌∷◌, ◌++◌, Option, Some, None, string_bytes, codes, if◌then◌else◌}
+use Rattle.cert_report.specs.declared.refusal.CertRefusal.{CertRefusal}
+use Rattle.cert_report.specs.Refusal.{refusal_text}
 use Rattle.verdict.specs.declared.outcome.Outcome.{Outcome}
 use Rattle.verdict.specs.Outcome.{status_of}
 use Rattle.verdict.specs.Printed.{escaped}
 use Rattle.verdict.specs.Report.{report_text}
 use Rattle.vetting_desk.specs.declared.answer.Answer.{Answer}
-use Rattle.vetting_desk.specs.declared.answer.Answer.TheVariants.{Usage, Vetted}
+use Rattle.vetting_desk.specs.declared.answer.Answer.TheVariants.{Usage, Vetted, Certified, NoCertificate, LongCertificate, Uncertified}
 
--- the file, if any, by its name and bytes
+-- a file, by its name and bytes
+abbrev pub NewFile : Type 0
+NewFile = List ℕ × List ℕ
+
+-- what is due; the file, if any
 pub record Due : Type 0 where
   pub status : ℕ
   pub text : List ℕ
-  pub written : Option (List ℕ × List ℕ)
+  pub written : Option NewFile
 
 unfoldable pub usage_text : List ℕ
 usage_text = codes "unknown command or argument\n"
 
 unfoldable pub read_fault_text : List ℕ → List ℕ
 read_fault_text name = codes "read fault " ++ escaped name ++ codes "\n"
+
+-- the part that is left where each slash begins a new one
+abbrev pub behind_slashes : List ℕ → List ℕ → List ℕ
+behind_slashes part [] = part
+behind_slashes part (c ∷ cs) = if c == 47 then behind_slashes cs cs else behind_slashes part cs
+
+-- the last part of a path
+unfoldable pub last_part : List ℕ → List ℕ
+last_part path = behind_slashes path path
+
+-- the file of a certificate is not there, or has more than 536,870,912 bytes
+unfoldable pub absent_text : List ℕ → List ℕ
+absent_text path = codes "refused " ++ escaped (last_part path) ++ codes ": absent\n"
+
+unfoldable pub too_long_text : List ℕ → List ℕ
+too_long_text path = codes "refused " ++ escaped (last_part path) ++ codes ": longer than 536870912\n"
 
 -- due to words that are no command
 abbrev pub usage : Due
@@ -27,6 +49,25 @@ usage = record { status = 4; text = usage_text; written = None }
 abbrev pub reported : Outcome → Due
 reported outcome = record { status = status_of outcome; text = report_text outcome; written = None }
 
+-- due where a certificate is asked for besides
+abbrev pub certified : Outcome → List ℕ → List ℕ → Due
+certified outcome path bytes = record { status = status_of outcome; text = report_text outcome; written = Some (path, bytes) }
+
+-- due where the file of a certificate is not there, and where it is too long
+abbrev pub no_certificate : List ℕ → Due
+no_certificate path = record { status = 3; text = absent_text path; written = None }
+
+abbrev pub long_certificate : List ℕ → Due
+long_certificate path = record { status = 3; text = too_long_text path; written = None }
+
+-- due to a certificate that is refused
+abbrev pub uncertified : CertRefusal → Due
+uncertified refusal = record { status = 9; text = refusal_text refusal; written = None }
+
 abbrev pub due_of : Answer → Due
 due_of Usage = usage
 due_of (Vetted outcome) = reported outcome
+due_of (Certified outcome path bytes) = certified outcome (string_bytes path) bytes
+due_of (NoCertificate path) = no_certificate (string_bytes path)
+due_of (LongCertificate path) = long_certificate (string_bytes path)
+due_of (Uncertified refusal) = uncertified refusal

@@ -1,29 +1,66 @@
--- What is found of the words and the files before anything is printed.
-use Rattle.std.specs.Prelude.{◌≡◌, ℕ, List, Option, Some, None, string_bytes, IsTrue, is_some}
+-- What is found of the words and the files before anything is written or printed.
+use Rattle.std.specs.Prelude.{◌≡◌, ◌⊎◌, ℕ, List, Option, Some, None, Result, Ok, Err, String, string_bytes, IsTrue, is_some}
+use Rattle.std.specs.declared.alloc.Global.{Global}
 use Rattle.vet_base.specs.Outside.{HasRisen, Told}
+use Rattle.vet_base.specs.declared.outside.FileFault.{FileFault}
+use Rattle.vet_base.specs.declared.outside.FileFault.TheVariants as faults
+use Rattle.fact_rows.specs.declared.row.Row.{Row}
+use Rattle.certificate.specs.Cert.{IsCert}
 use Rattle.verdict.specs.declared.outcome.Outcome.{Outcome}
-use Rattle.verdict.specs.declared.outcome.Outcome.TheVariants.{Clear}
+use Rattle.verdict.specs.declared.outcome.Outcome.TheVariants as outcomes
+use Rattle.verdict.specs.declared.parts.Parts.{Parts}
+use Rattle.verdict.specs.Outcome.{status_of}
+use Rattle.verdict.specs.Report.{report_text}
+use Rattle.verdict.specs.Tells.{IsFollowed, TellsOfApp}
+use Rattle.verdict.specs.Verdict.{IsSafeApp}
+use Rattle.vet_base.specs.declared.stop.Stop.{Stop}
+use Rattle.vet_base.specs.declared.stop.Stop.TheVariants as stops
+use Rattle.cert_report.specs.declared.refusal.CertRefusal.TheVariants.{Fault}
+use Rattle.certificate.specs.declared.fault.CertFault.{CertFault}
+use Rattle.vet_base.specs.declared.memory.Memory.{Memory as NoMemory}
 use Rattle.vetting_desk.specs.declared.answer.Answer.{Answer}
-use Rattle.vetting_desk.specs.declared.answer.Answer.TheVariants.{Usage, Vetted}
-use Rattle.vetting_desk.specs.declared.run.Found.{Found}
-use Rattle.vetting_desk.specs.declared.run.Found.TheVariants.{Said, ReadFault, Memory}
+use Rattle.vetting_desk.specs.declared.answer.Answer.TheVariants.{Vetted, NoCertificate, LongCertificate, Uncertified}
+use Rattle.vetting_desk.specs.declared.finding.Found.{Found}
+use Rattle.vetting_desk.specs.declared.finding.Found.TheVariants.{Said, ReadFault, Memory}
+use Rattle.vetting_desk.specs.declared.folder.Halt.{Halt}
+use Rattle.vetting_desk.specs.declared.folder.Halt.TheVariants as halts
 use Rattle.vetting_desk.specs.declared.words.Words.{Words}
-use Rattle.vetting_desk.specs.declared.words.Words.TheVariants.{Check}
-use Rattle.vetting_desk.specs.Answer.{IsOutcome, HasSafeApp, IsFileOf}
-use Rattle.vetting_desk.specs.Due.{due_of, read_fault_text}
+use Rattle.vetting_desk.specs.Answer.{Answers, SaysClear, IsSafe, SaysFound, IsFullReport, IsFileOf}
+use Rattle.vetting_desk.specs.Due.{Due, NewFile, reported, certified, due_of, read_fault_text}
+use Rattle.vetting_desk.specs.FolderDue.{digest_of, Rechecks}
+use Rattle.vetting_desk.specs.Outside.{Tells, TellsInput}
 use Rattle.vetting_desk.specs.Reading.{TellsRead, SameFiles}
 
--- The folder comes to this outcome, and to no other where its files are told; and where that is clear its app is safe.
-pub record FindsOutcome (dir : List ℕ) (told : Option Told) (outcome : Outcome) : Type 0 where
-  pub is : IsOutcome dir told outcome
-  pub only : IsTrue (is_some told) → (other : Outcome) → IsOutcome dir told other → other ≡ outcome
-  pub safe : outcome ≡ Clear → HasSafeApp dir told
+-- The text is the report of an outcome which leaves out nothing that a run of the app of the parts does, unless it is too large.
+pub record ReportsAll (parts : Parts) (due : Due) : Type 0 where
+  pub outcome : Outcome
+  pub status : due.status ≡ status_of outcome
+  pub text : due.text ≡ report_text outcome
+  pub tells : IsFollowed outcome → TellsOfApp parts outcome
 
-abbrev pub FindsAnswer : Option Words → Option Told → Answer → Type 0
-FindsAnswer None told Usage = Unit {0}
-FindsAnswer None told (Vetted outcome) = ⊥
-FindsAnswer (Some (Check dir n)) told Usage = ⊥
-FindsAnswer (Some (Check dir n)) told (Vetted outcome) = FindsOutcome dir told outcome
+-- What is found of parts of which this is asked: what is due, and, where it is sure, that nothing else is; that clear is sound, and that
+-- flagged and undecided leave out nothing.
+pub record FindsOfParts (Sure : Type 0) (PartsDue : Parts → Due → Type 0) (parts : Parts) (due : Due) : Type 0 where
+  pub is : PartsDue parts due
+  pub only : Sure → (other : Due) → PartsDue parts other → other ≡ due
+  pub safe : due.status ≡ 0 → IsSafeApp parts
+  pub full : (due.status ≡ 1) ⊎ (due.status ≡ 2) → ReportsAll parts due
+
+-- the report, with the certificate of the table where there is one
+abbrev pub CertifiedAs : List ℕ → Parts → Outcome → Option (List Row) → Due → Type 0
+CertifiedAs path parts outcome None due = due ≡ reported outcome
+CertifiedAs path parts outcome (Some rows) due = (bytes : List ℕ) × IsCert bytes (digest_of parts) rows × (due ≡ certified outcome path bytes)
+
+-- the due to the words, with that there is one, and with what it says of the app
+pub record TheDue (words : Option Words) (tells : Tells) (due : Due) : Type 0 where
+  pub answers : Answers words tells due
+  pub only : TellsInput tells → (other : Due) → Answers words tells other → other ≡ due
+  pub safe : SaysClear words due.status → IsSafe words tells
+  pub full : SaysFound words due.status → IsFullReport words tells due.status due.text
+
+-- whatever was printed before
+abbrev pub FindsDue : Option Words → Option Told → Due → Type 0
+FindsDue words told due = (printed : Option (List ℕ)) → TheDue words (record { files = told; printed = printed }) due
 
 -- A read of a file of this command failed in this very call, and is the call that failed last. No file changed.
 pub record ReadFails (words : Option Words) (old new : Option Told) (before after : ℕ) (name : List ℕ) : Type 0 where
@@ -33,12 +70,47 @@ pub record ReadFails (words : Option Words) (old new : Option Told) (before afte
   pub kept : SameFiles old new
 
 abbrev pub IsFound : Option Words → Option Told → Option Told → ℕ → ℕ → Found → Type 0
-IsFound words old new before after (Said answer) = FindsAnswer words old answer × (new ≡ old) × (after ≡ before)
+IsFound words old new before after (Said answer) = FindsDue words old (due_of answer) × (new ≡ old) × (after ≡ before)
 IsFound words old new before after (ReadFault name) = ReadFails words old new before after (string_bytes name)
 IsFound words old new before after Memory = (new ≡ old) × (after ≡ before)
 
+-- what is found of parts by the certificate in a file
+abbrev pub FindsByFile : List ℕ → Parts → Option Told → Option Told → ℕ → ℕ → Found → Type 0
+FindsByFile path parts old new before after (Said answer) = FindsOfParts (IsTrue (is_some old)) (Rechecks path old) parts (due_of answer) × (new ≡ old) × (after ≡ before)
+FindsByFile path parts old new before after (ReadFault name) = (string_bytes name ≡ path) × HasRisen before after × TellsRead new (string_bytes name) × SameFiles old new
+FindsByFile path parts old new before after Memory = (new ≡ old) × (after ≡ before)
+
+-- an answer was found, unless memory ran out
+abbrev pub said : Result Answer NoMemory → Found
+said (Ok answer) = Said answer
+said (Err e) = Memory
+
+-- the answer where the bytes are no certificate
+abbrev pub IsUnreadable : Stop CertFault → Answer → Type 0
+IsUnreadable stops.Memory answer = ⊥
+IsUnreadable (stops.Fault fault) answer = answer ≡ Uncertified (Fault fault)
+
+-- the parts of the folder could not be had
+abbrev pub halted : Halt → Found
+halted (halts.Refused part reason) = Said (Vetted (outcomes.Refused part reason))
+halted (halts.ReadFault name) = ReadFault name
+halted halts.Memory = Memory
+
+-- the certificate at this path could not be had
+abbrev pub unread : String Global → FileFault → Found
+unread path faults.Absent = Said (NoCertificate path)
+unread path faults.TooLong = Said (LongCertificate path)
+unread path faults.Failed = ReadFault path
+unread path faults.Memory = Memory
+
+-- the file that is to be written, if any
+abbrev pub file_of : Found → Option NewFile
+file_of (Said answer) = (due_of answer).written
+file_of (ReadFault name) = None
+file_of Memory = None
+
 -- the status and the text that say what was found
-abbrev pub SaysFound : Found → ℕ → List ℕ → Type 0
-SaysFound (Said answer) status text = (status ≡ (due_of answer).status) × (text ≡ (due_of answer).text)
-SaysFound (ReadFault name) status text = (status ≡ 5) × (text ≡ read_fault_text (string_bytes name))
-SaysFound Memory status text = ⊥
+abbrev pub Says : Found → ℕ → List ℕ → Type 0
+Says (Said answer) status text = (status ≡ (due_of answer).status) × (text ≡ (due_of answer).text)
+Says (ReadFault name) status text = (status ≡ 5) × (text ≡ read_fault_text (string_bytes name))
+Says Memory status text = ⊥

@@ -1,6 +1,7 @@
 pub mod Answer
 pub mod Due
 pub mod Folder
+pub mod FolderDue
 pub mod Found
 pub mod Outside
 pub mod Reading

@@ -1,5 +1,7 @@
 -- What reading the files of a folder returned, and what it left.
 use Rattle.std.specs.Prelude.{◌≡◌, ℕ, List, Option, Some, None, Result, Ok, Err, string_bytes, IsTrue, is_some}
+use Rattle.std.specs.List.{AllByRecursion}
+use Rattle.certificate.specs.Digests.{IsShort}
 use Rattle.vet_base.specs.Outside.{HasRisen, Told, held_by}
 use Rattle.vet_base.specs.Script.{Script, run, Fails}
 use Rattle.vet_base.specs.declared.outside.FailedCall.TheVariants.{Read}
@@ -20,6 +22,14 @@ use Rattle.vetting_desk.specs.Folder.{Refusal, Gathers}
 abbrev pub TellsRead : Option Told → List ℕ → Type 0
 TellsRead None name = Unit {0}
 TellsRead (Some told) name = told.failed ≡ Some (Read name)
+
+-- each part has room for its length in four bytes
+pub record AreShort (parts : Parts) : Type 0 where
+  pub manifest : IsShort parts.manifest
+  pub layouts : IsShort parts.layouts
+  pub declaration : IsShort parts.declaration
+  pub lists : IsShort parts.lists
+  pub dex : AllByRecursion IsShort parts.dex
 
 -- no file changed
 abbrev pub SameFiles : Option Told → Option Told → Type 0

@@ -1,26 +1,34 @@
 -- How a run ends.
-use Rattle.std.specs.Prelude.{◌≡◌, ◌⊎◌, ℕ, List, ◌++◌, take, Option, Some, None, Ok}
+use Rattle.std.specs.Prelude.{◌≡◌, ◌⊎◌, ℕ, List, ◌++◌, take, Option, Some, None, Result, Ok, Err}
 use Rattle.std.specs.Option.{option_map}
 use Rattle.vet_base.specs.Outside.{HasRisen, Told, WritesFile}
+use Rattle.vet_base.specs.declared.outside.FileFault.{FileFault}
+use Rattle.vet_base.specs.declared.outside.FileFault.TheVariants as faults
 use Rattle.vetting_desk.specs.declared.answer.Status.{Status}
 use Rattle.vetting_desk.specs.declared.words.Words.{Words}
-use Rattle.vetting_desk.specs.Answer.{Answers, SaysClear, IsSafe}
-use Rattle.vetting_desk.specs.Due.{Due, read_fault_text}
-use Rattle.vetting_desk.specs.Found.{ReadFails}
-use Rattle.vetting_desk.specs.Outside.{Tells, TellsInput, Outside}
+use Rattle.vetting_desk.specs.Answer.{Answers, IsFullReport}
+use Rattle.vetting_desk.specs.Due.{Due, NewFile, read_fault_text}
+use Rattle.vetting_desk.specs.declared.finding.Found.{Found}
+use Rattle.vetting_desk.specs.Found.{ReadFails, Says, file_of}
+use Rattle.vetting_desk.specs.Outside.{TellsInput, Outside}
 
 abbrev pub status : ℕ → Status
 status n = record { 0 = n }
 
 -- no file changed but one, if any, that was written whole
-abbrev pub Writes : Option (List ℕ × List ℕ) → Option Told → Option Told → Type 0
+abbrev pub Writes : Option NewFile → Option Told → Option Told → Type 0
 Writes None old new = new ≡ old
 Writes (Some file) old new = WritesFile old new file.0 file.1 (Ok tt)
 
 -- No call of the files failed, and this alone was written.
-pub record NoFault (written : Option (List ℕ × List ℕ)) (old new : Outside) : Type 0 where
+pub record NoFault (written : Option NewFile) (old new : Outside) : Type 0 where
   pub files : Writes written old.tells.files new.tells.files
   pub count : new.faults.files ≡ old.faults.files
+
+-- The write of this file failed in this very call, and is the call that failed last: the file has its old bytes or a front of the new.
+pub record WriteFails (file : NewFile) (old new : Outside) : Type 0 where
+  pub files : WritesFile old.tells.files new.tells.files file.0 file.1 (Err faults.Failed)
+  pub risen : HasRisen old.faults.files new.faults.files
 
 abbrev pub ReadFault : Option Words → Outside → Outside → List ℕ → Type 0
 ReadFault words old new name = ReadFails words old.tells.files new.tells.files old.faults.files new.faults.files name
@@ -30,10 +38,11 @@ pub data ComesToSay (IsDue : Due → Type 0) (words : Option Words) (old new : O
   answer : (due : Due) → IsDue due → NoFault due.written old new → ComesToSay IsDue words old new due.status due.text
   read_fault : (name : List ℕ) → ReadFault words old new name → ComesToSay IsDue words old new 5 (read_fault_text name)
 
--- Memory ran out on the way there: nothing failed before, or a read had.
-pub data RunsOut (words : Option Words) (old new : Outside) : Type 0 where
-  no_fault : NoFault None old new → RunsOut words old new
-  read_fault : (name : List ℕ) → ReadFault words old new name → RunsOut words old new
+-- Memory ran out on the way there: nothing was done before, or the file that is due was written, or a read had failed.
+pub data RunsOut (IsDue : Due → Type 0) (words : Option Words) (old new : Outside) : Type 0 where
+  no_fault : NoFault None old new → RunsOut IsDue words old new
+  written : (due : Due) → IsDue due → NoFault due.written old new → RunsOut IsDue words old new
+  read_fault : (name : List ℕ) → ReadFault words old new name → RunsOut IsDue words old new
 
 -- the whole text was printed
 pub record Prints (text : List ℕ) (old new : Outside) : Type 0 where
@@ -51,11 +60,12 @@ pub record PrintsNothing (old new : Outside) : Type 0 where
   pub count : new.faults.sink ≡ old.faults.sink
 
 -- How a run ends, and with which status, where this is due: what it came to say was printed; or the sink failed meanwhile; or
--- memory ran out.
+-- the write of the file that is due failed, and nothing was printed; or memory ran out.
 pub data Ends (IsDue : Due → Type 0) (words : Option Words) (old new : Outside) : ℕ → Type 0 where
   said : (n : ℕ) (text : List ℕ) → ComesToSay IsDue words old new n text → Prints text old new → Ends IsDue words old new n
   put_failed : (n : ℕ) (text : List ℕ) → ComesToSay IsDue words old new n text → PrintsFront text old new → Ends IsDue words old new 6
-  memory : RunsOut words old new → PrintsNothing old new → Ends IsDue words old new 7
+  write_failed : (due : Due) (file : NewFile) → IsDue due → due.written ≡ Some file → WriteFails file old new → PrintsNothing old new → Ends IsDue words old new 6
+  memory : RunsOut IsDue words old new → PrintsNothing old new → Ends IsDue words old new 7
 
 -- It ends with what is due to the words and the outside.
 abbrev pub EndsAsDue : Option Words → Outside → Outside → ℕ → Type 0
@@ -65,11 +75,11 @@ EndsAsDue words old new n = Ends (Answers words old.tells) words old new n
 abbrev pub EndsAsOnlyDue : Option Words → Outside → Outside → ℕ → Type 0
 EndsAsOnlyDue words old new n = TellsInput old.tells → (due : Due) → Answers words old.tells due → Ends (λ d. d ≡ due) words old new n
 
--- the due to the words, with that there is one, and with what it says of safety
-pub record TheDue (words : Option Words) (tells : Tells) (due : Due) : Type 0 where
-  pub answers : Answers words tells due
-  pub only : TellsInput tells → (other : Due) → Answers words tells other → other ≡ due
-  pub safe : SaysClear words due.status → IsSafe words tells
+-- the text that was printed leaves out nothing
+pub record PrintsFullReport (words : Option Words) (old new : Outside) (status : ℕ) : Type 0 where
+  pub text : List ℕ
+  pub prints : Prints text old new
+  pub full : IsFullReport words old.tells status text
 
 -- What a put of a text came to: the text went out and the status stands; or the sink failed, having taken a front of the text; or
 -- memory ran out.
@@ -78,3 +88,29 @@ PutsText old new before after due text result =
     ((result ≡ due) × (new ≡ option_map (λ taken. taken ++ text) old) × (after ≡ before))
     ⊎ ((result ≡ status 6) × ((n : ℕ) × (new ≡ option_map (λ taken. taken ++ take n text) old)) × HasRisen before after)
     ⊎ ((result ≡ status 7) × (new ≡ old) × (after ≡ before))
+
+-- the status of a write that failed
+abbrev pub status_of_write : FileFault → Status
+status_of_write faults.Absent = status 6
+status_of_write faults.TooLong = status 6
+status_of_write faults.Failed = status 6
+status_of_write faults.Memory = status 7
+
+-- the write of the file that is due failed, or memory ran out
+abbrev pub NotWritten : Option NewFile → Option Told → Option Told → ℕ → ℕ → Status → Type 0
+NotWritten None old new before after result = ⊥
+NotWritten (Some file) old new before after result =
+    ((result ≡ status 6) × WritesFile old new file.0 file.1 (Err faults.Failed) × HasRisen before after)
+    ⊎ ((result ≡ status 7) × (new ≡ old) × (after ≡ before))
+
+-- what a write of the file that is due came to, if there is one
+abbrev pub WritesDue : Option NewFile → Option Told → Option Told → ℕ → ℕ → Result (Unit {0}) Status → Type 0
+WritesDue file old new before after (Ok x) = Writes file old new × (after ≡ before)
+WritesDue file old new before after (Err result) = NotWritten file old new before after result
+
+-- What was found comes to this end: its file was written, if any, and its text put; or the write failed, or memory ran out there; or
+-- memory ran out before anything was written.
+pub data Finishes (found : Found) (old new : Outside) (result : Status) : Type 0 where
+  put : (due : Status) (text : List ℕ) → Says found due.0 text → NoFault (file_of found) old new → PutsText old.tells.printed new.tells.printed old.faults.sink new.faults.sink due text result → Finishes found old new result
+  unwritten : NotWritten (file_of found) old.tells.files new.tells.files old.faults.files new.faults.files result → PrintsNothing old new → Finishes found old new result
+  memory : result ≡ status 7 → NoFault None old new → PrintsNothing old new → Finishes found old new result

@@ -4,7 +4,7 @@ use Rattle.std.specs.Char.{is_ascii_digit}
 use Rattle.std.specs.Option.{option_map}
 use Rattle.std.specs.Cmp.Lexicographic.{pointwise}
 use Rattle.vetting_desk.specs.declared.words.Words.{Words}
-use Rattle.vetting_desk.specs.declared.words.Words.TheVariants.{Check}
+use Rattle.vetting_desk.specs.declared.words.Words.TheVariants.{Check, Certify, Recheck}
 use Rattle.vetting_desk.specs.declared.words.Command.{Command}
 use Rattle.vetting_desk.specs.declared.words.Command.TheVariants as borrowed
 use Rattle.vetting_desk.specs.declared.words.WordFault.{WordFault}
@@ -24,6 +24,12 @@ number limit (c ∷ d ∷ ds) = if c == 48 then None else digits limit 0 (c ∷ 
 unfoldable pub is_check : List ℕ → Bool
 is_check word = pointwise nat_eq word (codes "check")
 
+unfoldable pub is_certify : List ℕ → Bool
+is_certify word = pointwise nat_eq word (codes "certify")
+
+unfoldable pub is_recheck : List ℕ → Bool
+is_recheck word = pointwise nat_eq word (codes "recheck")
+
 -- the name of a folder or file has 1 to 1,024 bytes
 unfoldable pub is_file_name : List ℕ → Bool
 is_file_name word = nat_le 1 (length word) && nat_le (length word) 1024
@@ -39,13 +45,34 @@ positive_of (Some n) = positive n
 unfoldable pub workers : List ℕ → Option ℕ
 workers word = positive_of (number 16 word)
 
--- the command, where the words are one: `check DIR WORKERS`
+-- `check DIR WORKERS`
+abbrev pub check_words : List ℕ → List ℕ → Option Words
+check_words dir count = if is_file_name dir then option_map (λ n. Check dir n) (workers count) else None
+
+-- `certify DIR CERT`
+abbrev pub certify_words : List ℕ → List ℕ → Option Words
+certify_words dir cert = if is_file_name dir && is_file_name cert then Some (Certify dir cert) else None
+
+-- `recheck DIR CERT`
+abbrev pub recheck_words : List ℕ → List ℕ → Option Words
+recheck_words dir cert = if is_file_name dir && is_file_name cert then Some (Recheck dir cert) else None
+
+abbrev pub folder_words : List ℕ → List ℕ → List ℕ → Option Words
+folder_words command dir last =
+    if is_check command then check_words dir last
+    else if is_certify command then certify_words dir last
+    else if is_recheck command then recheck_words dir last
+    else None
+
+-- the command, where the words are one
 abbrev pub parse : List (List ℕ) → Option Words
-parse (command ∷ dir ∷ count ∷ []) = if is_check command && is_file_name dir then option_map (λ n. Check dir n) (workers count) else None
+parse (command ∷ dir ∷ last ∷ []) = folder_words command dir last
 parse words = None
 
 abbrev pub command_words : Command → Words
 command_words (borrowed.Check dir n) = Check dir.now n
+command_words (borrowed.Certify dir cert) = Certify dir.now cert.now
+command_words (borrowed.Recheck dir cert) = Recheck dir.now cert.now
 
 abbrev pub Parses : Result Words WordFault → Option Words → Type 0
 Parses (Ok words) parsed = parsed ≡ Some words

@@ -1,14 +1,16 @@
 //! What the words and the files come to, with the status and the text that say so.
 
 ghost use Rattle.std.specs.Prelude.{◌≡◌, ◌++◌, codes, IfOk};
-ghost use Rattle.vetting_desk.specs.Due.{usage_text, read_fault_text, due_of};
+ghost use Rattle.vetting_desk.specs.Due.{usage_text, read_fault_text, behind_slashes, last_part, absent_text, too_long_text, due_of};
 
+use cert_report::{CertRefusal, report_refusal};
 use std::alloc::Global;
 use verdict::{Outcome, put_name, report, status_for};
-use vet_base::Memory;
+use vet_base::{Memory, Seq};
 
 /// The exit status of the program: 0 clear, 1 flagged, 2 undecided, 3 refused, 4 the words are no command, 5 a file
-/// could not be read, 6 a text could not be printed, 7 want of memory. `vet` says when each comes.
+/// could not be read, 6 a text could not be printed or a file not be written, 7 want of memory, 9 a certificate is
+/// refused. `vet` says when each comes.
 #[derive(Clone, Copy, Debug, PartialEq, Eq)]
 pub struct Status(pub u8);
 
@@ -19,6 +21,14 @@ pub enum Answer {
     Usage,
     /// What the folder comes to.
     Vetted(Outcome),
+    /// The same, with the path that the certificate of its table goes to, and its bytes.
+    Certified(Outcome, String, Seq<u8>),
+    /// There is no certificate at this path.
+    NoCertificate(String),
+    /// What stands at this path is too long for a certificate.
+    LongCertificate(String),
+    /// The certificate is refused.
+    Uncertified(CertRefusal),
 }
 
 /// The status that says the answer.
@@ -28,6 +38,10 @@ pub fn status_saying(answer: &Answer) -> Status
     match answer {
         Answer::Usage => Status(4),
         Answer::Vetted(outcome) => Status(status_for(outcome)),
+        Answer::Certified(outcome, _, _) => Status(status_for(outcome)),
+        Answer::NoCertificate(_) => Status(3),
+        Answer::LongCertificate(_) => Status(3),
+        Answer::Uncertified(_) => Status(9),
     }
 }
 
@@ -38,6 +52,45 @@ fn usage(alloc: Global) -> Result<Vec<u8>, Memory>
     Ok(b"unknown command or argument\n".as_slice().to_vec(alloc)?)
 }
 
+/// What is left of a part where each slash in the rest begins a new one.
+fn behind_slashes<'a>(part: &'a [u8], rest: &'a [u8]) -> &'a [u8]
+    ensures { result.now ≡ behind_slashes part.now rest.now }
+{
+    match rest {
+        [] => part,
+        [b'/', more @ ..] => behind_slashes(more, more),
+        [_, more @ ..] => behind_slashes(part, more),
+    }
+}
+
+/// The last part of a path.
+#[tactic(auto, unfolding(crate::specs::Due::last_part))]
+fn last_part(path: &[u8]) -> &[u8]
+    ensures { result.now ≡ last_part path.now }
+{
+    behind_slashes(path, path)
+}
+
+#[tactic(auto, unfolding(crate::specs::Due::absent_text))]
+fn absent(alloc: Global, path: &str) -> Result<Vec<u8>, Memory>
+    ensures { IfOk result (λ text. text.items ≡ absent_text path.now) }
+{
+    let mut text = b"refused ".as_slice().to_vec(alloc)?;
+    put_name(&mut text, last_part(path.as_bytes()))?;
+    text.extend_from_slice(b": absent\n".as_slice())?;
+    Ok(text)
+}
+
+#[tactic(auto, unfolding(crate::specs::Due::too_long_text))]
+fn too_long(alloc: Global, path: &str) -> Result<Vec<u8>, Memory>
+    ensures { IfOk result (λ text. text.items ≡ too_long_text path.now) }
+{
+    let mut text = b"refused ".as_slice().to_vec(alloc)?;
+    put_name(&mut text, last_part(path.as_bytes()))?;
+    text.extend_from_slice(b": longer than 536870912\n".as_slice())?;
+    Ok(text)
+}
+
 /// The text that says the answer. It ends with one line feed.
 pub fn text_saying(alloc: Global, answer: &Answer) -> Result<Vec<u8>, Memory>
     ensures { IfOk result (λ text. text.items ≡ (due_of answer.now).text) }
@@ -45,6 +98,10 @@ pub fn text_saying(alloc: Global, answer: &Answer) -> Result<Vec<u8>, Memory>
     match answer {
         Answer::Usage => usage(alloc),
         Answer::Vetted(outcome) => report(alloc, outcome),
+        Answer::Certified(outcome, _, _) => report(alloc, outcome),
+        Answer::NoCertificate(path) => absent(alloc, path.as_str()),
+        Answer::LongCertificate(path) => too_long(alloc, path.as_str()),
+        Answer::Uncertified(refusal) => report_refusal(alloc, refusal),
     }
 }
 

@@ -1,11 +1,13 @@
 //! The files of a folder: the parts of an app, read in a fixed order.
 
 ghost use Rattle.std.specs.Prelude.{◌≡◌, ◌++◌, codes, string_bytes, IfOk, OnOk};
+ghost use Rattle.std.specs.List.{AllByRecursion};
+ghost use Rattle.certificate.specs.Digests.{IsShort};
 ghost use Rattle.vet_base.specs.Outside.{held_by};
 ghost use Rattle.verdict.specs.Reasons.{dex_name, part_name};
 ghost use Rattle.vetting_desk.specs.Folder.{file_name, part_at, dexes_at, parts_at};
 ghost use Rattle.vetting_desk.specs.Answer.{IsFileIn};
-ghost use Rattle.vetting_desk.specs.Reading.{ReadsAs, Leaves, FailsAt, CountsDex, GathersAs};
+ghost use Rattle.vetting_desk.specs.Reading.{ReadsAs, Leaves, FailsAt, CountsDex, GathersAs, AreShort};
 
 use office_forms::{FormFault, read_manifest};
 use std::alloc::{AllocError, AllocFailed, Global};
@@ -87,6 +89,7 @@ fn part_in<F: Files>(alloc: Global, files: &mut F, dir: &str, part: Part) -> Res
     ensures value { ReadsAs (F.told files.old) (λ bytes. bytes) result (part_at (held_by (F.told files.old)) dir.now part) }
     ensures leaves { Leaves (F.told files.old) (F.told files.new) (F.fault_count files.old) (F.fault_count files.new) result }
     ensures file { FailsAt (λ name. name ≡ file_name dir.now part) result }
+    ensures short { IfOk result (λ bytes. IsShort bytes) }
 {
     let name = name_of(alloc, dir, part)?;
     match files.read(alloc, name.as_str(), FILE_LIMIT) {
@@ -109,6 +112,7 @@ fn dexes_in<F: Files>(
     ensures value { ReadsAs (F.told files.old) (λ dexes. (dexes, tt)) result (dexes_at (held_by (F.told files.old)) dir.now count) }
     ensures leaves { Leaves (F.told files.old) (F.told files.new) (F.fault_count files.old) (F.fault_count files.new) result }
     ensures file { FailsAt (IsFileIn dir.now) result }
+    ensures short { IfOk result (λ dexes. AllByRecursion IsShort dexes) }
 {
     let mut dexes = Vec::new(alloc);
     for i in 0..count {
@@ -127,9 +131,11 @@ fn parts_with<F: Files>(
     manifest: Seq<u8>,
     count: u32,
 ) -> Result<Parts, Halt>
+    requires { IsShort manifest }
     ensures value { ReadsAs (F.told files.old) (λ parts. parts) result (parts_at (held_by (F.told files.old)) dir.now manifest count) }
     ensures leaves { Leaves (F.told files.old) (F.told files.new) (F.fault_count files.old) (F.fault_count files.new) result }
     ensures file { FailsAt (IsFileIn dir.now) result }
+    ensures short { IfOk result AreShort }
 {
     let layouts = part_in(alloc, files, dir, Part::Layouts)?;
     let declaration = part_in(alloc, files, dir, Part::Declaration)?;
@@ -164,6 +170,7 @@ pub fn parts_in<F: Files>(alloc: Global, files: &mut F, dir: &str) -> Result<Par
     ensures value { GathersAs (F.told files.old) dir.now result }
     ensures leaves { Leaves (F.told files.old) (F.told files.new) (F.fault_count files.old) (F.fault_count files.new) result }
     ensures file { FailsAt (IsFileIn dir.now) result }
+    ensures short { IfOk result AreShort }
 {
     let manifest = part_in(alloc, files, dir, Part::Manifest)?;
     let count = dex_count(alloc, manifest.as_slice())?;

@@ -3,6 +3,9 @@
 #![tactic(auto)]
 
 mod answer;
+mod asked;
+mod certificates;
+mod finding;
 mod folder;
 mod host;
 mod number;

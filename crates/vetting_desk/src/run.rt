@@ -1,73 +1,78 @@
 //! The top call.
 
-ghost use Rattle.std.specs.Prelude.{Some, map, string_bytes, IfOk};
-ghost use Rattle.vetting_desk.specs.declared.words.Words.TheVariants.{Check};
+ghost use Rattle.std.specs.Prelude.{◌≡◌, Some, map, string_bytes, IfOk};
 ghost use Rattle.vetting_desk.specs.Words.{parse};
-ghost use Rattle.vetting_desk.specs.Answer.{SaysClear, IsSafe};
-ghost use Rattle.vetting_desk.specs.Found.{IsFound, SaysFound};
+ghost use Rattle.vetting_desk.specs.Answer.{SaysClear, IsSafe, SaysFound};
+ghost use Rattle.vetting_desk.specs.Due.{due_of};
+ghost use Rattle.vetting_desk.specs.Found.{TheDue, Says, file_of};
 ghost use Rattle.vetting_desk.specs.Outside.{outside};
-ghost use Rattle.vetting_desk.specs.Top.{PutsText, TheDue, Ends, EndsAsDue, EndsAsOnlyDue};
+ghost use Rattle.vetting_desk.specs.Top.{PutsText, WritesDue, status_of_write, Finishes, Ends, EndsAsDue, EndsAsOnlyDue, PrintsFullReport};
 
 use crate::answer::{Answer, Status, read_fault, status_saying, text_saying};
-use crate::folder::{Halt, parts_in};
-use crate::words::{Command, command_in};
-use office_forms::one_form_or_fault;
+use crate::finding::{Found, found_in};
 use std::alloc::Global;
-use verdict::{Outcome, judge};
-use vet_base::{Files, Memory, PutFault, Sink};
-
-/// What a run found before it prints.
-#[derive(Debug, Drop)]
-pub enum Found {
-    Said(Answer),
-    /// The read of the file of this name failed.
-    ReadFault(String),
-    Memory,
-}
-
-/// What `check` finds in a folder.
-fn found_in_folder<F: Files>(
-    alloc: Global,
-    dir: &str,
-    workers: u8,
-    files: &mut F,
-    seed: u64,
-) -> Found
-    ensures { IsFound (Some (Check dir.now workers)) (F.told files.old) (F.told files.new)
-        (F.fault_count files.old) (F.fault_count files.new) result }
-{
-    one_form_or_fault();
-    match parts_in(alloc, files, dir) {
-        Ok(parts) => match judge(alloc, &parts, seed) {
-            Ok(judged) => Found::Said(Answer::Vetted(judged.outcome)),
-            Err(_) => Found::Memory,
-        },
-        Err(Halt::Refused(part, reason)) => {
-            Found::Said(Answer::Vetted(Outcome::Refused(part, reason)))
-        }
-        Err(Halt::ReadFault(name)) => Found::ReadFault(name),
-        Err(Halt::Memory) => Found::Memory,
-    }
-}
-
-fn found_in<F: Files>(alloc: Global, words: &[String], files: &mut F, seed: u64) -> Found
-    ensures { IsFound (parse (map string_bytes words.now)) (F.told files.old) (F.told files.new)
-        (F.fault_count files.old) (F.fault_count files.new) result }
-{
-    match command_in(words) {
-        None => Found::Said(Answer::Usage),
-        Some(Command::Check(dir, workers)) => found_in_folder(alloc, dir, workers, files, seed),
-    }
-}
+use vet_base::{FileFault, Files, Memory, PutFault, Sink};
 
 /// The status and the text that say what was found.
 fn saying(alloc: Global, found: &Found) -> Result<(Status, Vec<u8>), Memory>
-    ensures { IfOk result (λ said. SaysFound found.now said.0.0 said.1.items) }
+    ensures { IfOk result (λ said. Says found.now said.0.0 said.1.items) }
 {
     match found {
         Found::Said(answer) => Ok((status_saying(answer), text_saying(alloc, answer)?)),
         Found::ReadFault(name) => Ok((Status(5), read_fault(alloc, name.as_bytes())?)),
         Found::Memory => Err(Memory),
+    }
+}
+
+fn status_of_write(fault: FileFault) -> Status
+    ensures { result ≡ status_of_write fault }
+{
+    match fault {
+        FileFault::Absent => Status(6),
+        FileFault::TooLong => Status(6),
+        FileFault::Failed => Status(6),
+        FileFault::Memory => Status(7),
+    }
+}
+
+fn write_file<F: Files>(
+    alloc: Global,
+    files: &mut F,
+    path: &str,
+    bytes: &[u8],
+) -> Result<(), Status>
+    ensures { WritesDue (Some (path.now, bytes.now)) (F.told files.old) (F.told files.new) (F.fault_count files.old) (F.fault_count files.new) result }
+{
+    match files.write(alloc, path, bytes) {
+        Ok(()) => Ok(()),
+        Err(fault) => Err(status_of_write(fault)),
+    }
+}
+
+/// Writes the file that is due with the answer, if any.
+fn write_due<F: Files>(alloc: Global, files: &mut F, answer: &Answer) -> Result<(), Status>
+    ensures { WritesDue (due_of answer.now).written (F.told files.old) (F.told files.new) (F.fault_count files.old) (F.fault_count files.new) result }
+{
+    match answer {
+        Answer::Usage => Ok(()),
+        Answer::Vetted(_) => Ok(()),
+        Answer::Certified(_, path, bytes) => {
+            write_file(alloc, files, path.as_str(), bytes.as_slice())
+        }
+        Answer::NoCertificate(_) => Ok(()),
+        Answer::LongCertificate(_) => Ok(()),
+        Answer::Uncertified(_) => Ok(()),
+    }
+}
+
+/// Writes the file that is due with what was found, if any.
+fn written<F: Files>(alloc: Global, files: &mut F, found: &Found) -> Result<(), Status>
+    ensures { WritesDue (file_of found.now) (F.told files.old) (F.told files.new) (F.fault_count files.old) (F.fault_count files.new) result }
+{
+    match found {
+        Found::Said(answer) => write_due(alloc, files, answer),
+        Found::ReadFault(_) => Ok(()),
+        Found::Memory => Ok(()),
     }
 }
 
@@ -81,7 +86,22 @@ fn printed<O: Sink>(alloc: Global, out: &mut O, status: Status, text: &[u8]) -> 
     }
 }
 
-/// Finds what the words and the files come to, and prints it.
+/// Writes the file that is due with what was found, if any, and prints the text that says what was found.
+fn finished<F: Files, O: Sink>(alloc: Global, files: &mut F, out: &mut O, found: &Found) -> Status
+    ensures { Finishes found.now
+        (outside (F.told files.old) (F.fault_count files.old) (O.taken out.old) (O.fault_count out.old))
+        (outside (F.told files.new) (F.fault_count files.new) (O.taken out.new) (O.fault_count out.new)) result }
+{
+    match saying(alloc, found) {
+        Ok((status, text)) => match written(alloc, files, found) {
+            Ok(()) => printed(alloc, out, status, &text),
+            Err(fault) => fault,
+        },
+        Err(_) => Status(7),
+    }
+}
+
+/// Finds what the words and the files come to, writes the file that is due, if any, and prints the answer.
 fn run<F: Files, O: Sink>(
     alloc: Global,
     words: &[String],
@@ -95,14 +115,15 @@ fn run<F: Files, O: Sink>(
         (outside (F.told files.new) (F.fault_count files.new) (O.taken out.new) (O.fault_count out.new)) result.0 }
 {
     let found = found_in(alloc, words, files, seed);
-    match saying(alloc, &found) {
-        Ok((status, text)) => printed(alloc, out, status, &text),
-        Err(_) => Status(7),
-    }
+    finished(alloc, files, out, &found)
 }
 
 /// Runs the words over files, and prints the answer to a sink as one text that ends with one line feed and goes out in
 /// one put.
+///
+/// The words are `check DIR WORKERS`, which judges the app in a folder; `certify DIR CERT`, which also writes the table of
+/// what follows in the app to a file, as a certificate, before it prints; or `recheck DIR CERT`, which judges the app by the
+/// table of a certificate that anyone may have made. Where an app is refused or too large no certificate is written.
 ///
 /// The status is:
 /// - 0, clear: the folder that the words name gives the parts of an app that is safe, that is, no run of the machine
@@ -114,8 +135,11 @@ fn run<F: Files, O: Sink>(
 /// - 3, refused: a file is absent or too long, or the parts are no app.
 /// - 4: the words are no command. A line that says so is printed.
 /// - 5: a read of a file of this command failed in this call. A line with the file's name is printed.
-/// - 6: the put failed in this call. A front of the text that was due was printed.
-/// - 7: memory ran out. Nothing was printed.
+/// - 6: the put failed in this call, and a front of the text that was due was printed; or the write of the certificate
+///   failed in this call, its file has its old bytes or a front of the new ones, and nothing was printed.
+/// - 7: memory ran out. Nothing was printed; a certificate that was due is written or not.
+/// - 9: the certificate is refused: its bytes are none, or it is about other files, or its table is no table of the app
+///   that holds all that follows. A line that says which is printed.
 ///
 /// The seed, any number that a stranger cannot guess, says where rows are stored while an app is judged. No answer depends
 /// on it.
@@ -140,6 +164,12 @@ pub fn vet<F: Files, O: Sink>(
     // Clear is a theorem about the very bytes handed in.
     ensures sound { SaysClear (parse (map string_bytes words.now)) result.0 →
         IsSafe (parse (map string_bytes words.now)) (record { files = F.told files.old; printed = O.taken out.old }) }
+
+    // Flagged and undecided leave out nothing that a run of the app does, unless the app is too large.
+    ensures full { SaysFound (parse (map string_bytes words.now)) result.0 →
+        PrintsFullReport (parse (map string_bytes words.now))
+        (outside (F.told files.old) (F.fault_count files.old) (O.taken out.old) (O.fault_count out.old))
+        (outside (F.told files.new) (F.fault_count files.new) (O.taken out.new) (O.fault_count out.new)) result.0 }
 {
     run(alloc, words, files, out, seed)
 }

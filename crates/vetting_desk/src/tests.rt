@@ -69,7 +69,7 @@ fn name_of_length(alloc: Global, count: usize) -> Result<String, Fail> {
 }
 
 /// Lines of words that are no command.
-static NO_COMMANDS: [&[&str]; 13] = [
+static NO_COMMANDS: [&[&str]; 20] = [
     &[],
     &["check", "D"],
     &["check", "D", "1", "1"],
@@ -83,6 +83,13 @@ static NO_COMMANDS: [&[&str]; 13] = [
     &["check", "D", "+1"],
     &["check", "D", ""],
     &["check", "", "1"],
+    &["certify", "D"],
+    &["certify", "D", ""],
+    &["certify", "", "C"],
+    &["certify", "D", "C", "1"],
+    &["recheck", "D"],
+    &["recheck", "D", ""],
+    &["recheck", "", "C"],
 ];
 
 const USAGE: &str = "unknown command or argument\n";
@@ -157,6 +164,68 @@ fn a_sink_that_fails_after_a_read_that_failed(rt: HostRuntime) -> Result<(), Fai
     let (status, text) = answer(alloc, words.as_slice(), files, vec![in alloc; 1]?)?;
     assert_eq!(rt; text.as_slice(), [].as_slice());
     assert_eq!(rt; status, 6);
+    Ok(())
+}
+
+/// The status and the text for a command on the folder `D` of empty files and a certificate `k/C` of these bytes, where there
+/// is one, with how many files there are then.
+fn with_certificate(
+    alloc: Global,
+    command: &str,
+    certificate: Option<&[u8]>,
+    failing: Vec<u64>,
+) -> Result<(u8, Vec<u8>, usize), Fail> {
+    let mut held = Vec::new(alloc);
+    for file in FILES {
+        let path = format!(in alloc; "D/{file}")?;
+        let text = if file == "manifest.toml" {
+            "package = \"a\"\ndex_files = 1\n"
+        } else {
+            ""
+        };
+        let name = Name::from_bytes(alloc, path.as_bytes())?;
+        held.push((name, text.as_bytes().to_vec(alloc)?))?;
+    }
+    if let Some(bytes) = certificate {
+        let name = Name::from_bytes(alloc, b"k/C".as_slice())?;
+        held.push((name, bytes.to_vec(alloc)?))?;
+    }
+    let mut files = MemFiles::new(held, failing);
+    let mut line = Vec::new(alloc);
+    for word in [command, "D", "k/C"] {
+        line.push(String::from_str(alloc, word)?)?;
+    }
+    let mut out = MemSink::new(alloc, Vec::new(alloc));
+    let Status(status) = vet(alloc, &line, &mut files, &mut out, 1);
+    Ok((status, out.taken().to_vec(alloc)?, files.files().len()))
+}
+
+#[test]
+fn a_refused_app_gets_no_certificate(rt: HostRuntime) -> Result<(), Fail> {
+    let alloc = rt.alloc();
+    let (status, text, files) = with_certificate(alloc, "certify", None, Vec::new(alloc))?;
+    assert_eq!(rt;
+        text.as_slice(),
+        b"refused lists.toml: missing rows\n".as_slice()
+    );
+    assert_eq!(rt; status, 3);
+    assert_eq!(rt; files, 5);
+    Ok(())
+}
+
+#[test]
+fn a_certificate_is_read_before_the_app_is_judged(rt: HostRuntime) -> Result<(), Fail> {
+    let alloc = rt.alloc();
+    let (status, text, _) = with_certificate(alloc, "recheck", None, Vec::new(alloc))?;
+    assert_eq!(rt; text.as_slice(), b"refused C: absent\n".as_slice());
+    assert_eq!(rt; status, 3);
+    let none = Some(b"".as_slice());
+    let (status, text, _) = with_certificate(alloc, "recheck", none, Vec::new(alloc))?;
+    assert_eq!(rt; text.as_slice(), b"certificate refused: magic\n".as_slice());
+    assert_eq!(rt; status, 9);
+    let (status, text, _) = with_certificate(alloc, "recheck", none, vec![in alloc; 6]?)?;
+    assert_eq!(rt; text.as_slice(), b"read fault k/C\n".as_slice());
+    assert_eq!(rt; status, 5);
     Ok(())
 }
 

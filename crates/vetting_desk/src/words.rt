@@ -2,7 +2,7 @@ ghost use Rattle.std.specs.Prelude.{◌≡◌, ◌≢◌, [], Ok, Err, map, stri
 ghost use Rattle.std.specs.IoError.{error_kind};
 ghost use Rattle.std.specs.Option.{option_map};
 ghost use Rattle.vetting_desk.specs.Top.{status};
-ghost use Rattle.vetting_desk.specs.Words.{is_check, is_file_name, workers, parse, Parses, command_words};
+ghost use Rattle.vetting_desk.specs.Words.{is_check, is_certify, is_recheck, is_file_name, workers, check_words, certify_words, recheck_words, folder_words, parse, Parses, command_words};
 
 use crate::answer::Status;
 use crate::number::number_in;
@@ -16,6 +16,10 @@ use vet_base::Name;
 pub enum Words {
     /// The folder, and the number of workers from 1 to 16.
     Check(Name, u8),
+    /// The folder, and the file that the certificate goes to.
+    Certify(Name, Name),
+    /// The folder, and the file of the certificate.
+    Recheck(Name, Name),
 }
 
 /// Why words are no command.
@@ -29,6 +33,8 @@ pub enum WordFault {
 #[derive(Clone, Copy, Debug)]
 pub enum Command<'a> {
     Check(&'a str, u8),
+    Certify(&'a str, &'a str),
+    Recheck(&'a str, &'a str),
 }
 
 /// The words that the system gave, or the status of want of memory where memory ran out while they were read. Words
@@ -54,6 +60,20 @@ fn is_check_word(word: &str) -> bool
     word == "check"
 }
 
+#[tactic(auto, unfolding(crate::specs::Words::is_certify))]
+fn is_certify_word(word: &str) -> bool
+    ensures { result ≡ is_certify word.now }
+{
+    word == "certify"
+}
+
+#[tactic(auto, unfolding(crate::specs::Words::is_recheck))]
+fn is_recheck_word(word: &str) -> bool
+    ensures { result ≡ is_recheck word.now }
+{
+    word == "recheck"
+}
+
 #[tactic(auto, unfolding(crate::specs::Words::is_file_name))]
 fn is_name(word: &str) -> bool
     ensures { result ≡ is_file_name word.now }
@@ -69,18 +89,72 @@ fn workers_in(word: &str) -> Option<u8>
     if n == 0 { None } else { Some(n as u8) }
 }
 
+fn check_words<'a>(dir: &'a str, workers: &str) -> Option<Command<'a>>
+    ensures { option_map command_words result ≡ check_words dir.now workers.now }
+{
+    if is_name(dir) {
+        let workers = workers_in(workers)?;
+        Some(Command::Check(dir, workers))
+    } else {
+        None
+    }
+}
+
+fn certify_words<'a>(dir: &'a str, cert: &'a str) -> Option<Command<'a>>
+    ensures { option_map command_words result ≡ certify_words dir.now cert.now }
+{
+    if is_name(dir) && is_name(cert) {
+        Some(Command::Certify(dir, cert))
+    } else {
+        None
+    }
+}
+
+fn recheck_words<'a>(dir: &'a str, cert: &'a str) -> Option<Command<'a>>
+    ensures { option_map command_words result ≡ recheck_words dir.now cert.now }
+{
+    if is_name(dir) && is_name(cert) {
+        Some(Command::Recheck(dir, cert))
+    } else {
+        None
+    }
+}
+
+fn folder_words<'a>(command: &str, dir: &'a str, last: &'a str) -> Option<Command<'a>>
+    ensures { option_map command_words result ≡ folder_words command.now dir.now last.now }
+{
+    if is_check_word(command) {
+        check_words(dir, last)
+    } else if is_certify_word(command) {
+        certify_words(dir, last)
+    } else if is_recheck_word(command) {
+        recheck_words(dir, last)
+    } else {
+        None
+    }
+}
+
 /// The command that the words are. It takes no memory.
 pub fn command_in(words: &[String]) -> Option<Command<'_>>
     ensures { option_map command_words result ≡ parse (map string_bytes words.now) }
 {
-    let [command, dir, workers] = words else {
-        return None;
+    match words {
+        [command, dir, last] => folder_words(command.as_str(), dir.as_str(), last.as_str()),
+        _ => None,
+    }
+}
+
+/// The two names of a command.
+fn names_of(alloc: Global, dir: &str, cert: &str) -> Result<(Name, Name), WordFault>
+    ensures value { IfOk result (λ names. (names.0 ≡ dir.now) × (names.1 ≡ cert.now)) }
+    ensures memory { IfErr result (λ e. e ≡ WordFault.Memory) }
+{
+    let Ok(dir) = Name::from_bytes(alloc, dir.as_bytes()) else {
+        return Err(WordFault::Memory);
     };
-    if is_check_word(command.as_str()) && is_name(dir.as_str()) {
-        let workers = workers_in(workers.as_str())?;
-        Some(Command::Check(dir.as_str(), workers))
-    } else {
-        None
+    match Name::from_bytes(alloc, cert.as_bytes()) {
+        Ok(cert) => Ok((dir, cert)),
+        Err(_) => Err(WordFault::Memory),
     }
 }
 
@@ -94,5 +168,13 @@ pub fn parse_words(alloc: Global, words: &[String]) -> Result<Words, WordFault>
             Ok(dir) => Ok(Words::Check(dir, workers)),
             Err(_) => Err(WordFault::Memory),
         },
+        Some(Command::Certify(dir, cert)) => {
+            let (dir, cert) = names_of(alloc, dir, cert)?;
+            Ok(Words::Certify(dir, cert))
+        }
+        Some(Command::Recheck(dir, cert)) => {
+            let (dir, cert) = names_of(alloc, dir, cert)?;
+            Ok(Words::Recheck(dir, cert))
+        }
     }
 }

@@ -1,7 +1,8 @@
 use Rattle.std.proofs.Common.{◌∙◌}
 use Rattle.std.proofs.lemmas.Result.{err_from_is_err_and}
+use Rattle.certificate.specs.Digests.{IsShort}
 use Rattle.vet_base.proofs.Scripts.{is_done}
-use Rattle.vetting_desk.proofs.Folders.{row_fails, row_goes_on}
+use Rattle.vetting_desk.proofs.Folders.{row_fails, row_goes_on, all_then}
 use Rattle.vetting_desk.proofs.folder.dexes_in.Goals as goal
 
 pub returns-in_err-dex-clause-value : goal.returns-in_err-dex-clause-value
@@ -11,6 +12,7 @@ pub loop-i-preserved : goal.loop-i-preserved
 loop-i-preserved g c = record {
   told = c.in_ok-dex.ensures.leaves.0 ∙ c.loop-i.invariant.told;
   count = c.in_ok-dex.ensures.leaves.1 ∙ c.loop-i.invariant.count;
+  short = rw c.in_ok-push.ensures.items (all_then IsShort _ _ c.loop-i.invariant.short c.in_ok-dex.ensures.short);
   rows = λ tells. rw c.in_ok-push.ensures.items (row_goes_on _ _ _ _ _ _ _ _ c.loop-i.invariant.told c.loop-i-test.true c.in_ok-dex.ensures.value c.loop-i.invariant.rows tells);
 }
 

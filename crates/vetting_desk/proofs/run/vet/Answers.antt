@@ -1,5 +1,5 @@
 use Rattle.vetting_desk.specs.Outside.{outside}
-use Rattle.vetting_desk.proofs.Ending.{ends_as_due, ends_as_only_due, safe_end}
+use Rattle.vetting_desk.proofs.Ending.{ends_as_due, ends_as_only_due, safe_end, full_end}
 use Rattle.vetting_desk.proofs.run.vet.Goals as goal
 
 pub returns-clause-ends : goal.returns-clause-ends
@@ -15,4 +15,9 @@ returns-clause-only g c =
 pub returns-clause-sound : goal.returns-clause-sound
 returns-clause-sound g c =
     safe_end _ (outside (g.F.Files.told c.args.files.now) (g.F.Files.fault_count c.args.files.now) (g.O.Sink.taken c.args.out.now) (g.O.Sink.fault_count c.args.out.now))
+    (outside (g.F.Files.told c.run.new.files) (g.F.Files.fault_count c.run.new.files) (g.O.Sink.taken c.run.new.out) (g.O.Sink.fault_count c.run.new.out)) c.run.result.0 c.run.ensures
+
+pub returns-clause-full : goal.returns-clause-full
+returns-clause-full g c =
+    full_end _ (outside (g.F.Files.told c.args.files.now) (g.F.Files.fault_count c.args.files.now) (g.O.Sink.taken c.args.out.now) (g.O.Sink.fault_count c.args.out.now))
     (outside (g.F.Files.told c.run.new.files) (g.F.Files.fault_count c.run.new.files) (g.O.Sink.taken c.run.new.out) (g.O.Sink.fault_count c.run.new.out)) c.run.result.0 c.run.ensures

@@ -1,0 +1,74 @@
+#!/usr/bin/env bash
+# Plants wrong bodies, tables and definitions in a copy of the repository, one at a time, and says which crate's proof refuses each.
+#
+# usage: bench/plant.sh [WORD]      those of bench/plants.txt whose names hold the word; all without one
+#
+# To add one, write a block in bench/plants.txt. Each takes the proofs of the crates that it names, some minutes. The last line is
+# 'N refused, M not refused, K cannot be planted'; the status is 0 only where all were refused.
+set -u
+top=$(cd "$(dirname "$0")/.." && pwd)
+room=$(mktemp -d)
+trap 'rm -rf "$room"' EXIT
+
+# Splits the plants into folders of the room: name, crates, and a file of changes each.
+split() {
+    awk -v room="$room" -v word="${1:-}" '
+        /^plant: / { name = substr($0, 8); taken = index(name, word); if (taken) { at = sprintf("%s/plants/%03d", room, ++n); system("mkdir -p " at); print name > (at "/name") } next }
+        !taken { next }
+        /^crates: / { print substr($0, 9) > (at "/crates"); next }
+        /^(file|old|new): / { print > (at "/changes") }
+    ' "$top/bench/plants.txt"
+}
+
+# Makes the changes of a plant in the copy, where each old text stands once.
+planted() {
+    python3 - "$1/changes" "$room/copy" <<'EOF'
+import sys
+file = old = None
+for line in open(sys.argv[1], encoding="utf-8").read().splitlines():
+    word, text = line.split(": ", 1)
+    if word == "file":
+        file = f"{sys.argv[2]}/{text}"
+    elif word == "old":
+        old = text
+    else:
+        content = open(file, encoding="utf-8").read()
+        if content.count(old) != 1:
+            sys.exit(f"'{old}' stands {content.count(old)} times in {file}")
+        open(file, "w", encoding="utf-8").write(content.replace(old, text))
+EOF
+}
+
+# The crate whose proof refuses what is planted, or nothing.
+refused_by() {
+    local name
+    for name in "$@"; do
+        (cd "$room/copy/crates/$name" && rt check > "$room/log" 2>&1) || { printf '%s' "$name"; return; }
+    done
+}
+
+split "${1:-}"
+refused=0 passed=0 lost=0
+for plant in "$room"/plants/*/; do
+    [ -d "$plant" ] || continue
+    rm -rf "$room/copy"
+    mkdir "$room/copy"
+    (cd "$top" && tar -cf - --exclude=out crates crates.txt HANDLES) | tar -xf - -C "$room/copy"
+    name=$(cat "$plant/name")
+    if ! planted "$plant"; then
+        printf '%s: CANNOT BE PLANTED\n' "$name"
+        lost=$((lost + 1))
+        continue
+    fi
+    read -r -a crates < "$plant/crates"
+    by=$(refused_by "${crates[@]}")
+    if [ -n "$by" ]; then
+        printf '%s: refused by %s: %s\n' "$name" "$by" "$(grep -m 1 -E '^error|error:' "$room/log" || tail -n 1 "$room/log")"
+        refused=$((refused + 1))
+    else
+        printf '%s: NOT REFUSED\n' "$name"
+        passed=$((passed + 1))
+    fi
+done
+printf '%s refused, %s not refused, %s cannot be planted\n' "$refused" "$passed" "$lost"
+[ "$refused" -gt 0 ] && [ "$passed" -eq 0 ] && [ "$lost" -eq 0 ]

@@ -1,0 +1,169 @@
+-- From what is found of a folder to what is due to the words.
+use Rattle.std.proofs.Common.{◌≡◌, ◌≤◌, ◌⊎◌, inl, inr, ℕ, List, Option, Some, None, Result, Ok, Err, refl, sym, subst, arith}
+use Rattle.std.specs.Prelude.{IfOk, IsTrue, is_some, string_bytes}
+use Rattle.vet_base.specs.Outside.{Told, held_by}
+use Rattle.vet_base.specs.declared.memory.Memory.{Memory as NoMemory}
+use Rattle.office_forms.specs.OneForm.{OneFormOrFault}
+use Rattle.verdict.specs.declared.outcome.Outcome.TheVariants as outcomes
+use Rattle.verdict.specs.declared.outcome.Part.{Part}
+use Rattle.verdict.specs.declared.outcome.Reason.{Reason}
+use Rattle.verdict.specs.declared.parts.Parts.{Parts}
+use Rattle.vetting_desk.specs.declared.answer.Answer.{Answer}
+use Rattle.vetting_desk.specs.declared.finding.Found.{Found}
+use Rattle.vetting_desk.specs.declared.finding.Found.TheVariants.{Said, ReadFault, Memory}
+use Rattle.vetting_desk.specs.declared.folder.Halt.{Halt}
+use Rattle.vetting_desk.specs.declared.folder.Halt.TheVariants as halts
+use Rattle.vetting_desk.specs.declared.words.Words.{Words}
+use Rattle.vetting_desk.specs.declared.words.Words.TheVariants.{Check, Certify, Recheck}
+use Rattle.vetting_desk.specs.Answer.{Answers, HasSafeApp, SaysClear, IsSafe, HasFullReport, SaysFound, IsFullReport, IsFileIn, IsFileOf}
+use Rattle.vetting_desk.specs.Due.{Due, usage, reported, due_of}
+use Rattle.vetting_desk.specs.FolderDue.{FolderDue, Checks, Certifies, Rechecks}
+use Rattle.vetting_desk.specs.Found.{FindsOfParts, FindsDue, IsFound, FindsByFile, said, halted}
+use Rattle.vetting_desk.specs.Outside.{Tells}
+use Rattle.vetting_desk.specs.Reading.{GathersTold, GathersAs, Leaves, FailsAt}
+use Rattle.vetting_desk.proofs.Holding.{holds_parts}
+use Rattle.vetting_desk.proofs.OneFolder.{only_of_parts, only_of_refusal}
+
+abbrev tells_of : Option Told → Option (List ℕ) → Tells
+tells_of told printed = record { files = told; printed = printed }
+
+-- Words that ask something of the parts in a folder: what is due to them is what is due to the folder, and what they say of the app
+-- is said of that of the folder.
+pub record AsksOf (words : Option Words) (dir : List ℕ) (told : Option Told) (PartsDue : Parts → Due → Type 0) : Type 0 where
+  pub answers : (printed : Option (List ℕ)) (due : Due) → FolderDue PartsDue dir told due → Answers words (tells_of told printed) due
+  pub only : (printed : Option (List ℕ)) (due : Due) → Answers words (tells_of told printed) due → FolderDue PartsDue dir told due
+  pub clear : (status : ℕ) → SaysClear words status → status ≡ 0
+  pub safe : (printed : Option (List ℕ)) → HasSafeApp dir told → IsSafe words (tells_of told printed)
+  pub found : (status : ℕ) → SaysFound words status → (status ≡ 1) ⊎ (status ≡ 2)
+  pub full : (printed : Option (List ℕ)) (status : ℕ) (text : List ℕ) → HasFullReport dir told status text → IsFullReport words (tells_of told printed) status text
+  pub file : (name : List ℕ) → IsFileIn dir name → IsFileOf words name
+
+only_check : (dir : List ℕ) (n : ℕ) (told : Option Told) (printed : Option (List ℕ)) (due : Due) → Answers (Some (Check dir n)) (tells_of told printed) due → FolderDue Checks dir told due
+only_check dir n told printed _ (Answers.no_command e) = absurd cc
+only_check dir n told printed _ (Answers.check other k due e is) = let same : dir ≡ other = cc in subst (λ (d : List ℕ). FolderDue Checks d told due) (sym same) is
+only_check dir n told printed _ (Answers.certify other path due e is) = absurd cc
+only_check dir n told printed _ (Answers.recheck other path due e is) = absurd cc
+
+only_certify : (dir path : List ℕ) (told : Option Told) (printed : Option (List ℕ)) (due : Due) → Answers (Some (Certify dir path)) (tells_of told printed) due → FolderDue (Certifies path) dir told due
+only_certify dir path told printed _ (Answers.no_command e) = absurd cc
+only_certify dir path told printed _ (Answers.check other n due e is) = absurd cc
+only_certify dir path told printed _ (Answers.certify other path2 due e is) =
+    let same : dir ≡ other = cc in
+    let same_path : path ≡ path2 = cc in
+    subst (λ (d : List ℕ). FolderDue (Certifies path) d told due) (sym same) (subst (λ (p : List ℕ). FolderDue (Certifies p) other told due) (sym same_path) is)
+only_certify dir path told printed _ (Answers.recheck other path2 due e is) = absurd cc
+
+only_recheck : (dir path : List ℕ) (told : Option Told) (printed : Option (List ℕ)) (due : Due) → Answers (Some (Recheck dir path)) (tells_of told printed) due → FolderDue (Rechecks path told) dir told due
+only_recheck dir path told printed _ (Answers.no_command e) = absurd cc
+only_recheck dir path told printed _ (Answers.check other n due e is) = absurd cc
+only_recheck dir path told printed _ (Answers.certify other path2 due e is) = absurd cc
+only_recheck dir path told printed _ (Answers.recheck other path2 due e is) =
+    let same : dir ≡ other = cc in
+    let same_path : path ≡ path2 = cc in
+    subst (λ (d : List ℕ). FolderDue (Rechecks path told) d told due) (sym same) (subst (λ (p : List ℕ). FolderDue (Rechecks p told) other told due) (sym same_path) is)
+
+pub check_asks : (dir : List ℕ) (n : ℕ) (told : Option Told) → AsksOf (Some (Check dir n)) dir told Checks
+check_asks dir n told = record {
+  answers = λ printed due is. Answers.check dir n due refl is;
+  only = only_check dir n told;
+  clear = λ status zero. zero;
+  safe = λ printed has. has;
+  found = λ status is. is;
+  full = λ printed status text has. has;
+  file = λ name is. is;
+}
+
+pub certify_asks : (dir path : List ℕ) (told : Option Told) → AsksOf (Some (Certify dir path)) dir told (Certifies path)
+certify_asks dir path told = record {
+  answers = λ printed due is. Answers.certify dir path due refl is;
+  only = only_certify dir path told;
+  clear = λ status zero. zero;
+  safe = λ printed has. has;
+  found = λ status is. is;
+  full = λ printed status text has. has;
+  file = λ name is. is;
+}
+
+pub recheck_asks : (dir path : List ℕ) (told : Option Told) → AsksOf (Some (Recheck dir path)) dir told (Rechecks path told)
+recheck_asks dir path told = record {
+  answers = λ printed due is. Answers.recheck dir path due refl is;
+  only = only_recheck dir path told;
+  clear = λ status zero. zero;
+  safe = λ printed has. has;
+  found = λ status is. is;
+  full = λ printed status text has. has;
+  file = λ name is. inl is;
+}
+
+-- what is found of the parts that the folder gives is due
+finds_due : (forms : OneFormOrFault) (words : Option Words) (dir : List ℕ) (told : Option Told) (PartsDue : Parts → Due → Type 0) → AsksOf words dir told PartsDue
+    → (Sure : Type 0) → (IsTrue (is_some told) → Sure) → (parts : Parts) (due : Due) → GathersTold told dir (Ok parts) → FindsOfParts Sure PartsDue parts due → FindsDue words told due
+finds_due forms words dir told PartsDue asks Sure sure parts due gathers finds = λ printed. record {
+  answers = asks.answers printed due (FolderDue.given parts due gathers finds.is);
+  only = λ tells other is. only_of_parts forms dir told PartsDue parts due gathers tells (finds.only (sure tells)) other (asks.only printed other is);
+  safe = λ clear. asks.safe printed (record { parts = parts; holds = λ tells. holds_parts (held_by told) dir parts (gathers tells); safe = finds.safe (asks.clear due.status clear) });
+  full = λ found.
+      let all = finds.full (asks.found due.status found) in
+      asks.full printed due.status due.text
+      (record { parts = parts; holds = λ tells. holds_parts (held_by told) dir parts (gathers tells); outcome = all.outcome; status = all.status; text = all.text; tells = all.tells });
+}
+
+-- a status from 3 on is none of a finding
+no_finding : (n : ℕ) → 3 ≤ n → (n ≡ 1) ⊎ (n ≡ 2) → ⊥
+no_finding n above (inl one) = omega (arith, above, one)
+no_finding n above (inr two) = omega (arith, above, two)
+
+finds_refusal : (forms : OneFormOrFault) (words : Option Words) (dir : List ℕ) (told : Option Told) (PartsDue : Parts → Due → Type 0) → AsksOf words dir told PartsDue
+    → (part : Part) (reason : Reason) → GathersTold told dir (Err (part, reason)) → FindsDue words told (reported (outcomes.Refused part reason))
+finds_refusal forms words dir told PartsDue asks part reason gathers = λ printed. record {
+  answers = asks.answers printed (reported (outcomes.Refused part reason)) (FolderDue.refused (part, reason) gathers);
+  only = λ tells other is. only_of_refusal forms dir told PartsDue (part, reason) gathers tells other (asks.only printed other is);
+  safe = λ clear. let zero : 3 ≡ 0 = asks.clear 3 clear in absurd (omega (arith, zero));
+  full = λ found. absurd (no_finding 3 (omega arith) (asks.found 3 found));
+}
+
+-- words that are no command have one due
+only_usage : (tells : Tells) (other : Due) → Answers None tells other → other ≡ usage
+only_usage tells _ (Answers.no_command e) = refl
+only_usage tells _ (Answers.check dir n due e is) = absurd cc
+only_usage tells _ (Answers.certify dir path due e is) = absurd cc
+only_usage tells _ (Answers.recheck dir path due e is) = absurd cc
+
+pub finds_usage : (told : Option Told) → FindsDue None told usage
+finds_usage told = λ printed. record { answers = Answers.no_command refl; only = λ tells other is. only_usage (tells_of told printed) other is; safe = λ clear. clear; full = λ found. found }
+
+-- what was found of the parts
+pub found_said : (forms : OneFormOrFault) (words : Option Words) (dir : List ℕ) (told : Option Told) (PartsDue : Parts → Due → Type 0) → AsksOf words dir told PartsDue
+    → (parts : Parts) (new : Option Told) (before after : ℕ) (answer : Result Answer NoMemory)
+    → GathersTold told dir (Ok parts) → IfOk answer (λ a. FindsOfParts (Unit {0}) PartsDue parts (due_of a)) → new ≡ told → after ≡ before
+    → IsFound words told new before after (said answer)
+found_said forms words dir told PartsDue asks parts new before after (Ok answer) gathers finds same count =
+    (finds_due forms words dir told PartsDue asks (Unit {0}) (λ tells. tt) parts (due_of answer) gathers finds, same, count)
+found_said forms words dir told PartsDue asks parts new before after (Err e) gathers finds same count = (same, count)
+
+-- the parts could not be had
+pub found_halted : (forms : OneFormOrFault) (words : Option Words) (dir : List ℕ) (told : Option Told) (PartsDue : Parts → Due → Type 0) → AsksOf words dir told PartsDue
+    → (new : Option Told) (before after : ℕ) (halt : Halt)
+    → GathersAs told dir (Err halt) → Leaves {X = Parts} told new before after (Err halt) → FailsAt {X = Parts} (IsFileIn dir) (Err halt)
+    → IsFound words told new before after (halted halt)
+found_halted forms words dir told PartsDue asks new before after (halts.Refused part reason) gathers leaves fails =
+    (finds_refusal forms words dir told PartsDue asks part reason gathers, leaves.0, leaves.1)
+found_halted forms words dir told PartsDue asks new before after (halts.ReadFault name) gathers leaves fails =
+    record { of_command = asks.file (string_bytes name) fails; risen = leaves.0; last = leaves.1; kept = leaves.2 }
+found_halted forms words dir told PartsDue asks new before after halts.Memory gathers leaves fails = (leaves.0, leaves.1)
+
+by_file : (forms : OneFormOrFault) (dir path : List ℕ) (told : Option Told) (parts : Parts) (new : Option Told) (before after : ℕ) (found : Found)
+    → GathersTold told dir (Ok parts) → FindsByFile path parts told new before after found → IsFound (Some (Recheck dir path)) told new before after found
+by_file forms dir path told parts new before after (Said answer) gathers finds =
+    (finds_due forms (Some (Recheck dir path)) dir told (Rechecks path told) (recheck_asks dir path told) (IsTrue (is_some told)) (λ tells. tells) parts (due_of answer) gathers finds.0, finds.1, finds.2)
+by_file forms dir path told parts new before after (ReadFault name) gathers finds = record { of_command = inr finds.0; risen = finds.1; last = finds.2; kept = finds.3 }
+by_file forms dir path told parts new before after Memory gathers finds = finds
+
+-- what was found of the parts by the certificate in a file, which is read when the folder has been read
+pub found_by_file : (forms : OneFormOrFault) (dir path : List ℕ) (told between : Option Told) (parts : Parts) (new : Option Told) (before middle after : ℕ) (found : Found)
+    → GathersTold told dir (Ok parts) → between ≡ told → middle ≡ before → FindsByFile path parts between new middle after found
+    → IsFound (Some (Recheck dir path)) told new before after found
+found_by_file forms dir path told between parts new before middle after found gathers same count finds =
+    let AtTold : Option Told → Type 0 = λ t. FindsByFile path parts t new middle after found in
+    let AtCount : ℕ → Type 0 = λ n. FindsByFile path parts told new n after found in
+    by_file forms dir path told parts new before after found gathers (subst AtCount count (subst AtTold same finds))

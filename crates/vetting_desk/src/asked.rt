@@ -1,0 +1,113 @@
+//! What the parts of an app come to, by what is asked of them.
+
+ghost use Rattle.std.specs.Prelude.{◌≡◌, ℕ, List, IfOk, IfSome};
+ghost use Rattle.certificate.specs.Cert.{IsCert};
+ghost use Rattle.verdict.specs.Table.{IsTable};
+ghost use Rattle.vetting_desk.specs.Due.{due_of};
+ghost use Rattle.vetting_desk.specs.FolderDue.{Checks, Certifies, RechecksBy, refusal_of, rechecked};
+ghost use Rattle.vetting_desk.specs.Found.{FindsOfParts, CertifiedAs, IsUnreadable};
+ghost use Rattle.vetting_desk.specs.Reading.{AreShort};
+
+use crate::answer::Answer;
+use crate::certificates::{certificate_of, digest_of, same_digest};
+use cert_report::CertRefusal;
+use certificate::{Cert, CertFault, certificates_keep_their_laws, read_cert};
+use std::alloc::Global;
+use verdict::{Judged, Outcome, Parts, Rechecked, TableDefect, judge, judge_table};
+use vet_base::{Memory, Seq, Stop};
+
+/// What parts come to.
+pub fn checked(alloc: Global, parts: &Parts, seed: u64) -> Result<Answer, Memory>
+    ensures { IfOk result (λ a. FindsOfParts (Unit {0}) Checks parts.now (due_of a)) }
+{
+    let judged = judge(alloc, parts, seed)?;
+    Ok(Answer::Vetted(judged.outcome))
+}
+
+/// The answer to parts that were judged so, with the certificate of their table where there is one.
+fn with_certificate(
+    alloc: Global,
+    parts: &Parts,
+    path: &str,
+    judged: Judged,
+) -> Result<Answer, Memory>
+    requires short { AreShort parts.now }
+    requires table { IfSome judged.table IsTable }
+    ensures { IfOk result (λ a. CertifiedAs path.now parts.now judged.outcome judged.table (due_of a)) }
+{
+    let Judged { outcome, table } = judged;
+    match table {
+        None => Ok(Answer::Vetted(outcome)),
+        Some(rows) => {
+            let bytes = certificate_of(alloc, parts, rows.as_slice())?;
+            let path = String::from_str(alloc, path)?;
+            Ok(Answer::Certified(outcome, path, Seq::from_vec(bytes)))
+        }
+    }
+}
+
+/// What parts come to, with the certificate of their table for the file at this path.
+pub fn certified(alloc: Global, parts: &Parts, path: &str, seed: u64) -> Result<Answer, Memory>
+    requires { AreShort parts.now }
+    ensures { IfOk result (λ a. FindsOfParts (Unit {0}) (Certifies path.now) parts.now (due_of a)) }
+{
+    let judged = judge(alloc, parts, seed)?;
+    let answer = with_certificate(alloc, parts, path, judged)?;
+    Ok(answer)
+}
+
+/// Why the certificate of a table with this defect is refused.
+fn refusal_for(defect: TableDefect) -> CertRefusal
+    ensures { result ≡ refusal_of defect }
+{
+    match defect {
+        TableDefect::Stranger(row) => CertRefusal::Stranger(row),
+        TableDefect::NoStart(row) => CertRefusal::NoStart(row),
+        TableDefect::NotClosed(row) => CertRefusal::NotClosed(row),
+    }
+}
+
+fn answer_by(by: Rechecked) -> Answer
+    ensures { due_of result ≡ rechecked by }
+{
+    match by {
+        Rechecked::Refused(part, reason) => Answer::Vetted(Outcome::Refused(part, reason)),
+        Rechecked::Defect(defect) => Answer::Uncertified(refusal_for(defect)),
+        Rechecked::By(outcome) => Answer::Vetted(outcome),
+    }
+}
+
+fn unreadable(stop: Stop<CertFault>) -> Result<Answer, Memory>
+    ensures { IfOk result (λ a. IsUnreadable stop a) }
+{
+    match stop {
+        Stop::Memory => Err(Memory),
+        Stop::Fault(fault) => Ok(Answer::Uncertified(CertRefusal::Fault(fault))),
+    }
+}
+
+/// What parts come to by a certificate.
+fn rechecked_by(alloc: Global, parts: &Parts, cert: &Cert, seed: u64) -> Result<Answer, Memory>
+    requires { AreShort parts.now }
+    ensures { (bytes : List ℕ) → IsCert bytes cert.now.digest cert.now.rows → IfOk result (λ a. FindsOfParts (Unit {0}) (RechecksBy bytes) parts.now (due_of a)) }
+{
+    certificates_keep_their_laws();
+    let digest = digest_of(parts);
+    if !same_digest(&cert.digest, &digest) {
+        return Ok(Answer::Uncertified(CertRefusal::Digest(cert.digest, digest)));
+    }
+    let by = judge_table(alloc, parts, cert.rows.as_slice(), seed)?;
+    Ok(answer_by(by))
+}
+
+/// What parts come to by the certificate of these bytes.
+pub fn rechecked(alloc: Global, parts: &Parts, bytes: &[u8], seed: u64) -> Result<Answer, Memory>
+    requires { AreShort parts.now }
+    ensures { IfOk result (λ a. FindsOfParts (Unit {0}) (RechecksBy bytes.now) parts.now (due_of a)) }
+{
+    certificates_keep_their_laws();
+    match read_cert(alloc, bytes) {
+        Ok(cert) => rechecked_by(alloc, parts, &cert, seed),
+        Err(stop) => unreadable(stop),
+    }
+}

@@ -1,0 +1,44 @@
+//! The certificate of the parts of an app.
+
+ghost use Rattle.std.specs.Prelude.{◌≡◌, ◌≢◌, true, false, IfOk};
+ghost use Rattle.certificate.specs.Cert.{IsCert};
+ghost use Rattle.verdict.specs.Table.{IsTable};
+ghost use Rattle.vetting_desk.specs.FolderDue.{digest_of};
+ghost use Rattle.vetting_desk.specs.Reading.{AreShort};
+
+use certificate::write_cert;
+use fact_rows::Row;
+use std::alloc::Global;
+use verdict::Parts;
+use vet_base::Memory;
+
+/// The digest of the parts.
+pub fn digest_of(parts: &Parts) -> [u8; 32]
+    requires { AreShort parts.now }
+    ensures { result ≡ digest_of parts.now }
+{
+    certificate::digest_of(
+        parts.manifest.as_slice(),
+        parts.layouts.as_slice(),
+        parts.declaration.as_slice(),
+        parts.lists.as_slice(),
+        parts.dex.as_slice(),
+    )
+}
+
+/// The certificate of the parts and of the table that follows from them.
+pub fn certificate_of(alloc: Global, parts: &Parts, rows: &[Row]) -> Result<Vec<u8>, Memory>
+    requires short { AreShort parts.now }
+    requires table { IsTable rows.now }
+    ensures { IfOk result (λ bytes. IsCert bytes.items (digest_of parts.now) rows.now) }
+{
+    write_cert(alloc, &digest_of(parts), rows)
+}
+
+/// Whether the digests are the same.
+pub fn same_digest(one: &[u8; 32], other: &[u8; 32]) -> bool
+    ensures same { result ≡ true → one.now ≡ other.now }
+    ensures apart { result ≡ false → one.now ≢ other.now }
+{
+    *one == *other
+}

@@ -1,0 +1,148 @@
+//! What the words and the files come to, before anything is written or printed.
+
+ghost use Rattle.std.specs.Prelude.{◌≡◌, Some, map, string_bytes};
+ghost use Rattle.vetting_desk.specs.declared.words.Words.TheVariants.{Check, Certify, Recheck};
+ghost use Rattle.vetting_desk.specs.Found.{IsFound, FindsByFile, said, halted, unread};
+ghost use Rattle.vetting_desk.specs.Reading.{AreShort};
+ghost use Rattle.vetting_desk.specs.Words.{parse};
+
+use crate::answer::Answer;
+use crate::asked::{certified, checked, rechecked};
+use crate::folder::{Halt, parts_in};
+use crate::words::{Command, command_in};
+use office_forms::one_form_or_fault;
+use std::alloc::Global;
+use verdict::{Outcome, Parts};
+use vet_base::{FileFault, Files, Memory};
+
+/// A certificate has at most so many bytes.
+const CERTIFICATE_LIMIT: u64 = 536_870_912;
+
+/// What a run found before it writes and prints.
+#[derive(Debug, Drop)]
+pub enum Found {
+    Said(Answer),
+    /// The read of the file of this name failed.
+    ReadFault(String),
+    Memory,
+}
+
+fn said(answer: Result<Answer, Memory>) -> Found
+    ensures { result ≡ said answer }
+{
+    match answer {
+        Ok(answer) => Found::Said(answer),
+        Err(_) => Found::Memory,
+    }
+}
+
+fn halted(halt: Halt) -> Found
+    ensures { result ≡ halted halt }
+{
+    match halt {
+        Halt::Refused(part, reason) => {
+            Found::Said(Answer::Vetted(Outcome::Refused(part, reason)))
+        }
+        Halt::ReadFault(name) => Found::ReadFault(name),
+        Halt::Memory => Found::Memory,
+    }
+}
+
+/// What `check` finds in a folder.
+fn found_by_check<F: Files>(
+    alloc: Global,
+    dir: &str,
+    workers: u8,
+    files: &mut F,
+    seed: u64,
+) -> Found
+    ensures { IsFound (Some (Check dir.now workers)) (F.told files.old) (F.told files.new)
+        (F.fault_count files.old) (F.fault_count files.new) result }
+{
+    one_form_or_fault();
+    match parts_in(alloc, files, dir) {
+        Ok(parts) => said(checked(alloc, &parts, seed)),
+        Err(halt) => halted(halt),
+    }
+}
+
+/// What `certify` finds in a folder.
+fn found_by_certify<F: Files>(
+    alloc: Global,
+    dir: &str,
+    path: &str,
+    files: &mut F,
+    seed: u64,
+) -> Found
+    ensures { IsFound (Some (Certify dir.now path.now)) (F.told files.old) (F.told files.new)
+        (F.fault_count files.old) (F.fault_count files.new) result }
+{
+    one_form_or_fault();
+    match parts_in(alloc, files, dir) {
+        Ok(parts) => said(certified(alloc, &parts, path, seed)),
+        Err(halt) => halted(halt),
+    }
+}
+
+fn unread(path: String, fault: FileFault) -> Found
+    ensures { result ≡ unread path fault }
+{
+    match fault {
+        FileFault::Absent => Found::Said(Answer::NoCertificate(path)),
+        FileFault::TooLong => Found::Said(Answer::LongCertificate(path)),
+        FileFault::Failed => Found::ReadFault(path),
+        FileFault::Memory => Found::Memory,
+    }
+}
+
+/// What is found of parts by the certificate at this path.
+fn found_by_file<F: Files>(
+    alloc: Global,
+    parts: &Parts,
+    path: String,
+    files: &mut F,
+    seed: u64,
+) -> Found
+    requires { AreShort parts.now }
+    ensures { FindsByFile (string_bytes path) parts.now (F.told files.old) (F.told files.new)
+        (F.fault_count files.old) (F.fault_count files.new) result }
+{
+    match files.read(alloc, path.as_str(), CERTIFICATE_LIMIT) {
+        Ok(bytes) => said(rechecked(alloc, parts, &bytes, seed)),
+        Err(fault) => unread(path, fault),
+    }
+}
+
+/// What `recheck` finds in a folder by a certificate.
+fn found_by_recheck<F: Files>(
+    alloc: Global,
+    dir: &str,
+    path: &str,
+    files: &mut F,
+    seed: u64,
+) -> Found
+    ensures { IsFound (Some (Recheck dir.now path.now)) (F.told files.old) (F.told files.new)
+        (F.fault_count files.old) (F.fault_count files.new) result }
+{
+    one_form_or_fault();
+    let Ok(path) = String::from_str(alloc, path) else {
+        return Found::Memory;
+    };
+    match parts_in(alloc, files, dir) {
+        Ok(parts) => found_by_file(alloc, &parts, path, files, seed),
+        Err(halt) => halted(halt),
+    }
+}
+
+/// What the words find.
+pub fn found_in<F: Files>(alloc: Global, words: &[String], files: &mut F, seed: u64) -> Found
+    ensures { IsFound (parse (map string_bytes words.now)) (F.told files.old) (F.told files.new)
+        (F.fault_count files.old) (F.fault_count files.new) result }
+{
+    match command_in(words) {
+        None => Found::Said(Answer::Usage),
+        Some(Command::Check(dir, workers)) => found_by_check(alloc, dir, workers, files, seed),
+        Some(Command::Certify(dir, path)) => found_by_certify(alloc, dir, path, files, seed),
+        Some(Command::Recheck(dir, path)) => found_by_recheck(alloc, dir, path, files, seed),
+    }
+}
