@@ -7,45 +7,13 @@ SIZE 1`; and a folder to work in)
 Prints for each size the rows, the least processor time of five runs of each, their ratio, the time a row, the peak memory a row,
 and whether both reports are the same.
 """
-import os
-import re
-import subprocess
 import sys
+from made_app import made, timed
 
 program, other, folder = sys.argv[1:4]
-sample = os.path.join(os.path.dirname(os.path.abspath(__file__)), '..', 'examples', 'tests', 'lists.toml')
-
-
-def made(size):
-    """The folder of a made app."""
-    path = f'{folder}/{size}'
-    os.makedirs(path, exist_ok=True)
-    subprocess.run([other, '--keys', '5', 'dex-make', '7', str(size), f'{path}/classes.dex'], check=True)
-    with open(f'{path}/manifest.toml', 'w') as out:
-        out.write('package = "gen"\ndex_files = 1\n[[component]]\nkind = "activity"\nclass = "Lgen/Main;"\n')
-    for name in ['layouts.toml', 'declaration.toml']:
-        open(f'{path}/{name}', 'w').close()
-    with open(sample) as lists, open(f'{path}/lists.toml', 'w') as out:
-        out.write(re.sub('(?m)^rows = .*', 'rows = 4000000', lists.read()))
-    return path
-
-
-def timed(words):
-    """The least processor time of five runs in seconds, the greatest peak memory in bytes, and the report."""
-    times, peak = [], 0
-    for _ in range(5):
-        ran = subprocess.Popen(words, stdout=subprocess.PIPE)
-        report = ran.stdout.read()
-        _, _, used = os.wait4(ran.pid, 0)
-        times.append(used.ru_utime + used.ru_stime)
-        peak = max(peak, used.ru_maxrss * 1024)
-    return min(times), peak, report
-
-
 for size in [500, 1000, 2000, 4000]:
-    path = made(size)
-    told = subprocess.run([other, '--keys', '5', 'make', '7', str(size), '1'], capture_output=True, text=True).stdout
-    rows = int(re.search(r'rows (\d+)', told).group(1))
+    path = f'{folder}/{size}'
+    rows = made(other, path, size)
     own, peak, report = timed([program, 'check', path, '1'])
     theirs, _, reported = timed([other, '--keys', '5', 'check', path, '1'])
     same = 'the same report' if report == reported else 'ANOTHER REPORT'
