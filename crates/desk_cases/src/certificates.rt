@@ -1,10 +1,9 @@
 //! Certificates: what `certify` writes for an app, and what `recheck` answers to it and to changed ones.
-use crate::folder::{Held, path_of};
+use crate::folder::{Held, answer_for, path_of};
 use std::alloc::{AllocError, Global};
 use std::rt::Files;
 use std::{fs, io};
-use vet_base::{MemFiles, MemSink, Memory, Name};
-use vetting_desk::{Status, vet};
+use vet_base::{MemFiles, Memory, Name};
 
 /// The files of the folder of the app, and where they lie here.
 const FILES: [(&str, &str); 5] = [
@@ -41,13 +40,8 @@ fn folder<R: Files + AllocGlobal>(
 
 /// The status and the text for a command on `D` and `C` over these files.
 fn answer_to(alloc: Global, command: &str, files: &mut MemFiles) -> Result<String, AllocError> {
-    let mut words = Vec::new(alloc);
-    for word in [command, "D", "C"] {
-        words.push(String::from_str(alloc, word)?)?;
-    }
-    let mut out = MemSink::new(alloc, Vec::new(alloc));
-    let Status(status) = vet(alloc, &words, files, &mut out, 1);
-    let text = std::str::from_utf8(out.taken()).unwrap_or("?").trim_end();
+    let (status, text) = answer_for(alloc, &[command, "D", "C"], files)?;
+    let text = text.as_str().trim_end();
     format!(in alloc; "{status} {text}")
 }
 

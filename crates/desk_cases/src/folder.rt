@@ -33,14 +33,24 @@ pub fn folder_with(
     Ok(MemFiles::new(files, Vec::new(alloc)))
 }
 
-/// The status and the text for `check D 1` over these files.
-pub fn answer_to(alloc: Global, mut files: MemFiles) -> Result<String, AllocError> {
-    let mut words = Vec::new(alloc);
-    for word in ["check", "D", "1"] {
-        words.push(String::from_str(alloc, word)?)?;
+/// The status and the text for these words over these files.
+pub fn answer_for(
+    alloc: Global,
+    words: &[&str],
+    files: &mut MemFiles,
+) -> Result<(u8, String), AllocError> {
+    let mut line = Vec::new(alloc);
+    for word in words {
+        line.push(String::from_str(alloc, word)?)?;
     }
     let mut out = MemSink::new(alloc, Vec::new(alloc));
-    let Status(status) = vet(alloc, &words, &mut files, &mut out, 1);
+    let Status(status) = vet(alloc, &line, files, &mut out, 1);
     let text = std::str::from_utf8(out.taken()).unwrap_or("?");
+    Ok((status, String::from_str(alloc, text)?))
+}
+
+/// The status and the text for `check D 1` over these files.
+pub fn answer_to(alloc: Global, mut files: MemFiles) -> Result<String, AllocError> {
+    let (status, text) = answer_for(alloc, &["check", "D", "1"], &mut files)?;
     format!(in alloc; "{status}\n{text}")
 }

@@ -1,12 +1,15 @@
 //! Answers of the desk to folders in memory: how many of a file of cases are those that are due, and what is answered
-//! where a DEX file is cut at each byte, where a manifest has too many components, and to certificates.
+//! where a DEX file is cut at each byte, where a manifest has too many components, and to certificates; and what the
+//! desk says of generated apps.
 #![tactic(auto)]
 
 mod certificates;
 mod folder;
+mod generated;
 
 use crate::certificates::certificates;
 use crate::folder::{Held, answer_to, folder_with, path_of};
+use crate::generated::generated;
 use std::rt::Files;
 use std::{fs, io};
 
@@ -135,5 +138,6 @@ fn main(rt: HostRuntime) -> io::Result<()> {
     cases(&rt, "opcode_cases.txt", &sample)?;
     cuts(&rt, "device_id_posted.dex", &sample)?;
     components(&rt, 4097, &sample)?;
-    certificates(&rt)
+    certificates(&rt)?;
+    generated(&rt)
 }

@@ -43,6 +43,7 @@ only_check dir n told printed _ (Answers.no_command e) = absurd cc
 only_check dir n told printed _ (Answers.check other k due e is) = let same : dir ≡ other = cc in subst (λ (d : List ℕ). FolderDue Checks d told due) (sym same) is
 only_check dir n told printed _ (Answers.certify other path due e is) = absurd cc
 only_check dir n told printed _ (Answers.recheck other path due e is) = absurd cc
+only_check dir n told printed _ (Answers.make seed size workers judged e is) = absurd cc
 
 only_certify : (dir path : List ℕ) (told : Option Told) (printed : Option (List ℕ)) (due : Due) → Answers (Some (Certify dir path)) (tells_of told printed) due → FolderDue (Certifies path) dir told due
 only_certify dir path told printed _ (Answers.no_command e) = absurd cc
@@ -52,6 +53,7 @@ only_certify dir path told printed _ (Answers.certify other path2 due e is) =
     let same_path : path ≡ path2 = cc in
     subst (λ (d : List ℕ). FolderDue (Certifies path) d told due) (sym same) (subst (λ (p : List ℕ). FolderDue (Certifies p) other told due) (sym same_path) is)
 only_certify dir path told printed _ (Answers.recheck other path2 due e is) = absurd cc
+only_certify dir path told printed _ (Answers.make seed size workers judged e is) = absurd cc
 
 only_recheck : (dir path : List ℕ) (told : Option Told) (printed : Option (List ℕ)) (due : Due) → Answers (Some (Recheck dir path)) (tells_of told printed) due → FolderDue (Rechecks path told) dir told due
 only_recheck dir path told printed _ (Answers.no_command e) = absurd cc
@@ -61,6 +63,7 @@ only_recheck dir path told printed _ (Answers.recheck other path2 due e is) =
     let same : dir ≡ other = cc in
     let same_path : path ≡ path2 = cc in
     subst (λ (d : List ℕ). FolderDue (Rechecks path told) d told due) (sym same) (subst (λ (p : List ℕ). FolderDue (Rechecks p told) other told due) (sym same_path) is)
+only_recheck dir path told printed _ (Answers.make seed size workers judged e is) = absurd cc
 
 pub check_asks : (dir : List ℕ) (n : ℕ) (told : Option Told) → AsksOf (Some (Check dir n)) dir told Checks
 check_asks dir n told = record {
@@ -128,6 +131,7 @@ only_usage tells _ (Answers.no_command e) = refl
 only_usage tells _ (Answers.check dir n due e is) = absurd cc
 only_usage tells _ (Answers.certify dir path due e is) = absurd cc
 only_usage tells _ (Answers.recheck dir path due e is) = absurd cc
+only_usage tells _ (Answers.make seed size workers judged e is) = absurd cc
 
 pub finds_usage : (told : Option Told) → FindsDue None told usage
 finds_usage told = λ printed. record { answers = Answers.no_command refl; only = λ tells other is. only_usage (tells_of told printed) other is; safe = λ clear. clear; full = λ found. found }
@@ -167,3 +171,9 @@ found_by_file forms dir path told between parts new before middle after found ga
     let AtTold : Option Told → Type 0 = λ t. FindsByFile path parts t new middle after found in
     let AtCount : ℕ → Type 0 = λ n. FindsByFile path parts told new n after found in
     by_file forms dir path told parts new before after found gathers (subst AtCount count (subst AtTold same finds))
+
+-- what was found without the files
+pub found_alone : (words : Option Words) (told : Option Told) (count : ℕ) (answer : Result Answer NoMemory)
+    → IfOk answer (λ a. (t : Option Told) → FindsDue words t (due_of a)) → IsFound words told told count count (said answer)
+found_alone words told count (Ok answer) finds = (finds told, refl, refl)
+found_alone words told count (Err e) finds = (refl, refl)

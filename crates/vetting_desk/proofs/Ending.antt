@@ -8,7 +8,7 @@ use Rattle.vetting_desk.specs.declared.answer.Answer.{Answer}
 use Rattle.vetting_desk.specs.declared.finding.Found.{Found}
 use Rattle.vetting_desk.specs.declared.finding.Found.TheVariants.{Said, ReadFault, Memory}
 use Rattle.vetting_desk.specs.declared.words.Words.{Words}
-use Rattle.vetting_desk.specs.declared.words.Words.TheVariants.{Check, Certify, Recheck}
+use Rattle.vetting_desk.specs.declared.words.Words.TheVariants.{Check, Certify, Recheck, Make}
 use Rattle.vetting_desk.specs.Answer.{SaysClear, IsSafe, SaysFound, IsFullReport}
 use Rattle.vetting_desk.specs.Due.{Due, NewFile, due_of, read_fault_text}
 use Rattle.vetting_desk.specs.Found.{TheDue, ReadFails, IsFound, Says, file_of}
@@ -172,6 +172,7 @@ fault_or_clear None n fault clear = clear
 fault_or_clear (Some (Check dir workers)) n fault zero = omega (arith, fault, zero)
 fault_or_clear (Some (Certify dir path)) n fault zero = omega (arith, fault, zero)
 fault_or_clear (Some (Recheck dir path)) n fault zero = omega (arith, fault, zero)
+fault_or_clear (Some (Make seed size workers)) n fault zero = omega (arith, fault, zero)
 
 one_or_two : (n : ℕ) → 5 ≤ n → (n ≡ 1) ⊎ (n ≡ 2) → ⊥
 one_or_two n fault (inl one) = omega (arith, fault, one)
@@ -182,6 +183,7 @@ fault_or_found None n fault found = found
 fault_or_found (Some (Check dir workers)) n fault found = one_or_two n fault found
 fault_or_found (Some (Certify dir path)) n fault found = one_or_two n fault found
 fault_or_found (Some (Recheck dir path)) n fault found = one_or_two n fault found
+fault_or_found (Some (Make seed size workers)) n fault found = found
 
 comes_to_safe : (words : Option Words) (old new : Outside) (n : ℕ) (text : List ℕ) → ComesToSay (TheDue words old.tells) words old new n text → SaysClear words n → IsSafe words old.tells
 comes_to_safe words old new _ _ (ComesToSay.answer due is went) clear = is.safe clear

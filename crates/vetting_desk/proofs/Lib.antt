@@ -3,6 +3,7 @@ pub mod ByFile
 pub mod Commands
 pub mod Ending
 pub mod Folders
+pub mod Generated
 pub mod Holding
 pub mod OneFolder
 pub mod Writes

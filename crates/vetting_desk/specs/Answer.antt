@@ -1,20 +1,32 @@
 -- What is due to the words; when that says clear, and what clear says; and which files a command reads.
-use Rattle.std.specs.Prelude.{◌≡◌, ◌≢◌, ◌⊎◌, ℕ, List, Option, Some, None, IsTrue, is_some}
+use Rattle.std.specs.Prelude.{◌≡◌, ◌≢◌, ◌⊎◌, ℕ, List, length, Option, Some, None, IsTrue, is_some}
+use Rattle.std.specs.Option.{option_map}
 use Rattle.vet_base.specs.Outside.{Told, held_by}
+use Rattle.verdict.specs.declared.outcome.Judged.{Judged}
 use Rattle.verdict.specs.declared.outcome.Outcome.{Outcome}
+use Rattle.verdict.specs.declared.outcome.Outcome.TheVariants.{Clear, Flagged, Undecided, Refused}
 use Rattle.verdict.specs.declared.outcome.Part.{Part}
 use Rattle.verdict.specs.declared.outcome.Part.TheVariants.{App}
 use Rattle.verdict.specs.declared.parts.Parts.{Parts}
 use Rattle.verdict.specs.Outcome.{status_of}
 use Rattle.verdict.specs.Report.{report_text}
 use Rattle.verdict.specs.Tells.{IsFollowed, TellsOfApp}
-use Rattle.verdict.specs.Verdict.{IsSafeApp}
+use Rattle.verdict.specs.Verdict.{Judgement, IsSafeApp}
 use Rattle.vetting_desk.specs.declared.words.Words.{Words}
-use Rattle.vetting_desk.specs.declared.words.Words.TheVariants.{Check, Certify, Recheck}
-use Rattle.vetting_desk.specs.Due.{Due, usage}
+use Rattle.vetting_desk.specs.declared.words.Words.TheVariants.{Check, Certify, Recheck, Make}
+use Rattle.vetting_desk.specs.Due.{Due, usage, reported, summarised}
 use Rattle.vetting_desk.specs.Folder.{file_name, Holds}
 use Rattle.vetting_desk.specs.FolderDue.{FolderDue, Checks, Certifies, Rechecks}
+use Rattle.vetting_desk.specs.Made.{made_parts}
 use Rattle.vetting_desk.specs.Outside.{Tells}
+
+-- What is due to a generated app with so many drawn methods that has so many rows and comes to this: a summary, or the report that it
+-- is refused.
+abbrev pub due_to_made : ℕ → Option ℕ → Outcome → Due
+due_to_made size rows Clear = summarised size rows Clear
+due_to_made size rows (Flagged fs) = summarised size rows (Flagged fs)
+due_to_made size rows (Undecided cs fs) = summarised size rows (Undecided cs fs)
+due_to_made size rows (Refused part reason) = reported (Refused part reason)
 
 -- What is due to the words where the outside tells this: one constructor a command.
 pub data Answers (words : Option Words) (tells : Tells) : Due → Type 0 where
@@ -22,6 +34,7 @@ pub data Answers (words : Option Words) (tells : Tells) : Due → Type 0 where
   check : (dir : List ℕ) (n : ℕ) (due : Due) → words ≡ Some (Check dir n) → FolderDue Checks dir tells.files due → Answers words tells due
   certify : (dir cert : List ℕ) (due : Due) → words ≡ Some (Certify dir cert) → FolderDue (Certifies cert) dir tells.files due → Answers words tells due
   recheck : (dir cert : List ℕ) (due : Due) → words ≡ Some (Recheck dir cert) → FolderDue (Rechecks cert tells.files) dir tells.files due → Answers words tells due
+  make : (seed size n : ℕ) (judged : Judged) → words ≡ Some (Make seed size n) → Judgement (made_parts seed size) judged → Answers words tells (due_to_made size (option_map (λ rows. length rows) judged.table) judged.outcome)
 
 -- The soundness of `clear`: these parts make a safe app. Where the files of the folder are told, they hold these parts.
 pub record HasSafeApp (dir : List ℕ) (told : Option Told) : Type 0 where
@@ -35,6 +48,7 @@ SaysClear None status = ⊥
 SaysClear (Some (Check dir n)) status = status ≡ 0
 SaysClear (Some (Certify dir cert)) status = status ≡ 0
 SaysClear (Some (Recheck dir cert)) status = status ≡ 0
+SaysClear (Some (Make seed size n)) status = status ≡ 0
 
 -- the words name a safe app
 abbrev pub IsSafe : Option Words → Tells → Type 0
@@ -42,6 +56,7 @@ IsSafe None tells = ⊥
 IsSafe (Some (Check dir n)) tells = HasSafeApp dir tells.files
 IsSafe (Some (Certify dir cert)) tells = HasSafeApp dir tells.files
 IsSafe (Some (Recheck dir cert)) tells = HasSafeApp dir tells.files
+IsSafe (Some (Make seed size n)) tells = IsSafeApp (made_parts seed size)
 
 -- The text is the report of an outcome of these parts, which leaves out nothing that a run of their app does, unless the app is
 -- too large. Where the files of the folder are told, they hold these parts.
@@ -53,12 +68,13 @@ pub record HasFullReport (dir : List ℕ) (told : Option Told) (n : ℕ) (printe
   pub text : printed ≡ report_text outcome
   pub tells : IsFollowed outcome → TellsOfApp parts outcome
 
--- the status says that the app of the words is flagged or undecided
+-- the status says that the app of the words is flagged or undecided, and a report is printed
 abbrev pub SaysFound : Option Words → ℕ → Type 0
 SaysFound None status = ⊥
 SaysFound (Some (Check dir n)) status = (status ≡ 1) ⊎ (status ≡ 2)
 SaysFound (Some (Certify dir cert)) status = (status ≡ 1) ⊎ (status ≡ 2)
 SaysFound (Some (Recheck dir cert)) status = (status ≡ 1) ⊎ (status ≡ 2)
+SaysFound (Some (Make seed size n)) status = ⊥
 
 -- the text leaves out nothing of the app that the words name
 abbrev pub IsFullReport : Option Words → Tells → ℕ → List ℕ → Type 0
@@ -66,6 +82,7 @@ IsFullReport None tells status text = ⊥
 IsFullReport (Some (Check dir n)) tells status text = HasFullReport dir tells.files status text
 IsFullReport (Some (Certify dir cert)) tells status text = HasFullReport dir tells.files status text
 IsFullReport (Some (Recheck dir cert)) tells status text = HasFullReport dir tells.files status text
+IsFullReport (Some (Make seed size n)) tells status text = ⊥
 
 -- the file of a part in the folder; the app as a whole has none
 pub record IsFileIn (dir name : List ℕ) : Type 0 where
@@ -79,3 +96,4 @@ IsFileOf None name = ⊥
 IsFileOf (Some (Check dir n)) name = IsFileIn dir name
 IsFileOf (Some (Certify dir cert)) name = IsFileIn dir name
 IsFileOf (Some (Recheck dir cert)) name = IsFileIn dir name ⊎ (name ≡ cert)
+IsFileOf (Some (Make seed size n)) name = ⊥

@@ -7,7 +7,8 @@ use Rattle.verdict.specs.Outcome.{status_of}
 use Rattle.verdict.specs.Printed.{escaped}
 use Rattle.verdict.specs.Report.{report_text}
 use Rattle.vetting_desk.specs.declared.answer.Answer.{Answer}
-use Rattle.vetting_desk.specs.declared.answer.Answer.TheVariants.{Usage, Vetted, Certified, NoCertificate, LongCertificate, Uncertified}
+use Rattle.vetting_desk.specs.declared.answer.Answer.TheVariants.{Usage, Vetted, Certified, NoCertificate, LongCertificate, Uncertified, Made}
+use Rattle.vetting_desk.specs.Made.{summary_text}
 
 -- a file, by its name and bytes
 abbrev pub NewFile : Type 0
@@ -64,6 +65,10 @@ long_certificate path = record { status = 3; text = too_long_text path; written 
 abbrev pub uncertified : CertRefusal → Due
 uncertified refusal = record { status = 9; text = refusal_text refusal; written = None }
 
+-- due to a generated app: the summary
+abbrev pub summarised : ℕ → Option ℕ → Outcome → Due
+summarised size rows outcome = record { status = status_of outcome; text = summary_text size rows outcome; written = None }
+
 abbrev pub due_of : Answer → Due
 due_of Usage = usage
 due_of (Vetted outcome) = reported outcome
@@ -71,3 +76,4 @@ due_of (Certified outcome path bytes) = certified outcome (string_bytes path) by
 due_of (NoCertificate path) = no_certificate (string_bytes path)
 due_of (LongCertificate path) = long_certificate (string_bytes path)
 due_of (Uncertified refusal) = uncertified refusal
+due_of (Made size rows outcome) = summarised size rows outcome

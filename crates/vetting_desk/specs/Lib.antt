@@ -3,6 +3,7 @@ pub mod Due
 pub mod Folder
 pub mod FolderDue
 pub mod Found
+pub mod Made
 pub mod Outside
 pub mod Reading
 pub mod Top

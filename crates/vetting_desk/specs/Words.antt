@@ -1,10 +1,10 @@
 -- The words of the command line.
-use Rattle.std.specs.Prelude.{◌≡◌, ℕ, ◌+◌, ◌-◌, ◌*◌, Bool, ◌&&◌, ◌==◌, nat_le, nat_eq, List, [], ◌∷◌, length, Option, Some, None, Result, Ok, Err, codes, if◌then◌else◌}
+use Rattle.std.specs.Prelude.{◌≡◌, ℕ, ◌<◌, ◌≤◌, ◌+◌, ◌-◌, ◌*◌, Bool, ◌&&◌, ◌==◌, nat_le, nat_eq, List, [], ◌∷◌, length, Option, Some, None, Result, Ok, Err, codes, if◌then◌else◌}
 use Rattle.std.specs.Char.{is_ascii_digit}
 use Rattle.std.specs.Option.{option_map}
 use Rattle.std.specs.Cmp.Lexicographic.{pointwise}
 use Rattle.vetting_desk.specs.declared.words.Words.{Words}
-use Rattle.vetting_desk.specs.declared.words.Words.TheVariants.{Check, Certify, Recheck}
+use Rattle.vetting_desk.specs.declared.words.Words.TheVariants.{Check, Certify, Recheck, Make}
 use Rattle.vetting_desk.specs.declared.words.Command.{Command}
 use Rattle.vetting_desk.specs.declared.words.Command.TheVariants as borrowed
 use Rattle.vetting_desk.specs.declared.words.WordFault.{WordFault}
@@ -29,6 +29,9 @@ is_certify word = pointwise nat_eq word (codes "certify")
 
 unfoldable pub is_recheck : List ℕ → Bool
 is_recheck word = pointwise nat_eq word (codes "recheck")
+
+unfoldable pub is_make : List ℕ → Bool
+is_make word = pointwise nat_eq word (codes "make")
 
 -- the name of a folder or file has 1 to 1,024 bytes
 unfoldable pub is_file_name : List ℕ → Bool
@@ -64,15 +67,40 @@ folder_words command dir last =
     else if is_recheck command then recheck_words dir last
     else None
 
+abbrev pub made_of : Option ℕ → Option ℕ → Option ℕ → Option Words
+made_of None size count = None
+made_of (Some seed) None count = None
+made_of (Some seed) (Some size) None = None
+made_of (Some seed) (Some size) (Some count) = Some (Make seed size count)
+
+-- `make SEED SIZE WORKERS`: a seed below 2^31, 1 to 2,000 methods
+unfoldable pub seed_of : List ℕ → Option ℕ
+seed_of word = number 2147483647 word
+
+unfoldable pub size_of : List ℕ → Option ℕ
+size_of word = positive_of (number 2000 word)
+
+abbrev pub make_words : List ℕ → List ℕ → List ℕ → Option Words
+make_words seed size count = made_of (seed_of seed) (size_of size) (workers count)
+
 -- the command, where the words are one
 abbrev pub parse : List (List ℕ) → Option Words
 parse (command ∷ dir ∷ last ∷ []) = folder_words command dir last
+parse (command ∷ seed ∷ size ∷ count ∷ []) = if is_make command then make_words seed size count else None
 parse words = None
 
 abbrev pub command_words : Command → Words
 command_words (borrowed.Check dir n) = Check dir.now n
 command_words (borrowed.Certify dir cert) = Certify dir.now cert.now
 command_words (borrowed.Recheck dir cert) = Recheck dir.now cert.now
+command_words (borrowed.Make seed size n) = Make seed size n
+
+-- a seed below 2^31, and 1 to 2,000 methods
+abbrev pub IsWithin : Command → Type 0
+IsWithin (borrowed.Check dir n) = Unit {0}
+IsWithin (borrowed.Certify dir cert) = Unit {0}
+IsWithin (borrowed.Recheck dir cert) = Unit {0}
+IsWithin (borrowed.Make seed size n) = (seed < 2147483648) × (1 ≤ size) × (size ≤ 2000)
 
 abbrev pub Parses : Result Words WordFault → Option Words → Type 0
 Parses (Ok words) parsed = parsed ≡ Some words

@@ -3,6 +3,7 @@
 ghost use Rattle.std.specs.Prelude.{◌≡◌, ◌++◌, codes, IfOk};
 ghost use Rattle.vetting_desk.specs.Due.{usage_text, read_fault_text, behind_slashes, last_part, absent_text, too_long_text, due_of};
 
+use crate::summary::summary;
 use cert_report::{CertRefusal, report_refusal};
 use std::alloc::Global;
 use verdict::{Outcome, put_name, report, status_for};
@@ -29,6 +30,8 @@ pub enum Answer {
     LongCertificate(String),
     /// The certificate is refused.
     Uncertified(CertRefusal),
+    /// What a generated app with so many drawn methods comes to, and how many rows follow, unless they are too many.
+    Made(u32, Option<usize>, Outcome),
 }
 
 /// The status that says the answer.
@@ -42,6 +45,7 @@ pub fn status_saying(answer: &Answer) -> Status
         Answer::NoCertificate(_) => Status(3),
         Answer::LongCertificate(_) => Status(3),
         Answer::Uncertified(_) => Status(9),
+        Answer::Made(_, _, outcome) => Status(status_for(outcome)),
     }
 }
 
@@ -102,6 +106,7 @@ pub fn text_saying(alloc: Global, answer: &Answer) -> Result<Vec<u8>, Memory>
         Answer::NoCertificate(path) => absent(alloc, path.as_str()),
         Answer::LongCertificate(path) => too_long(alloc, path.as_str()),
         Answer::Uncertified(refusal) => report_refusal(alloc, refusal),
+        Answer::Made(size, rows, outcome) => summary(alloc, *size, *rows, outcome),
     }
 }
 

@@ -1,7 +1,8 @@
 //! What the words and the files come to, before anything is written or printed.
 
-ghost use Rattle.std.specs.Prelude.{◌≡◌, Some, map, string_bytes};
-ghost use Rattle.vetting_desk.specs.declared.words.Words.TheVariants.{Check, Certify, Recheck};
+ghost use Rattle.std.specs.Prelude.{◌≡◌, ◌<◌, ◌≤◌, ℕ, Option, Some, map, string_bytes};
+ghost use Rattle.vet_base.specs.Outside.{Told};
+ghost use Rattle.vetting_desk.specs.declared.words.Words.TheVariants.{Check, Certify, Recheck, Make};
 ghost use Rattle.vetting_desk.specs.Found.{IsFound, FindsByFile, said, halted, unread};
 ghost use Rattle.vetting_desk.specs.Reading.{AreShort};
 ghost use Rattle.vetting_desk.specs.Words.{parse};
@@ -9,6 +10,7 @@ ghost use Rattle.vetting_desk.specs.Words.{parse};
 use crate::answer::Answer;
 use crate::asked::{certified, checked, rechecked};
 use crate::folder::{Halt, parts_in};
+use crate::making::made;
 use crate::words::{Command, command_in};
 use office_forms::one_form_or_fault;
 use std::alloc::Global;
@@ -134,6 +136,16 @@ fn found_by_recheck<F: Files>(
     }
 }
 
+/// What `make` finds. It reads no file.
+fn found_by_make(alloc: Global, drawn: u32, size: u32, workers: u8, seed: u64) -> Found
+    requires drawn { drawn < 2147483648 }
+    requires some { 1 ≤ size }
+    requires most { size ≤ 2000 }
+    ensures { (told : Option Told) (count : ℕ) → IsFound (Some (Make drawn size workers)) told told count count result }
+{
+    said(made(alloc, drawn, size, workers, seed))
+}
+
 /// What the words find.
 pub fn found_in<F: Files>(alloc: Global, words: &[String], files: &mut F, seed: u64) -> Found
     ensures { IsFound (parse (map string_bytes words.now)) (F.told files.old) (F.told files.new)
@@ -144,5 +156,8 @@ pub fn found_in<F: Files>(alloc: Global, words: &[String], files: &mut F, seed: 
         Some(Command::Check(dir, workers)) => found_by_check(alloc, dir, workers, files, seed),
         Some(Command::Certify(dir, path)) => found_by_certify(alloc, dir, path, files, seed),
         Some(Command::Recheck(dir, path)) => found_by_recheck(alloc, dir, path, files, seed),
+        Some(Command::Make(drawn, size, workers)) => {
+            found_by_make(alloc, drawn, size, workers, seed)
+        }
     }
 }

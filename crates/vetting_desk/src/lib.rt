@@ -8,8 +8,10 @@ mod certificates;
 mod finding;
 mod folder;
 mod host;
+mod making;
 mod number;
 mod run;
+mod summary;
 mod words;
 
 pub use answer::Status;

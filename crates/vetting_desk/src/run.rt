@@ -62,6 +62,7 @@ fn write_due<F: Files>(alloc: Global, files: &mut F, answer: &Answer) -> Result<
         Answer::NoCertificate(_) => Ok(()),
         Answer::LongCertificate(_) => Ok(()),
         Answer::Uncertified(_) => Ok(()),
+        Answer::Made(_, _, _) => Ok(()),
     }
 }
 
@@ -122,8 +123,10 @@ fn run<F: Files, O: Sink>(
 /// one put.
 ///
 /// The words are `check DIR WORKERS`, which judges the app in a folder; `certify DIR CERT`, which also writes the table of
-/// what follows in the app to a file, as a certificate, before it prints; or `recheck DIR CERT`, which judges the app by the
-/// table of a certificate that anyone may have made. Where an app is refused or too large no certificate is written.
+/// what follows in the app to a file, as a certificate, before it prints; `recheck DIR CERT`, which judges the app by the
+/// table of a certificate that anyone may have made; or `make SEED SIZE WORKERS`, which judges an app that is drawn from a
+/// seed, reads no file, and prints a summary in place of the report: how many methods, rows and findings there are, and the
+/// outcome's word. Where an app is refused or too large no certificate is written.
 ///
 /// The status is:
 /// - 0, clear: the folder that the words name gives the parts of an app that is safe, that is, no run of the machine

@@ -69,7 +69,7 @@ fn name_of_length(alloc: Global, count: usize) -> Result<String, Fail> {
 }
 
 /// Lines of words that are no command.
-static NO_COMMANDS: [&[&str]; 20] = [
+static NO_COMMANDS: [&[&str]; 28] = [
     &[],
     &["check", "D"],
     &["check", "D", "1", "1"],
@@ -90,6 +90,14 @@ static NO_COMMANDS: [&[&str]; 20] = [
     &["recheck", "D"],
     &["recheck", "D", ""],
     &["recheck", "", "C"],
+    &["make", "1", "1"],
+    &["make", "1", "0", "1"],
+    &["make", "1", "2001", "1"],
+    &["make", "2147483648", "1", "1"],
+    &["make", "1", "1", "0"],
+    &["make", "1", "1", "17"],
+    &["make", "01", "1", "1"],
+    &["make", "1", "1", "1", "1"],
 ];
 
 const USAGE: &str = "unknown command or argument\n";

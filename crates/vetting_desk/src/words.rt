@@ -1,8 +1,8 @@
-ghost use Rattle.std.specs.Prelude.{◌≡◌, ◌≢◌, [], Ok, Err, map, string_bytes, IfOk, IfErr, IsOkAnd};
+ghost use Rattle.std.specs.Prelude.{◌≡◌, ◌≢◌, ◌<◌, ◌≤◌, [], Ok, Err, map, string_bytes, IfOk, IfErr, IfSome, IsOkAnd};
 ghost use Rattle.std.specs.IoError.{error_kind};
 ghost use Rattle.std.specs.Option.{option_map};
 ghost use Rattle.vetting_desk.specs.Top.{status};
-ghost use Rattle.vetting_desk.specs.Words.{is_check, is_certify, is_recheck, is_file_name, workers, check_words, certify_words, recheck_words, folder_words, parse, Parses, command_words};
+ghost use Rattle.vetting_desk.specs.Words.{is_check, is_certify, is_recheck, is_make, is_file_name, workers, seed_of, size_of, check_words, certify_words, recheck_words, folder_words, make_words, parse, Parses, command_words, IsWithin};
 
 use crate::answer::Status;
 use crate::number::number_in;
@@ -20,6 +20,8 @@ pub enum Words {
     Certify(Name, Name),
     /// The folder, and the file of the certificate.
     Recheck(Name, Name),
+    /// The seed below 2^31, the size from 1 to 2,000, and the number of workers from 1 to 16.
+    Make(u32, u32, u8),
 }
 
 /// Why words are no command.
@@ -35,6 +37,7 @@ pub enum Command<'a> {
     Check(&'a str, u8),
     Certify(&'a str, &'a str),
     Recheck(&'a str, &'a str),
+    Make(u32, u32, u8),
 }
 
 /// The words that the system gave, or the status of want of memory where memory ran out while they were read. Words
@@ -74,6 +77,13 @@ fn is_recheck_word(word: &str) -> bool
     word == "recheck"
 }
 
+#[tactic(auto, unfolding(crate::specs::Words::is_make))]
+fn is_make_word(word: &str) -> bool
+    ensures { result ≡ is_make word.now }
+{
+    word == "make"
+}
+
 #[tactic(auto, unfolding(crate::specs::Words::is_file_name))]
 fn is_name(word: &str) -> bool
     ensures { result ≡ is_file_name word.now }
@@ -89,8 +99,26 @@ fn workers_in(word: &str) -> Option<u8>
     if n == 0 { None } else { Some(n as u8) }
 }
 
+#[tactic(auto, unfolding(crate::specs::Words::seed_of))]
+fn seed_in(word: &str) -> Option<u32>
+    ensures value { result ≡ seed_of word.now }
+    ensures within { IfSome result (λ n. n < 2147483648) }
+{
+    number_in(word.as_bytes(), 2_147_483_647)
+}
+
+#[tactic(auto, unfolding(crate::specs::Words::size_of))]
+fn size_in(word: &str) -> Option<u32>
+    ensures value { result ≡ size_of word.now }
+    ensures within { IfSome result (λ n. (1 ≤ n) × (n ≤ 2000)) }
+{
+    let n = number_in(word.as_bytes(), 2000)?;
+    if n == 0 { None } else { Some(n) }
+}
+
 fn check_words<'a>(dir: &'a str, workers: &str) -> Option<Command<'a>>
-    ensures { option_map command_words result ≡ check_words dir.now workers.now }
+    ensures parsed { option_map command_words result ≡ check_words dir.now workers.now }
+    ensures within { IfSome result IsWithin }
 {
     if is_name(dir) {
         let workers = workers_in(workers)?;
@@ -101,7 +129,8 @@ fn check_words<'a>(dir: &'a str, workers: &str) -> Option<Command<'a>>
 }
 
 fn certify_words<'a>(dir: &'a str, cert: &'a str) -> Option<Command<'a>>
-    ensures { option_map command_words result ≡ certify_words dir.now cert.now }
+    ensures parsed { option_map command_words result ≡ certify_words dir.now cert.now }
+    ensures within { IfSome result IsWithin }
 {
     if is_name(dir) && is_name(cert) {
         Some(Command::Certify(dir, cert))
@@ -111,7 +140,8 @@ fn certify_words<'a>(dir: &'a str, cert: &'a str) -> Option<Command<'a>>
 }
 
 fn recheck_words<'a>(dir: &'a str, cert: &'a str) -> Option<Command<'a>>
-    ensures { option_map command_words result ≡ recheck_words dir.now cert.now }
+    ensures parsed { option_map command_words result ≡ recheck_words dir.now cert.now }
+    ensures within { IfSome result IsWithin }
 {
     if is_name(dir) && is_name(cert) {
         Some(Command::Recheck(dir, cert))
@@ -121,7 +151,8 @@ fn recheck_words<'a>(dir: &'a str, cert: &'a str) -> Option<Command<'a>>
 }
 
 fn folder_words<'a>(command: &str, dir: &'a str, last: &'a str) -> Option<Command<'a>>
-    ensures { option_map command_words result ≡ folder_words command.now dir.now last.now }
+    ensures parsed { option_map command_words result ≡ folder_words command.now dir.now last.now }
+    ensures within { IfSome result IsWithin }
 {
     if is_check_word(command) {
         check_words(dir, last)
@@ -134,12 +165,30 @@ fn folder_words<'a>(command: &str, dir: &'a str, last: &'a str) -> Option<Comman
     }
 }
 
+fn make_words(seed: &str, size: &str, workers: &str) -> Option<Command<'static>>
+    ensures parsed { option_map command_words result ≡ make_words seed.now size.now workers.now }
+    ensures within { IfSome result IsWithin }
+{
+    let seed = seed_in(seed)?;
+    let size = size_in(size)?;
+    let workers = workers_in(workers)?;
+    Some(Command::Make(seed, size, workers))
+}
+
 /// The command that the words are. It takes no memory.
 pub fn command_in(words: &[String]) -> Option<Command<'_>>
-    ensures { option_map command_words result ≡ parse (map string_bytes words.now) }
+    ensures parsed { option_map command_words result ≡ parse (map string_bytes words.now) }
+    ensures within { IfSome result IsWithin }
 {
     match words {
         [command, dir, last] => folder_words(command.as_str(), dir.as_str(), last.as_str()),
+        [command, seed, size, workers] => {
+            if is_make_word(command.as_str()) {
+                make_words(seed.as_str(), size.as_str(), workers.as_str())
+            } else {
+                None
+            }
+        }
         _ => None,
     }
 }
@@ -176,5 +225,6 @@ pub fn parse_words(alloc: Global, words: &[String]) -> Result<Words, WordFault>
             let (dir, cert) = names_of(alloc, dir, cert)?;
             Ok(Words::Recheck(dir, cert))
         }
+        Some(Command::Make(seed, size, workers)) => Ok(Words::Make(seed, size, workers)),
     }
 }

@@ -1,0 +1,73 @@
+//! What a generated app comes to.
+
+ghost use Rattle.std.specs.Prelude.{◌≡◌, ◌<◌, ◌≤◌, Option, IfOk, length, Some};
+ghost use Rattle.std.specs.Option.{option_map};
+ghost use Rattle.vet_base.specs.Outside.{Told};
+ghost use Rattle.vetting_desk.specs.declared.words.Words.TheVariants.{Make};
+ghost use Rattle.vetting_desk.specs.Answer.{due_to_made};
+ghost use Rattle.vetting_desk.specs.Due.{due_of};
+ghost use Rattle.vetting_desk.specs.Found.{FindsDue};
+ghost use Rattle.vetting_desk.specs.Made.{made_parts};
+
+use crate::answer::Answer;
+use made_apps::{declaration_text, layouts_text, lists_text, made_dex, manifest_text};
+use std::alloc::Global;
+use verdict::{Judged, Outcome, Parts, judge};
+use vet_base::{Memory, Seq};
+
+fn listed(alloc: Global, text: &[u8]) -> Result<Seq<u8>, Memory>
+    ensures { IfOk result (λ s. s ≡ text.now) }
+{
+    Ok(Seq::from_vec(text.to_vec(alloc)?))
+}
+
+/// The parts of the app that is drawn from a seed.
+#[tactic(auto, unfolding(crate::specs::Made::made_parts))]
+fn made_parts(alloc: Global, seed: u32, size: u32) -> Result<Parts, Memory>
+    requires seed { seed < 2147483648 }
+    requires some { 1 ≤ size }
+    requires most { size ≤ 2000 }
+    ensures { IfOk result (λ parts. parts ≡ made_parts seed size) }
+{
+    let bytes = made_dex(alloc, seed, size)?;
+    let mut dex = Vec::new(alloc);
+    dex.push(Seq::from_vec(bytes))?;
+    Ok(Parts {
+        manifest: listed(alloc, manifest_text())?,
+        layouts: listed(alloc, layouts_text())?,
+        declaration: listed(alloc, declaration_text())?,
+        lists: listed(alloc, lists_text())?,
+        dex: Seq::from_vec(dex),
+    })
+}
+
+/// The answer to a generated app that was judged so.
+fn made_as(size: u32, judged: Judged) -> Answer
+    ensures { due_of result ≡ due_to_made size (option_map (λ rows. length rows) judged.table) judged.outcome }
+{
+    let Judged { outcome, table } = judged;
+    let rows = match &table {
+        Some(rows) => Some(rows.len()),
+        None => None,
+    };
+    match outcome {
+        Outcome::Refused(part, reason) => Answer::Vetted(Outcome::Refused(part, reason)),
+        Outcome::Clear => Answer::Made(size, rows, Outcome::Clear),
+        Outcome::Flagged(findings) => Answer::Made(size, rows, Outcome::Flagged(findings)),
+        Outcome::Undecided(causes, findings) => {
+            Answer::Made(size, rows, Outcome::Undecided(causes, findings))
+        }
+    }
+}
+
+/// What the app comes to that is drawn from a seed, with so many drawn methods.
+pub fn made(alloc: Global, drawn: u32, size: u32, workers: u8, seed: u64) -> Result<Answer, Memory>
+    requires drawn { drawn < 2147483648 }
+    requires some { 1 ≤ size }
+    requires most { size ≤ 2000 }
+    ensures { IfOk result (λ a. (told : Option Told) → FindsDue (Some (Make drawn size workers)) told (due_of a)) }
+{
+    let parts = made_parts(alloc, drawn, size)?;
+    let judged = judge(alloc, &parts, seed)?;
+    Ok(made_as(size, judged))
+}

@@ -1,0 +1,79 @@
+//! The summary of a generated app.
+
+ghost use Rattle.std.specs.Prelude.{◌≡◌, ◌<◌, ◌+◌, ◌++◌, codes, length, IfOk, OnOk};
+ghost use Rattle.std.specs.Fmt.{decimal};
+ghost use Rattle.verdict.specs.Outcome.{findings_in};
+ghost use Rattle.vetting_desk.specs.Made.{outcome_word, rows_text, summary_text};
+
+use std::alloc::Global;
+use verdict::Outcome;
+use vet_base::Memory;
+
+fn put(text: &mut Vec<u8>, bytes: &[u8]) -> Result<(), Memory>
+    ensures { OnOk result (text.new.items ≡ text.old.items ++ bytes.now) }
+{
+    text.extend_from_slice(bytes)?;
+    Ok(())
+}
+
+fn put_number(alloc: Global, text: &mut Vec<u8>, n: u64) -> Result<(), Memory>
+    ensures { OnOk result (text.new.items ≡ text.old.items ++ decimal n) }
+{
+    let digits = format!(in alloc; "{n}")?;
+    put(text, digits.as_bytes())
+}
+
+#[tactic(auto, unfolding(crate::specs::Made::outcome_word))]
+fn word_of(outcome: &Outcome) -> &'static [u8]
+    ensures { result.now ≡ outcome_word outcome.now }
+{
+    match outcome {
+        Outcome::Clear => b"clear".as_slice(),
+        Outcome::Flagged(_) => b"flagged".as_slice(),
+        Outcome::Undecided(_, _) => b"undecided".as_slice(),
+        Outcome::Refused(_, _) => b"refused".as_slice(),
+    }
+}
+
+#[tactic(auto, unfolding(crate::specs::Made::rows_text))]
+fn put_rows(alloc: Global, text: &mut Vec<u8>, rows: Option<usize>) -> Result<(), Memory>
+    ensures { OnOk result (text.new.items ≡ text.old.items ++ rows_text rows) }
+{
+    match rows {
+        Some(n) => put_number(alloc, text, n as u64),
+        None => put(text, b"over 4000000".as_slice()),
+    }
+}
+
+fn findings_of(outcome: &Outcome) -> usize
+    ensures { result ≡ length (findings_in outcome.now) }
+{
+    match outcome {
+        Outcome::Clear => 0,
+        Outcome::Flagged(findings) => findings.len(),
+        Outcome::Undecided(_, findings) => findings.len(),
+        Outcome::Refused(_, _) => 0,
+    }
+}
+
+/// The four lines on a generated app: its methods, the rows that follow, its findings and the outcome's word.
+#[tactic(auto, unfolding(crate::specs::Made::summary_text))]
+pub fn summary(
+    alloc: Global,
+    size: u32,
+    rows: Option<usize>,
+    outcome: &Outcome,
+) -> Result<Vec<u8>, Memory>
+    ensures { IfOk result (λ text. text.items ≡ summary_text size rows outcome.now) }
+{
+    let mut text = b"methods ".as_slice().to_vec(alloc)?;
+    put_number(alloc, &mut text, u64::from(size) + 1)?;
+    put(&mut text, b"\nrows ".as_slice())?;
+    put_rows(alloc, &mut text, rows)?;
+    put(&mut text, b"\nfindings ".as_slice())?;
+    put_number(alloc, &mut text, findings_of(outcome) as u64)?;
+    put(&mut text, b"\n".as_slice())?;
+    put(&mut text, word_of(outcome))?;
+    put(&mut text, b"\n".as_slice())?;
+    Ok(text)
+}
