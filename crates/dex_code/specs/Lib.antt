@@ -6,6 +6,7 @@ pub mod Flow
 pub mod Handlers
 pub mod Insns
 pub mod Lines
+pub mod Listed
 pub mod Next
 pub mod Registers
 pub mod Tries

@@ -12,6 +12,7 @@ mod insn;
 mod insn_at;
 mod laws;
 mod lines;
+mod listed;
 mod names;
 mod next;
 mod order;

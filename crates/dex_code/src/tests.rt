@@ -1,4 +1,4 @@
-ghost use Rattle.std.specs.Prelude.{◌≡◌, ◌<◌, [], length, IfOk};
+ghost use Rattle.std.specs.Prelude.{◌≡◌, ◌<◌, ◌^◌, [], length, IfOk};
 
 use super::*;
 use app_machine::Act;
@@ -29,7 +29,7 @@ fn code_of(alloc: Global, units: &[u16]) -> Result<RawCode, AllocError>
 
 /// The first fault of these units, for a file without ids.
 fn fault_of(alloc: Global, units: &[u16]) -> Result<Option<CodeFault>, AllocError>
-    requires { length units.now < 100 }
+    requires { length units.now < 2 ^ 32 }
 {
     let code = code_of(alloc, units)?;
     Ok(decode(alloc, &code, &NONE).err())
@@ -168,6 +168,45 @@ fn next_lines_of_switches(rt: HostRuntime) -> Result<(), Fail> {
     assert!(rt; returned.is_empty());
     let padding = next_of_line(alloc, lines, &lines[3], &lines[4..])?;
     assert!(rt; padding.is_empty());
+    Ok(())
+}
+
+/// The units of so many `packed-switch` that share one table of so many entries, a `return-void` behind them and the table. Each
+/// entry goes to the instruction behind the switch.
+fn sharing_switches(alloc: Global, switches: u32, entries: u16) -> Result<Vec<u16>, AllocError>
+    requires { switches < 2 ^ 16 }
+{
+    let end = 3 * switches + 1;
+    let mut units = Vec::new(alloc);
+    for i in 0..switches {
+        let distance = end - 3 * i;
+        units.push(0x002B)?;
+        units.push((distance % 65_536) as u16)?;
+        units.push((distance / 65_536) as u16)?;
+    }
+    units.extend_from_slice(&[0x000E, 0x0100, entries, 0x0000, 0x0000])?;
+    for _ in 0..entries {
+        units.extend_from_slice(&[0x0003, 0x0000])?;
+    }
+    Ok(units)
+}
+
+/// Any table serves eight switches. A ninth is too much for a table of 200 entries, and 45,000 would list 1,440,000,000 targets.
+#[test]
+fn switches_that_share_a_table(rt: HostRuntime) -> Result<(), Fail> {
+    let alloc = rt.alloc();
+    let eight = sharing_switches(alloc, 8, 32_000)?;
+    assert!(rt; eight.len() == 64_029);
+    assert!(rt; fault_of(alloc, &eight)? == None);
+    let nine_short = sharing_switches(alloc, 9, 60)?;
+    assert!(rt; nine_short.len() == 152);
+    assert!(rt; fault_of(alloc, &nine_short)? == None);
+    let nine = sharing_switches(alloc, 9, 200)?;
+    assert!(rt; nine.len() == 432);
+    assert!(rt; fault_of(alloc, &nine)? == Some(CodeFault::Memory));
+    let many = sharing_switches(alloc, 45_000, 32_000)?;
+    assert!(rt; many.len() == 199_005);
+    assert!(rt; fault_of(alloc, &many)? == Some(CodeFault::Memory));
     Ok(())
 }
 
