@@ -21,6 +21,7 @@ pub mod Lookups
 pub mod Meeting
 pub mod Named
 pub mod Narrowed
+pub mod NoneDeeper
 pub mod OneAnswer
 pub mod OneHierarchy
 pub mod Ordered

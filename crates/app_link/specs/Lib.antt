@@ -3,6 +3,7 @@ pub mod Circle
 pub mod Classes
 pub mod Code
 pub mod Components
+pub mod Depths
 pub mod Described
 pub mod FirstLinkFault
 pub mod Flags

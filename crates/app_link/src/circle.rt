@@ -6,9 +6,11 @@ ghost use Rattle.app_machine.specs.Lookups.{directly_above};
 ghost use Rattle.app_machine.specs.Names.{Name};
 ghost use Rattle.app_machine.specs.Sound.{name_order};
 ghost use Rattle.app_link.specs.Circle.{LeastAmong, above_named, comes_first, newly};
+ghost use Rattle.app_link.specs.Depths.{NoneDeeper};
 ghost use Rattle.app_link.specs.Hierarchy.{Above, is_among};
 
 use crate::classes::{Classes, class_named};
+use crate::depths::{Depths, depths_of, is_on_no_circle};
 use crate::texts::add_copies;
 use app_model::Class;
 use std::alloc::Global;
@@ -100,12 +102,17 @@ fn is_before(name: &Name, best: &Option<Name>) -> bool
 fn better_of(
     alloc: Global,
     classes: &Classes,
+    depths: &Depths,
     best: Option<Name>,
     name: &Name,
 ) -> Result<Option<Name>, Memory>
+    requires { NoneDeeper classes.now.entries depths.now.entries }
     ensures { IfOk result (λ o. (before : List Name) → LeastAmong classes.now.entries before best → LeastAmong classes.now.entries (before ++ name.now ∷ []) o) }
 {
     if !is_before(name, &best) {
+        return Ok(best);
+    }
+    if is_on_no_circle(classes, depths, name) {
         return Ok(best);
     }
     if is_above_itself(alloc, classes, name)? {
@@ -114,8 +121,8 @@ fn better_of(
     Ok(best)
 }
 
-/// The least of the names that are above themselves, where one is. Each name that comes before the best so far takes a search
-/// of all that is above it: only the refusal of classes in a circle takes that long.
+/// The least of the names that are above themselves, where one is. A name that lies deeper than all that is directly above it is
+/// passed by, so only one on a circle takes a search of all that is above it, and of ascending names only the first such.
 pub fn least_circle(
     alloc: Global,
     classes: &Classes,
@@ -123,9 +130,10 @@ pub fn least_circle(
 ) -> Result<Option<Name>, Memory>
     ensures { IfOk result (λ o. LeastAmong classes.now.entries names.now o) }
 {
+    let depths = depths_of(alloc, classes)?;
     let mut best = None;
     for name in names {
-        best = better_of(alloc, classes, best, name)?;
+        best = better_of(alloc, classes, &depths, best, name)?;
     }
     Ok(best)
 }

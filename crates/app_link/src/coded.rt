@@ -17,11 +17,15 @@ ghost use Rattle.app_link.specs.declared.fault.Fault.TheVariants as faults;
 use crate::fault::{Fault, Halt};
 use crate::members::{Listed, Methods, Place, Triple};
 use crate::texts::{method_row_at, proto_at, proto_copied};
+use crate::weight::parameter_count;
 use app_model::{CallKind, MethodRef, Proto, is_wide};
 use dex_code::{CodeFault, Counts, Decoded, Insn, Naming, code_laws, decode};
 use dex_reader::{Body, ClassDef, Dex, RawCode};
 use std::alloc::Global;
 use vet_base::{Memory, Name, Seq, Shared, Stop};
+
+/// A call has at most so many registers, so a method with more parameters is never called rightly: the link does not list them.
+const PARAMETERS: usize = 255;
 
 /// A method of the app whose code is decoded, or a native one, which has no lines.
 #[derive(Debug, Drop)]
@@ -119,6 +123,9 @@ fn fits_call(alloc: Global, dex: &Dex, insn: &Insn) -> Result<bool, Memory>
     match insn.naming() {
         Naming::Method(i) => {
             let is_static = matches!(insn.call_kind(), CallKind::Static);
+            if parameter_count(dex, i) > PARAMETERS {
+                return Err(Memory);
+            }
             let proto = proto_at(alloc, dex, method_row_at(dex, i).proto)?;
             Ok(takes(is_static, &proto, insn.argument_count()))
         }

@@ -10,6 +10,7 @@ use crate::classes::{Classes, classes_of};
 use crate::components::components_of;
 use crate::fault::Halt;
 use crate::members::{Fields, Members, Methods, members_of};
+use crate::weight::check_names;
 use app_model::{Component, Manifest};
 use dex_reader::Dex;
 use std::alloc::Global;
@@ -43,6 +44,7 @@ pub fn gather(alloc: Global, dexes: &[Dex], manifest: &Manifest) -> Result<Parts
     ensures fit { IfOk result (λ p. Fit p.classes.entries p.components.items) }
     ensures few { IfOk result (λ p. length p.components.items ≤ 1 + length manifest.now.components) }
 {
+    check_names(alloc, dexes)?;
     let classes = classes_of(alloc, dexes)?;
     let Members { fields, methods } = members_of(alloc, dexes)?;
     let components = fitting_components(alloc, &classes, manifest)?;

@@ -1,7 +1,6 @@
 //! The classes and interfaces above each class: none is above itself, and the library classes above are listed.
 
 ghost use Rattle.std.specs.Prelude.{◌≡◌, ◌≤◌, ◌<◌, ◌++◌, ◌∷◌, [], IfOk, IfErr, Some, length, cond};
-ghost use Rattle.std.specs.Map.{keys_of};
 ghost use Rattle.std.specs.BTreeMap.{is_at};
 ghost use Rattle.app_machine.specs.Sound.{name_order};
 ghost use Rattle.app_machine.specs.Names.{Name};
@@ -12,63 +11,13 @@ ghost use Rattle.app_link.specs.Settled.{AllSettled, AreStuck, Covers, Settled, 
 use crate::circle::least_circle;
 use crate::classes::{Classes, class_named, holds_name};
 use crate::fault::{Fault, Halt};
-use crate::outer::{Outers, outer_at};
+use crate::order::{names_of, order_of};
+use crate::outer::{Outers, outer_at, spend_outer};
+use crate::weight::NAMES;
 use app_model::Class;
 use std::alloc::Global;
-use std::collections::{BTreeMap, BTreeSet};
+use std::collections::BTreeMap;
 use vet_base::{Memory, Name, Shared, Stop};
-
-/// The class or interface of that number directly above: the superclass first.
-fn above_at(class: &Class, k: usize) -> Option<&Name> {
-    match &class.superclass {
-        Some(superclass) if k == 0 => Some(superclass),
-        Some(_) => class.interfaces.get(k - 1),
-        None => class.interfaces.get(k),
-    }
-}
-
-/// Puts the names of a class and of the app classes above it behind the others, each behind those above it.
-fn add_in_order(
-    alloc: Global,
-    classes: &Classes,
-    root: &Name,
-    seen: &mut BTreeSet<Name>,
-    order: &mut Vec<Name>,
-) -> Result<(), Memory> {
-    let mut open: Vec<(Name, usize)> = Vec::new(alloc);
-    if seen.insert(root.copy()?)? {
-        open.push((root.copy()?, 0))?;
-    }
-    for _ in 0..u64::MAX {
-        let Some((name, k)) = open.pop() else {
-            break;
-        };
-        if let Some(class) = classes.get(&name) {
-            match above_at(class, k) {
-                Some(above) => {
-                    let above = above.copy()?;
-                    open.push((name, k.saturating_add(1)))?;
-                    if holds_name(classes, &above) && seen.insert(above.copy()?)? {
-                        open.push((above, 0))?;
-                    }
-                }
-                None => order.push(name)?,
-            }
-        }
-    }
-    Ok(())
-}
-
-/// The names of the classes, each behind those above it where none is above itself. No proof rests on this order: in another
-/// one it would only take longer to settle the classes.
-fn order_of(alloc: Global, classes: &Classes) -> Result<Vec<Name>, Memory> {
-    let mut seen = BTreeSet::new(alloc);
-    let mut order = Vec::new(alloc);
-    for name in classes.keys() {
-        add_in_order(alloc, classes, name, &mut seen, &mut order)?;
-    }
-    Ok(order)
-}
 
 #[tactic(auto, unfolding(crate::specs::Orders::named))]
 fn holds_outer(outers: &Outers, name: &Name) -> bool
@@ -122,6 +71,7 @@ fn settle(
     classes: &Classes,
     outers: Outers,
     name: &Name,
+    room: &mut u64,
 ) -> Result<(Outers, bool), Memory>
     requires { Settled classes.now.entries outers.entries }
     ensures { IfOk result (λ t. Turn classes.now.entries outers.entries t.0.entries name.now t.1) }
@@ -135,6 +85,7 @@ fn settle(
     if !may_settle(classes, &outers, class) {
         return Ok((outers, true));
     }
+    spend_outer(classes, &outers, class, room)?;
     let outer = outer_at(alloc, classes, &outers, class)?;
     let outers = put_outer(outers, name.copy()?, outer)?;
     Ok((outers, false))
@@ -142,12 +93,17 @@ fn settle(
 
 /// Settles as many of the classes as the order allows.
 #[tactic(auto, using(crate::proofs::Settling::none_settled))]
-fn settle_along(alloc: Global, classes: &Classes, order: &[Name]) -> Result<Outers, Memory>
+fn settle_along(
+    alloc: Global,
+    classes: &Classes,
+    order: &[Name],
+    room: &mut u64,
+) -> Result<Outers, Memory>
     ensures { IfOk result (λ m. Settled classes.now.entries m.entries) }
 {
     let mut outers = BTreeMap::new(alloc);
     for name in order {
-        let (more, _) = settle(alloc, classes, outers, name)?;
+        let (more, _) = settle(alloc, classes, outers, name, room)?;
         outers = more;
     }
     Ok(outers)
@@ -170,6 +126,7 @@ fn settle_round(
     classes: &Classes,
     mut outers: Outers,
     names: &[Name],
+    room: &mut u64,
 ) -> Result<(Outers, Vec<Name>), Memory>
     requires settled { Settled classes.now.entries outers.entries }
     requires covers { Covers classes.now.entries outers.entries names.now }
@@ -180,7 +137,7 @@ fn settle_round(
 {
     let mut left = Vec::new(alloc);
     for name in names {
-        let (more, waits) = settle(alloc, classes, outers, name)?;
+        let (more, waits) = settle(alloc, classes, outers, name, room)?;
         outers = more;
         left = left_with(left, name, waits)?;
     }
@@ -207,16 +164,6 @@ fn circle_among(
     }
 }
 
-fn names_of(alloc: Global, classes: &Classes) -> Result<Vec<Name>, Memory>
-    ensures { IfOk result (λ v. v.items ≡ keys_of classes.now.entries) }
-{
-    let mut names = Vec::new(alloc);
-    for name in classes.keys() {
-        names.push(name.copy()?)?;
-    }
-    Ok(names)
-}
-
 /// The library classes above each class, or the least class that is above itself.
 #[tactic(auto, using(crate::proofs::Rounds::all_left, crate::proofs::Rounds::none_left))]
 pub fn outers_of(alloc: Global, classes: &Classes) -> Result<Outers, Halt>
@@ -224,10 +171,11 @@ pub fn outers_of(alloc: Global, classes: &Classes) -> Result<Outers, Halt>
     ensures fault { IfErr result (λ h. StopsAtCircle classes.now.entries h) }
 {
     let order = order_of(alloc, classes)?;
-    let mut outers = settle_along(alloc, classes, &order)?;
+    let mut room = NAMES;
+    let mut outers = settle_along(alloc, classes, &order, &mut room)?;
     let mut left = names_of(alloc, classes)?;
     'rounds: while !left.is_empty() {
-        let (more, rest) = settle_round(alloc, classes, outers, &left)?;
+        let (more, rest) = settle_round(alloc, classes, outers, &left, &mut room)?;
         if rest.len() == left.len() {
             let class = circle_among(alloc, classes, &more, &rest)?;
             return Err(Stop::Fault(Fault::Circle(class)));

@@ -3,8 +3,10 @@
 
 mod circle;
 mod classes;
+mod climbs;
 mod coded;
 mod components;
+mod depths;
 mod fault;
 mod finish;
 mod flags;
@@ -17,11 +19,13 @@ mod linking;
 mod members;
 mod methods;
 mod naming;
+mod order;
 mod outer;
 mod scope;
 mod static_list;
 mod statics;
 mod texts;
+mod weight;
 
 pub use law::one_app_or_fault;
 pub use linking::{LinkFault, link};

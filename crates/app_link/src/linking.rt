@@ -13,12 +13,14 @@ ghost use Rattle.app_link.specs.Limits.{within_limits};
 ghost use Rattle.app_link.specs.SoFar.{SoFar};
 ghost use Rattle.app_link.specs.Tested.{Tested};
 
+use crate::climbs::check_climbs;
 use crate::coded::{Coding, codes_of};
 use crate::fault::{Fault, Halt, Limit};
 use crate::finish::{Papers, finished, frame_of};
 use crate::gathered::{Parts, gather};
 use crate::hierarchy::outers_of;
 use crate::members::Methods;
+use crate::weight::check_calls_listed;
 use app_model::{App, Layouts, Manifest, MethodRef};
 use dex_code::{CodeFault, code_laws};
 use dex_reader::Dex;
@@ -115,6 +117,8 @@ fn linked(alloc: Global, dexes: &[Dex], manifest: &Manifest, layouts: &Layouts) 
     } = parts;
     let coding = coding_of(alloc, dexes, methods)?;
     check_limits(class_count, method_count, field_count, coding.units)?;
+    check_calls_listed(dexes, &coding.methods)?;
+    check_climbs(alloc, dexes, &classes, &coding.methods)?;
     let papers = Papers { manifest, layouts };
     let frame = frame_of(alloc, classes, &outers, &fields, components, &papers)?;
     let app = finished(alloc, dexes, &fields, frame, &coding)?;

@@ -9,6 +9,7 @@ ghost use Rattle.app_link.specs.Orders.{named};
 ghost use Rattle.app_link.specs.Settled.{filled_by, given_to, gives, listed};
 
 use crate::classes::{Classes, holds_name};
+use crate::weight::{name_cost, spend};
 use app_model::Class;
 use std::alloc::Global;
 use std::collections::{BTreeMap, BTreeSet};
@@ -83,6 +84,37 @@ fn add_given(
         return add_all(outer_named(outers, above), seen, outer);
     }
     add_new(above, seen, outer)
+}
+
+fn spend_given(
+    classes: &Classes,
+    outers: &Outers,
+    above: &Name,
+    left: &mut u64,
+) -> Result<(), Memory> {
+    if !holds_name(classes, above) {
+        return spend(left, name_cost(above));
+    }
+    for name in outer_named(outers, above) {
+        spend(left, name_cost(name))?;
+    }
+    Ok(())
+}
+
+/// Takes from what is left what listing takes that all give that stand directly above a class, whether or not it comes twice.
+pub fn spend_outer(
+    classes: &Classes,
+    outers: &Outers,
+    class: &Class,
+    left: &mut u64,
+) -> Result<(), Memory> {
+    if let Some(superclass) = &class.superclass {
+        spend_given(classes, outers, superclass, left)?;
+    }
+    for interface in class.interfaces.as_slice() {
+        spend_given(classes, outers, interface, left)?;
+    }
+    Ok(())
 }
 
 #[tactic(auto, using(crate::proofs::FoldsOn::each_begins, crate::proofs::FoldsOn::each_goes_on, crate::proofs::FoldsOn::each_is_done))]
