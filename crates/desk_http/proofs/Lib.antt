@@ -1,0 +1,6 @@
+pub mod Coming
+pub mod Digits
+pub mod Ends
+pub mod Named
+pub mod Room
+pub mod Answered

@@ -1,0 +1,4 @@
+pub mod Came
+pub mod Fields
+pub mod Heads
+pub mod Requests

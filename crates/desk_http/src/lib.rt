@@ -1,0 +1,15 @@
+//! Requests and replies of the desk as bytes of HTTP/1.1 over a link.
+#![tactic(auto)]
+
+mod asked;
+mod fields;
+mod head;
+mod head_end;
+mod piece;
+mod request;
+
+pub use asked::{Asked, HttpFault};
+pub use request::read_request;
+
+#[cfg(test)]
+mod tests;
