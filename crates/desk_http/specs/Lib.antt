@@ -1,4 +1,5 @@
 pub mod Came
 pub mod Fields
 pub mod Heads
+pub mod Laws
 pub mod Requests

@@ -5,10 +5,12 @@ mod asked;
 mod fields;
 mod head;
 mod head_end;
+mod law;
 mod piece;
 mod request;
 
 pub use asked::{Asked, HttpFault};
+pub use law::requests_have_one_answer;
 pub use request::read_request;
 
 #[cfg(test)]
