@@ -63,7 +63,7 @@ for plant in "$room"/plants/*/; do
     read -r -a crates < "$plant/crates"
     by=$(refused_by "${crates[@]}")
     if [ -n "$by" ]; then
-        printf '%s: refused by %s: %s\n' "$name" "$by" "$(grep -m 1 -E '^error|error:' "$room/log" || tail -n 1 "$room/log")"
+        printf '%s: refused by %s: %s\n' "$name" "$by" "$(grep -m 1 -E ': no proof|^note: .*not proved|^error' "$room/log" || tail -n 1 "$room/log")"
         refused=$((refused + 1))
     else
         printf '%s: NOT REFUSED\n' "$name"
