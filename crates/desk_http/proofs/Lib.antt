@@ -5,3 +5,4 @@ pub mod Named
 pub mod OneAnswer
 pub mod Room
 pub mod Answered
+pub mod Writing

@@ -11,7 +11,7 @@ use httparse::spans::HeaderSpan;
 const BODY_LIMIT: u64 = 67_108_864;
 
 #[tactic(auto, unfolding(crate::specs::Fields::content_length))]
-fn content_length() -> &'static [u8]
+pub(crate) fn content_length() -> &'static [u8]
     ensures { result.now ≡ content_length }
 {
     b"content-length"

@@ -7,10 +7,12 @@ mod head;
 mod head_end;
 mod law;
 mod piece;
+mod reply;
 mod request;
 
 pub use asked::{Asked, HttpFault};
 pub use law::requests_have_one_answer;
+pub use reply::{Answer, SendFault, write_reply};
 pub use request::read_request;
 
 #[cfg(test)]

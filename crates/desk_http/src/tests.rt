@@ -1,8 +1,9 @@
-use crate::{Asked, HttpFault, read_request};
-use desk_links::MemLink;
+use crate::{Answer, Asked, HttpFault, SendFault, read_request, write_reply};
+use desk_links::{Link, MemLink};
 use std::alloc::Global;
 use std::process::Abort;
 use std::test::Fail;
+use vet_base::Memory;
 
 /// What is answered to this input, in pieces of one byte or as it is, over a link that fails at these calls.
 fn asked(
@@ -105,5 +106,73 @@ fn a_failing_link_is_told(rt: HostRuntime) -> Result<(), Fail> {
     assert_eq!(rt; first.err(), Some(HttpFault::ReadFault));
     let later = asked(alloc, REQUEST.as_slice(), true, vec![in alloc; 72]?);
     assert_eq!(rt; later.err(), Some(HttpFault::ReadFault));
+    Ok(())
+}
+
+/// A link in which nothing comes.
+fn silent_link(alloc: Global, room: usize, failing: Vec<u64>) -> Result<MemLink, Memory> {
+    MemLink::new(alloc, Vec::new(alloc), Vec::new(alloc), room, failing)
+}
+
+const JSON_REPLY: &[u8; 91] =
+    b"HTTP/1.1 200 OK\r\ncontent-type: application/json\r\ncontent-length: 2\r\nconnection: close\r\n\r\n{}";
+
+const TEXT_REPLY: &[u8; 103] =
+    b"HTTP/1.1 404 Not Found\r\ncontent-type: text/plain\r\ncontent-length: 12\r\nconnection: close\r\n\r\nno such case";
+
+#[test]
+fn a_reply_is_written(rt: HostRuntime) -> Result<(), Fail> {
+    let alloc = rt.alloc();
+    let json = Answer {
+        status: 200,
+        is_text: false,
+        body: b"{}".as_slice().to_vec(alloc)?,
+    };
+    let mut link = silent_link(alloc, 1000, Vec::new(alloc))?;
+    write_reply(alloc, &mut link, &json)?;
+    assert_eq!(rt; link.written(), JSON_REPLY.as_slice());
+    let text = Answer {
+        status: 404,
+        is_text: true,
+        body: b"no such case".as_slice().to_vec(alloc)?,
+    };
+    let mut link = silent_link(alloc, 1000, Vec::new(alloc))?;
+    write_reply(alloc, &mut link, &text)?;
+    assert_eq!(rt; link.written(), TEXT_REPLY.as_slice());
+    Ok(())
+}
+
+#[test]
+fn a_reply_where_the_room_ends(rt: HostRuntime) -> Result<(), Fail> {
+    let alloc = rt.alloc();
+    let json = Answer {
+        status: 200,
+        is_text: false,
+        body: b"{}".as_slice().to_vec(alloc)?,
+    };
+    let mut link = silent_link(alloc, 20, Vec::new(alloc))?;
+    let sent = write_reply(alloc, &mut link, &json);
+    assert_eq!(rt; sent.err(), Some(SendFault::Failed));
+    assert_eq!(rt; link.written(), b"HTTP/1.1 200 OK\r\ncon".as_slice());
+    Ok(())
+}
+
+#[test]
+fn a_reply_over_a_failing_link(rt: HostRuntime) -> Result<(), Fail> {
+    let alloc = rt.alloc();
+    let text = Answer {
+        status: 404,
+        is_text: true,
+        body: b"no such case".as_slice().to_vec(alloc)?,
+    };
+    let mut first = silent_link(alloc, 1000, vec![in alloc; 1]?)?;
+    let sent = write_reply(alloc, &mut first, &text);
+    assert_eq!(rt; sent.err(), Some(SendFault::Failed));
+    assert_eq!(rt; first.written().len(), 0);
+    assert_eq!(rt; first.faults(), 1);
+    let mut second = silent_link(alloc, 1000, vec![in alloc; 2]?)?;
+    let sent = write_reply(alloc, &mut second, &text);
+    assert_eq!(rt; sent.err(), Some(SendFault::Failed));
+    assert_eq!(rt; second.written(), &TEXT_REPLY[..91]);
     Ok(())
 }
