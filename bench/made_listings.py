@@ -99,13 +99,23 @@ def assembled(seed, size):
         return dumped(f'{folder}/classes.dex')
 
 
+def members_of(listing):
+    """The classes and members of a listing, each with its lines, by their names: smali orders methods by name, and the program by number."""
+    members = []
+    for line in listing:
+        if line.startswith(('class ', '  field ', '  method ')):
+            members.append([])
+        members[-1].append(line)
+    return sorted(members)
+
+
 def compare(program, folder):
     """Whether the program's apps are listed as the assembled ones."""
     same = True
     for seed, size in [(1, 1), (0, 1), (3, 5), (7, 50), (2147483647, 100), (12345, 333), (7, 2000)]:
         name = f'{folder}/{seed}_{size}.dex'
         subprocess.run([program, str(seed), str(size), name], check=True)
-        here = dumped(name) == assembled(seed, size)
+        here = members_of(dumped(name)) == members_of(assembled(seed, size))
         same &= here
         print(f"seed {seed} size {size}: {'as assembled' if here else 'OTHERWISE'}")
     return same
