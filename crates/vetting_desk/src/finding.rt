@@ -137,13 +137,13 @@ fn found_by_recheck<F: Files>(
 }
 
 /// What `make` finds. It reads no file.
-fn found_by_make(alloc: Global, drawn: u32, size: u32, workers: u8, seed: u64) -> Found
-    requires drawn { drawn < 2147483648 }
+fn found_by_make(alloc: Global, app_seed: u32, size: u32, workers: u8, seed: u64) -> Found
+    requires app_seed { app_seed < 2147483648 }
     requires some { 1 ≤ size }
     requires most { size ≤ 2000 }
-    ensures { (told : Option Told) (count : ℕ) → IsFound (Some (Make drawn size workers)) told told count count result }
+    ensures { (told : Option Told) (count : ℕ) → IsFound (Some (Make app_seed size workers)) told told count count result }
 {
-    said(made(alloc, drawn, size, workers, seed))
+    said(made(alloc, app_seed, size, workers, seed))
 }
 
 /// What the words find.
@@ -156,8 +156,8 @@ pub fn found_in<F: Files>(alloc: Global, words: &[String], files: &mut F, seed: 
         Some(Command::Check(dir, workers)) => found_by_check(alloc, dir, workers, files, seed),
         Some(Command::Certify(dir, path)) => found_by_certify(alloc, dir, path, files, seed),
         Some(Command::Recheck(dir, path)) => found_by_recheck(alloc, dir, path, files, seed),
-        Some(Command::Make(drawn, size, workers)) => {
-            found_by_make(alloc, drawn, size, workers, seed)
+        Some(Command::Make(app_seed, size, workers)) => {
+            found_by_make(alloc, app_seed, size, workers, seed)
         }
     }
 }

@@ -61,13 +61,19 @@ fn made_as(size: u32, judged: Judged) -> Answer
 }
 
 /// What the app comes to that is drawn from a seed, with so many drawn methods.
-pub fn made(alloc: Global, drawn: u32, size: u32, workers: u8, seed: u64) -> Result<Answer, Memory>
-    requires drawn { drawn < 2147483648 }
+pub fn made(
+    alloc: Global,
+    app_seed: u32,
+    size: u32,
+    workers: u8,
+    seed: u64,
+) -> Result<Answer, Memory>
+    requires app_seed { app_seed < 2147483648 }
     requires some { 1 ≤ size }
     requires most { size ≤ 2000 }
-    ensures { IfOk result (λ a. (told : Option Told) → FindsDue (Some (Make drawn size workers)) told (due_of a)) }
+    ensures { IfOk result (λ a. (told : Option Told) → FindsDue (Some (Make app_seed size workers)) told (due_of a)) }
 {
-    let parts = made_parts(alloc, drawn, size)?;
+    let parts = made_parts(alloc, app_seed, size)?;
     let judged = judge(alloc, &parts, seed)?;
     Ok(made_as(size, judged))
 }
