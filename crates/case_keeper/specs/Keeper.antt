@@ -1,5 +1,5 @@
 -- What a keeper tells, and when it fails.
-use Rattle.std.specs.Prelude.{◌≡◌, ℕ, List, Option, Some, Result, Ok, Err, IfOk}
+use Rattle.std.specs.Prelude.{◌≡◌, ◌≤◌, ℕ, List, Option, Some, Result, Ok, Err, IfOk}
 use Rattle.std.specs.Option.{option_map}
 use Rattle.vet_base.specs.Outside.{HasRisen}
 use Rattle.case_rules.specs.declared.case.Case.{Case}
@@ -17,8 +17,8 @@ abbrev pub told_after : {X : Type 0} → Change → Option (List Case) → Resul
 told_after change told (Ok x) = option_map (after change) told
 told_after change told (Err fault) = told
 
--- `Failed` comes only where the count rose; any other answer leaves it as it was.
+-- `Failed` comes only where the count rose; any other answer leaves it as it was. It never falls.
 abbrev pub KeepCause : {X : Type 0} → ℕ → ℕ → Result X KeepFault → Type 0
 KeepCause before now (Ok x) = now ≡ before
-KeepCause before now (Err Failed) = HasRisen before now
+KeepCause before now (Err Failed) = HasRisen before now × (before ≤ now)
 KeepCause before now (Err Memory) = now ≡ before

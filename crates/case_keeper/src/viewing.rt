@@ -1,6 +1,6 @@
-ghost use Rattle.std.specs.Prelude.{◌≡◌, List, Some, IfOk};
+ghost use Rattle.std.specs.Prelude.{◌≡◌, List, Some, None, IfOk};
 ghost use Rattle.case_rules.specs.Rules.{Session};
-ghost use Rattle.case_rules.specs.Docket.{Shows};
+ghost use Rattle.case_rules.specs.Docket.{Shows, ShowsQueued};
 ghost use Rattle.case_keeper.specs.Keeper.{KeepCause};
 
 use crate::{KeepFault, Keeper};
@@ -11,6 +11,7 @@ use vet_base::Shared;
 fn of_case(found: Option<Case>, queued: u64) -> View
     ensures found { result.found ≡ found }
     ensures queued { result.queued ≡ queued }
+    ensures no_first { result.first ≡ None }
 {
     View {
         found,
@@ -32,7 +33,8 @@ fn of_first(first: Option<Case>) -> View
 }
 
 fn of_lines(lines: Shared<Line>) -> View
-    ensures { result.lines ≡ lines }
+    ensures lines { result.lines ≡ lines }
+    ensures no_first { result.first ≡ None }
 {
     View {
         found: None,
@@ -51,6 +53,7 @@ pub fn view_for<K: Keeper>(
 ) -> Result<View, KeepFault>
     ensures shows { (session : Session) (cases : List Case) → session.party ≡ party.now → K.told keeper.old ≡ Some cases
         → IfOk result (λ view. Shows session command.now view cases) }
+    ensures queued { IfOk result ShowsQueued }
     ensures told { K.told keeper.new ≡ K.told keeper.old }
     ensures cause { KeepCause (K.fault_count keeper.old) (K.fault_count keeper.new) result }
 {

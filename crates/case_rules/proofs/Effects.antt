@@ -41,7 +41,7 @@ some_and_from : {A : Type 0} (o : Option A) (x : A) (P : A → Type 0) → o ≡
 some_and_from {A = A} o x P is holds = subst (λ (z : Option A). IsSomeAnd z P) (sym is) holds
 
 -- a case without entries has no edition and no open appeal
-none_yet : (lists : List ℕ) (entries : List Entry) → (length entries == 0) ≡ true
+pub none_yet : (lists : List ℕ) (entries : List Entry) → (length entries == 0) ≡ true
     → (list_any (is_under lists) entries ≡ false) × (is_open_by (last entries) ≡ false)
 none_yet lists [] none = (refl, refl)
 none_yet lists (entry ∷ entries) none = absurd (omega (arith, eqb-true (length (entry ∷ entries)) 0 none))

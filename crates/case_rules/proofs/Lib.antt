@@ -12,3 +12,4 @@ pub mod Planned
 pub mod Raised
 pub mod Refused
 pub mod Rows
+pub mod Taken

@@ -18,7 +18,7 @@ use Rattle.case_rules.proofs.Dockets.{found_by_name, changed_by_name}
 use Rattle.case_rules.proofs.Effects.{effect}
 
 -- the rules look at nothing else
-shown_alike : (session : Session) (command : Command) (view : View) (cases : List Case)
+pub shown_alike : (session : Session) (command : Command) (view : View) (cases : List Case)
     → Shows session command view cases
     → answered session command view ≡ answered session command (view_of session command cases)
 shown_alike session (commands.Submit reference content) view cases shows =

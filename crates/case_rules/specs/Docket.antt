@@ -57,6 +57,10 @@ Shows session (commands.Rule developer reference word) view cases =
     ShowsCase session (commands.Rule developer reference word) view cases
 Shows session commands.List view cases = view.lines ≡ listed session.party.role session.party.name cases
 
+-- The case that is shown as the first without an entry has none.
+abbrev pub ShowsQueued : View → Type 0
+ShowsQueued view = IfSome view.first (λ case. is_queued case ≡ true)
+
 -- A case that is decided has no entry under these lists and no open appeal.
 abbrev pub TakesDecision : Decision → Case → Type 0
 TakesDecision decision case = (has_edition decision.lists case ≡ false) × (has_open_appeal case ≡ false)

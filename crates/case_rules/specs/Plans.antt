@@ -37,6 +37,12 @@ pub record Judges (session : Session) (judgement : Judgement) (command : Command
   pub takes : TakesDecision (decision_by session judgement) case
   pub does : Settles session judgement command cases case
 
+-- A case that is to be judged takes the decision, whatever judging it gives.
+abbrev pub JudgesTaking : Session → Plan → Type 0
+JudgesTaking session (Say reply) = Unit {0}
+JudgesTaking session (Do change reply) = Unit {0}
+JudgesTaking session (Judge case) = (judgement : Judgement) → TakesDecision (decision_by session judgement) case
+
 abbrev pub AddsNoDecision : Change → Type 0
 AddsNoDecision (changes.Add case) = Unit {0}
 AddsNoDecision (changes.Decide party reference decision) = ⊥

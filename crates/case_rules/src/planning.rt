@@ -1,9 +1,9 @@
 ghost use Rattle.std.specs.Prelude.{◌≡◌, List, IfOk};
 ghost use Rattle.case_rules.specs.Rules.{Gives, is_developer, is_reviewer, is_appealable, submit, decide, show, report, appeal, review, rule, answered, planned, session_of};
-ghost use Rattle.case_rules.specs.Docket.{IsFormed, IsDocket, Shows, TakesDecision};
+ghost use Rattle.case_rules.specs.Docket.{IsFormed, IsDocket, Shows, ShowsQueued, TakesDecision};
 ghost use Rattle.case_rules.specs.Cases.{is_named};
-ghost use Rattle.case_rules.specs.Desk.{Judgement};
-ghost use Rattle.case_rules.specs.Plans.{IsPlanFor, settled};
+ghost use Rattle.case_rules.specs.Desk.{Judgement, plan_over};
+ghost use Rattle.case_rules.specs.Plans.{IsPlanFor, JudgesTaking, settled};
 
 use crate::{
     Appeal, Case, Change, Command, Content, Decision, OutcomeWord, Party, Plan, Refusal, Reply,
@@ -259,6 +259,15 @@ pub fn plan(
     ensures desk { IfOk result (λ plan. (judgement : Judgement) (cases : List Case) → IsDocket cases
         → Shows (session_of party.now appeal_days day edition.now) command.now view.now cases
         → IsPlanFor (session_of party.now appeal_days day edition.now) judgement command.now cases plan) }
+
+    // It is the desk's own plan.
+    ensures over { IfOk result (λ plan. (cases : List Case)
+        → Shows (session_of party.now appeal_days day edition.now) command.now view.now cases
+        → plan ≡ plan_over (session_of party.now appeal_days day edition.now) command.now cases) }
+
+    // A case that is to be judged takes the decision, whatever else the cases are.
+    ensures takes { IfOk result (λ plan. ShowsQueued view.now
+        → JudgesTaking (session_of party.now appeal_days day edition.now) plan) }
 {
     match answered(view, party, appeal_days, day, edition, command) {
         Ok(plan) => Ok(plan),
