@@ -7,6 +7,7 @@ use crate::fields::content_length;
 use desk_links::{Link, LinkFault};
 use http::StatusCode;
 use std::alloc::{AllocError, Global};
+use vet_base::Shared;
 
 /// Why a reply was not sent.
 #[derive(Clone, Copy, Debug, PartialEq, Eq)]
@@ -21,7 +22,7 @@ pub enum SendFault {
 pub struct Answer {
     pub status: u16,
     pub is_text: bool,
-    pub body: Vec<u8>,
+    pub body: Shared<u8>,
 }
 
 /// The phrase behind a status.
@@ -180,14 +181,14 @@ fn write_both<L: Link>(link: &mut L, head: &[u8], body: &[u8]) -> Result<(), Lin
 /// `Memory` nothing.
 pub fn write_reply<L: Link>(alloc: Global, link: &mut L, answer: &Answer) -> Result<(), SendFault>
     requires { IsStatusCode answer.now.status }
-    ensures written { Sends (L.told link.old) (L.told link.new) (reply_bytes answer.now.status answer.now.is_text answer.now.body.items) result }
+    ensures written { Sends (L.told link.old) (L.told link.new) (reply_bytes answer.now.status answer.now.is_text answer.now.body) result }
     ensures cause { result ≡ Err SendFault.Failed → HasRisen (L.fault_count link.old) (L.fault_count link.new) }
     ensures never_falls { L.fault_count link.old ≤ L.fault_count link.new }
 {
     let Ok(head) = reply_head(alloc, answer.status, answer.is_text, answer.body.len()) else {
         return Err(SendFault::Memory);
     };
-    match write_both(link, &head, &answer.body) {
+    match write_both(link, &head, answer.body.as_slice()) {
         Ok(()) => Ok(()),
         Err(_) => Err(SendFault::Failed),
     }

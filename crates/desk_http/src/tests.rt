@@ -3,7 +3,7 @@ use desk_links::{Link, MemLink};
 use std::alloc::Global;
 use std::process::Abort;
 use std::test::Fail;
-use vet_base::Memory;
+use vet_base::{Memory, Shared};
 
 /// What is answered to this input, in pieces of one byte or as it is, over a link that fails at these calls.
 fn asked(
@@ -126,7 +126,7 @@ fn a_reply_is_written(rt: HostRuntime) -> Result<(), Fail> {
     let json = Answer {
         status: 200,
         is_text: false,
-        body: b"{}".as_slice().to_vec(alloc)?,
+        body: Shared::from_vec(alloc, b"{}".as_slice().to_vec(alloc)?)?,
     };
     let mut link = silent_link(alloc, 1000, Vec::new(alloc))?;
     write_reply(alloc, &mut link, &json)?;
@@ -134,7 +134,7 @@ fn a_reply_is_written(rt: HostRuntime) -> Result<(), Fail> {
     let text = Answer {
         status: 404,
         is_text: true,
-        body: b"no such case".as_slice().to_vec(alloc)?,
+        body: Shared::from_vec(alloc, b"no such case".as_slice().to_vec(alloc)?)?,
     };
     let mut link = silent_link(alloc, 1000, Vec::new(alloc))?;
     write_reply(alloc, &mut link, &text)?;
@@ -148,7 +148,7 @@ fn a_reply_where_the_room_ends(rt: HostRuntime) -> Result<(), Fail> {
     let json = Answer {
         status: 200,
         is_text: false,
-        body: b"{}".as_slice().to_vec(alloc)?,
+        body: Shared::from_vec(alloc, b"{}".as_slice().to_vec(alloc)?)?,
     };
     let mut link = silent_link(alloc, 20, Vec::new(alloc))?;
     let sent = write_reply(alloc, &mut link, &json);
@@ -163,7 +163,7 @@ fn a_reply_over_a_failing_link(rt: HostRuntime) -> Result<(), Fail> {
     let text = Answer {
         status: 404,
         is_text: true,
-        body: b"no such case".as_slice().to_vec(alloc)?,
+        body: Shared::from_vec(alloc, b"no such case".as_slice().to_vec(alloc)?)?,
     };
     let mut first = silent_link(alloc, 1000, vec![in alloc; 1]?)?;
     let sent = write_reply(alloc, &mut first, &text);
