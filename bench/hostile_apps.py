@@ -118,12 +118,13 @@ def switches(n, distances, tail, reached=False):
     return with_main(DexFile(), code_item(1, 0, units) if not reached else code_item(2, 2, units), reached)
 
 
-def handled(n, reached=False):
-    """So many lines under one try with almost as many handlers."""
+def handled(n, reached=False, handlers=None):
+    """So many lines of two units under one try, with almost as many handlers as lines or with so many."""
     dex = DexFile()
     dex.type('Ljava/lang/Exception;')
-    handlers = range(n * 12 // 13)
-    return with_main(dex, code_item(2, 2 if reached else 0, unit(0x0090, 0) * n + unit(RETURN_VOID), [(0, min(2 * n, 65535))], [2 * i for i in handlers]), reached)
+    addresses = [2 * i for i in range(n * 12 // 13 if handlers is None else handlers)]
+    units = unit(0x0090, 0) * n + unit(RETURN_VOID)
+    return with_main(dex, code_item(2, 2 if reached else 0, units, [(0, min(2 * n, 65535))], addresses), reached)
 
 
 def own_interfaces(n):
@@ -149,6 +150,7 @@ CASES = {
     'switches_distinct': (45_000, lambda n: switches(n, range(3, 32_001 * 3, 3), 96_100)),
     'handlers': (32_500, handled),
     'handlers_reached': (32_500, lambda n: handled(n, True)),
+    'handlers_allowed': (16_000, lambda n: handled(n, True, 32)),
     'own_interfaces': (20_000, own_interfaces),
 }
 

@@ -1,5 +1,5 @@
-"""Times the program on methods of 8,000 to 64,000 lines with as many tries: side by side, of one line each, and one inside
-the other, half as many as lines.
+"""Times the program on methods of 8,000 to 64,000 lines with as many tries: side by side, of one line each, and half as many as
+lines, sixteen one inside the other.
 
 usage: tries_time.py VET FOLDER (the program that `./vet --prove` built, and a folder to work in)
 
@@ -72,7 +72,7 @@ def app(title, lines, tries):
 
 SHAPES = [
     ('beside', lambda lines: [(i, 1) for i in range(lines)]),
-    ('inside', lambda lines: [(i, lines - 2 * i) for i in range(lines // 2)]),
+    ('inside', lambda lines: [(g + i, 32 - 2 * i) for g in range(0, lines, 32) for i in range(16)]),
 ]
 for title, tries_of in SHAPES:
     time_check(program, ((f'{n} lines, tries {title}', app(title, n, tries_of(n)), 'classes.dex') for n in [8000, 16000, 32000, 64000]))

@@ -3,6 +3,7 @@ pub mod Covering
 pub mod Flows
 pub mod Halves
 pub mod Halving
+pub mod HandledLines
 pub mod Operands
 pub mod Ordered
 pub mod Payloads

@@ -3,6 +3,7 @@ pub mod Code
 pub mod CodeLaws
 pub mod Find
 pub mod Flow
+pub mod Handled
 pub mod Handlers
 pub mod Insns
 pub mod Lines

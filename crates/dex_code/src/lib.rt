@@ -7,6 +7,7 @@ mod decoder;
 mod fault;
 mod find;
 mod flow;
+mod handled;
 mod handlers;
 mod insn;
 mod insn_at;

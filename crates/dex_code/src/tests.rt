@@ -242,6 +242,47 @@ fn nops(alloc: Global, count: usize) -> Result<RawCode, AllocError>
     code_of(alloc, &units)
 }
 
+/// The code of so many lines of a unit each, and a try over the first of them with so many handlers and maybe one for all types.
+fn with_try(
+    alloc: Global,
+    lines: usize,
+    covered: u16,
+    handlers: u32,
+    catch_all: Option<u32>,
+) -> Result<RawCode, Memory>
+    requires { 0 < lines }
+    ensures { IfOk result (λ c. length c.tries ≡ 1) }
+{
+    let mut addresses = Vec::new(alloc);
+    for address in 0..handlers {
+        addresses.push(address)?;
+    }
+    let mut code = nops(alloc, lines - 1)?;
+    let item = try_of(alloc, 0, covered, &addresses, catch_all)?;
+    code.tries = Shared::from_vec(alloc, vec![in alloc; item]?)?;
+    Ok(code)
+}
+
+/// 16 handlers over all lines are as many as are allowed; a few lines may have more. 32,500 over 32,500 lines would list
+/// 1,056,250,000.
+#[test]
+fn handlers_of_all_lines(rt: HostRuntime) -> Result<(), Fail> {
+    let alloc = rt.alloc();
+    let most = with_try(alloc, 1_000, 1_000, 16, None)?;
+    assert!(rt; most.units.len() == 1_000);
+    assert!(rt; decode(alloc, &most, &NONE).err() == None);
+    let more = with_try(alloc, 1_000, 1_000, 16, Some(16))?;
+    assert!(rt; more.units.len() == 1_000);
+    assert!(rt; decode(alloc, &more, &NONE).err() == Some(CodeFault::Memory));
+    let one_line = with_try(alloc, 40, 1, 30, None)?;
+    assert!(rt; one_line.units.len() == 40);
+    assert!(rt; decode(alloc, &one_line, &NONE).err() == None);
+    let many = with_try(alloc, 65_000, 32_500, 32_500, None)?;
+    assert!(rt; many.units.len() == 65_000);
+    assert!(rt; decode(alloc, &many, &NONE).err() == Some(CodeFault::Memory));
+    Ok(())
+}
+
 fn are_catches(found: &[Shared<u32>], expected: &[&[u32]]) -> bool {
     found.len() == expected.len()
         && found
