@@ -1,5 +1,7 @@
 //! The words of a report for what a reader answers.
-use office_forms::{FormFault, read_declaration, read_layouts, read_lists, read_manifest};
+use office_forms::{
+    FormFault, read_declaration, read_layouts, read_lists, read_manifest, read_office,
+};
 use std::alloc::{AllocError, Global};
 use vet_base::Name;
 
@@ -9,6 +11,7 @@ pub enum Form {
     Layouts,
     Manifest,
     Lists,
+    Office,
 }
 
 /// What the reader of the form answers.
@@ -18,6 +21,7 @@ pub fn answer_of(alloc: Global, form: Form, text: &[u8]) -> Result<String, Alloc
         Form::Layouts => told(alloc, read_layouts(alloc, text)),
         Form::Manifest => told(alloc, read_manifest(alloc, text)),
         Form::Lists => told(alloc, read_lists(alloc, text)),
+        Form::Office => told(alloc, read_office(alloc, text)),
     }
 }
 

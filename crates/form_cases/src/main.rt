@@ -74,8 +74,11 @@ fn main(rt: HostRuntime) -> io::Result<()> {
     ] {
         answers(&rt, name, Form::Lists)?;
     }
-    let not_text = answer_of(rt.alloc(), Form::Declaration, [0x23, 0xFF].as_slice())?;
-    println!(rt; "bytes that are no text: {not_text}")?;
+    answers(&rt, "offices.txt", Form::Office)?;
+    for form in [Form::Declaration, Form::Office] {
+        let not_text = answer_of(rt.alloc(), form, [0x23, 0xFF].as_slice())?;
+        println!(rt; "bytes that are no text: {not_text}")?;
+    }
     ends(
         &rt,
         "package = \"a\"\ndex_files = 1\n",
@@ -84,6 +87,13 @@ fn main(rt: HostRuntime) -> io::Result<()> {
     )?;
     ends(&rt, "", "[[layout]]", Form::Layouts)?;
     ends(&rt, "", "[[use]]", Form::Declaration)?;
+    ends(
+        &rt,
+        "port = 1\nworkers = 1\nappeal_days = 1\n",
+        "[[party]]",
+        Form::Office,
+    )?;
     sample::print_layouts(&rt, "layouts.toml")?;
+    sample::print_office(&rt, "office.toml")?;
     sample::print_lists(&rt, "lists.toml")
 }

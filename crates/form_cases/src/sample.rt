@@ -1,7 +1,7 @@
 //! What samples say.
 use crate::answer::text_of;
 use app_machine::{Gives, Summary};
-use office_forms::{read_layouts, read_lists};
+use office_forms::{read_layouts, read_lists, read_office};
 use std::alloc::{AllocError, Global};
 use std::rt::Files;
 use std::{fs, io};
@@ -39,6 +39,23 @@ pub fn print_layouts<R: Files + Print + AllocGlobal>(rt: &R, name: &str) -> io::
     };
     println!(rt; "clicks{}", texts(rt.alloc(), layouts.clicks.as_slice())?)?;
     println!(rt; "classes{}", texts(rt.alloc(), layouts.classes.as_slice())?)
+}
+
+/// Prints what the office file says, with each party's name, role and token.
+pub fn print_office<R: Files + Print + AllocGlobal>(rt: &R, name: &str) -> io::Result<()> {
+    let text = fs::read_to_string(rt, name)?;
+    let Ok(office) = read_office(rt.alloc(), text.as_bytes()) else {
+        return println!(rt; "{name}: not read");
+    };
+    println!(rt;
+        "port {}, workers {}, appeal days {}",
+        office.port, office.workers, office.appeal_days
+    )?;
+    for party in office.parties.as_slice() {
+        let token = text_of(&party.token);
+        println!(rt; "{:?} {} {token}", party.role, text_of(&party.name))?;
+    }
+    Ok(())
 }
 
 /// The names, each behind a space.

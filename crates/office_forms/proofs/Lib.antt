@@ -11,7 +11,10 @@ pub mod Params
 pub mod Yields
 pub mod FieldYields
 pub mod Adding
+pub mod Spelled
 pub mod FormsSound
+pub mod OnceApart
+pub mod OfficeSound
 pub mod PositionsSound
 pub mod ListsSound
 pub mod OneForms

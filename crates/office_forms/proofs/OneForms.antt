@@ -11,6 +11,7 @@ use Rattle.office_forms.specs.Manifest.{manifest_form}
 use Rattle.office_forms.specs.Layouts.{layouts_form}
 use Rattle.office_forms.specs.Declaration.{declaration_form}
 use Rattle.office_forms.specs.Lists.{lists_form}
+use Rattle.office_forms.specs.Office.{office_form}
 use Rattle.office_forms.specs.OneForm.{OneForm, OneFormOrFault}
 use Rattle.vet_base.proofs.Runs.{one_first}
 
@@ -40,4 +41,4 @@ module _ {A : Type 0} (form : Members → Script Fault A) (text : List ℕ) wher
   is_one = record { one_form = one_form; not_both = form_or_fault; one_fault = one_form_fault }
 
 pub each_is_one : OneFormOrFault
-each_is_one = record { manifest = is_one manifest_form; layouts = is_one layouts_form; declaration = is_one declaration_form; lists = is_one lists_form }
+each_is_one = record { manifest = is_one manifest_form; layouts = is_one layouts_form; declaration = is_one declaration_form; lists = is_one lists_form; office = is_one office_form }

@@ -1,5 +1,5 @@
 -- Positions are those of the method, and numbers of categories and shared objects are those of the lists.
-use Rattle.std.proofs.Common.{◌≡◌, ℕ, ◌<◌, true, List, length, Option, Some, None, unwrap_or, refl, sym, subst, arith, IfSome, is_some}
+use Rattle.std.proofs.Common.{◌≡◌, ℕ, ◌<◌, Bool, true, List, length, Option, Some, None, unwrap_or, refl, sym, subst, arith, IfSome, is_some}
 use Rattle.std.specs.Prelude.{◌&&◌, ◌==◌, nat_lt, IsTrue, pos, negsuc, slice_get, slice_index}
 use Rattle.std.specs.List.{All}
 use Rattle.std.proofs.lemmas.Bool.{ltb-true, eqb-true, and_parts}
@@ -17,7 +17,7 @@ use Rattle.office_forms.specs.declared.gives.GivesWord.{GivesWord}
 use Rattle.office_forms.specs.declared.gives.GivesWord.TheVariants.{Blank, Same, Taken, Joined, Shared}
 use Rattle.office_forms.specs.Tree.{items_in}
 use Rattle.office_forms.specs.Places.{place_of}
-use Rattle.office_forms.specs.Fields.{at_key}
+use Rattle.office_forms.specs.Fields.{at_key, word_at}
 use Rattle.office_forms.specs.Positions.{has_key, position_in, position_of, position_due, position_at, items_at, position_row, position_rows, positions_at, are_two, pair_in, pair_row, pair_rows, pairs_at, number_named, name_in, name_at, named_in, named_row, named_rows, named_at, number_free, listed_free, listed_at}
 use Rattle.office_forms.specs.Methods.{result_at, from_fits, shared_fits, shared_at, gives_of, gives_at, sink_fits, sink_with, sink_at}
 use Rattle.app_machine.specs.SoundLists.{SoundGives, TwoPositions, NamedPosition, SoundSink}
@@ -169,9 +169,10 @@ pub sink_within : (categories : List Name) (count : ℕ) (t : Members) → Yield
 unfolding sink_at
 sink_within categories count t =
     yields_then (λ p. IfSome p (λ n. n < length categories)) _ (listed_at section.Method key.Sink categories t) _ (listed_within section.Method key.Sink categories t)
-    (λ sink within. yields_past _ (test (sink_fits sink (has_key key.Positions t)) (Range section.Method key.Positions)) _
+    (λ sink within. yields_past _ (items_at section.Method key.Positions shape.Number t) _
+    (λ _. yields_past _ (test (sink_fits sink (has_key key.Positions t)) (Range section.Method key.Positions)) _
     (λ _. yields_then (All (λ n. n < count)) _ (positions_at section.Method key.Positions count t) _ (positions_within section.Method key.Positions count t)
-    (λ positions all. yields_value _ (sink_with sink positions) (with_within count (length categories) sink positions within all))))
+    (λ positions all. yields_value _ (sink_with sink positions) (with_within count (length categories) sink positions within all)))))
 
 -- the number of the shared object, where the result is shared
 abbrev IfShared : GivesWord → Type 0 → Type 0
@@ -196,24 +197,27 @@ shared_in Shared names (Some d) =
 
 shared_within : (word : GivesWord) (names : List Name) (t : Members) → Yields (λ n. IfShared word (n < length names)) (shared_at word names t)
 unfolding shared_at has_key listed_at
-shared_within word names t = shared_in word names (at_key key.Shared t)
+shared_within word names t =
+    yields_past _ (word_at section.Method key.Shared t) _
+    (λ _. shared_in word names (at_key key.Shared t))
 
 first_within : (count : ℕ) (from : List ℕ) → All (λ n. n < count) from → (length from == 1) ≡ true → slice_index from 0 < count
 first_within count from all one = All-get_or (λ n. n < count) from 0 0 (omega (arith, eqb-true (length from) 1 one)) all
 
-of_within : (word : GivesWord) (from : List ℕ) (number count size : ℕ) → All (λ n. n < count) from → IsTrue (from_fits word from) → IfShared word (number < size) → SoundGives count size (gives_of word from number)
+of_within : (word : GivesWord) (there : Bool) (from : List ℕ) (number count size : ℕ) → All (λ n. n < count) from → IsTrue (from_fits word there from) → IfShared word (number < size) → SoundGives count size (gives_of word from number)
 unfolding from_fits gives_of
-of_within Blank from number count size all fits shared = tt
-of_within Same from number count size all fits shared = first_within count from all fits
-of_within Taken from number count size all fits shared = first_within count from all fits
-of_within Joined from number count size all fits shared = all
-of_within Shared from number count size all fits shared = shared
+of_within Blank there from number count size all fits shared = tt
+of_within Same there from number count size all fits shared = first_within count from all fits
+of_within Taken there from number count size all fits shared = first_within count from all fits
+of_within Joined there from number count size all fits shared = all
+of_within Shared there from number count size all fits shared = shared
 
 pub gives_within : (names : List Name) (count : ℕ) (t : Members) → Yields (SoundGives count (length names)) (gives_at names count t)
 unfolding gives_at
 gives_within names count t =
     yields_past _ (result_at t) _
     (λ word. yields_then (All (λ n. n < count)) _ (positions_at section.Method key.From count t) _ (positions_within section.Method key.From count t)
-    (λ from all. yields_then (λ _. IsTrue (from_fits word from)) _ (test (from_fits word from) (Range section.Method key.From)) _ (yields_test (from_fits word from) (Range section.Method key.From))
+    (λ from all. yields_then (λ _. IsTrue (from_fits word (has_key key.From t) from)) _ (test (from_fits word (has_key key.From t) from) (Range section.Method key.From)) _
+    (yields_test (from_fits word (has_key key.From t) from) (Range section.Method key.From))
     (λ _ fits. yields_then (λ n. IfShared word (n < length names)) _ (shared_at word names t) _ (shared_within word names t)
-    (λ number shared. yields_value _ (gives_of word from number) (of_within word from number count (length names) all fits shared)))))
+    (λ number shared. yields_value _ (gives_of word from number) (of_within word (has_key key.From t) from number count (length names) all fits shared)))))

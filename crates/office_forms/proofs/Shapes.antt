@@ -7,7 +7,7 @@ use Rattle.toml.specs.View.{view}
 use Rattle.toml.specs.declared.value.Value.{Value}
 use Rattle.toml.proofs.Views.{view_of_ref}
 use Rattle.office_forms.specs.declared.shape.Shape.{Shape}
-use Rattle.office_forms.specs.Shape.{has_shape, all_have}
+use Rattle.office_forms.specs.Shape.{has_shape, all_have, is_number, is_text, are_numbers, are_texts}
 use Rattle.std.proofs.lemmas.Option.{slice_get-map}
 
 abbrev pub sees : Shape → Value → Bool
@@ -36,3 +36,12 @@ all_do s vs i le all = sym (list_all-map (has_shape s) view vs ∙ ap (list_all 
 
 pub item_seen : (r : Option (Bor Value)) (vs : List Value) (i : ℕ) → option_copied r ≡ slice_get vs i → option_map (λ v. view v.now) r ≡ slice_get (map view vs) i
 item_seen r vs i e = view_of_ref r ∙ ap (option_map view) e ∙ sym (slice_get-map view vs i)
+
+-- a test of each item, through the view
+pub numbers_seen : (b : Bool) (vs : List Value) → b ≡ list_all (λ v. is_number (view v)) vs → b ≡ are_numbers (map view vs)
+unfolding are_numbers
+numbers_seen b vs e = e ∙ sym (list_all-map (λ d. is_number d) view vs)
+
+pub texts_seen : (b : Bool) (vs : List Value) → b ≡ list_all (λ v. is_text (view v)) vs → b ≡ are_texts (map view vs)
+unfolding are_texts
+texts_seen b vs e = e ∙ sym (list_all-map (λ d. is_text d) view vs)

@@ -42,6 +42,9 @@ yields_past P m f next = yields_then (λ _. Unit {0}) P m f (record { at = λ x 
 pub yields_weaker : {F A : Type 0} (Q P : A → Type 0) (s : Script F A) → ((x : A) → Q x → P x) → Yields Q s → Yields P s
 yields_weaker Q P s weaker h = record { at = λ x e. weaker x (h.at x e) }
 
+pub yields_both : {F A : Type 0} (P Q : A → Type 0) (s : Script F A) → Yields P s → Yields Q s → Yields (λ x. P x × Q x) s
+yields_both P Q s p q = record { at = λ x e. (p.at x e, q.at x e) }
+
 -- what holds of the state with each row counted, over the rows of a list
 pub yields_each : {F S X : Type 0} (Inv : ℕ → S → Type 0) (row : X → S → Script F S) → ((n : ℕ) (x : X) (s : S) → Inv n s → Yields (Inv (n + 1)) (row x s))
     → (xs : List X) (n : ℕ) (s : S) → Inv n s → Yields (Inv (n + length xs)) (each row xs s)

@@ -8,6 +8,7 @@ pub mod Layouts
 pub mod Lists
 pub mod Manifest
 pub mod Methods
+pub mod Office
 pub mod Once
 pub mod OneForm
 pub mod Places

@@ -15,6 +15,7 @@ use Rattle.office_forms.specs.declared.words.Section.{Section}
 use Rattle.office_forms.specs.declared.words.Section.TheVariants as section
 use Rattle.office_forms.specs.declared.words.Key.TheVariants as key
 use Rattle.office_forms.specs.declared.spelling.Spelling.TheVariants as spelling
+use Rattle.office_forms.specs.declared.shape.Shape.TheVariants as shape
 use Rattle.office_forms.specs.declared.signature.MethodKey.{MethodKey}
 use Rattle.office_forms.specs.declared.signature.Signature.{Signature}
 use Rattle.office_forms.specs.declared.gives.GivesWord.{GivesWord}
@@ -24,7 +25,7 @@ use Rattle.office_forms.specs.declared.methods.MethodRows.{MethodRows}
 use Rattle.office_forms.specs.SameKey.{same_row}
 use Rattle.office_forms.specs.Places.{place_of}
 use Rattle.office_forms.specs.Fields.{known, text_at, word_at, table_in}
-use Rattle.office_forms.specs.Positions.{has_key, flag_at, positions_at, pairs_at, named_at, listed_at}
+use Rattle.office_forms.specs.Positions.{has_key, flag_at, items_at, positions_at, pairs_at, named_at, listed_at}
 use Rattle.office_forms.specs.Descriptor.{proto_of}
 
 -- what tells one method row from another
@@ -101,18 +102,18 @@ result_at t = do
   word ← word_at section.Method key.Result t
   result_in (has_key key.Source t) word
 
--- one position for `same` and `taken`, any number for `joined`, none otherwise
-abbrev pub fits_from : GivesWord → ℕ → Bool
-fits_from Blank n = n == 0
-fits_from Same n = n == 1
-fits_from Taken n = n == 1
-fits_from Joined n = true
-fits_from Shared n = n == 0
+-- one position for `same` and `taken`, any number for `joined`; otherwise the key is not there
+abbrev pub fits_from : GivesWord → Bool → ℕ → Bool
+fits_from Blank there n = not there
+fits_from Same there n = n == 1
+fits_from Taken there n = n == 1
+fits_from Joined there n = true
+fits_from Shared there n = not there
 
-unfoldable pub from_fits : GivesWord → List ℕ → Bool
-from_fits word from = fits_from word (length from)
+unfoldable pub from_fits : GivesWord → Bool → List ℕ → Bool
+from_fits word there from = fits_from word there (length from)
 
--- the shared name is there exactly with the result `shared`
+-- the shared name is there exactly with the result `shared`; its type is tested before
 abbrev pub fits_shared : GivesWord → Bool → Bool
 fits_shared Shared there = there
 fits_shared Blank there = not there
@@ -125,6 +126,7 @@ shared_fits word there = fits_shared word there
 
 unfoldable pub shared_at : GivesWord → List Name → Members → Script Fault ℕ
 shared_at word shared t = do
+  _ ← word_at section.Method key.Shared t
   _ ← test (shared_fits word (has_key key.Shared t)) (Range section.Method key.Shared)
   number ← listed_at section.Method key.Shared shared t
   Value (unwrap_or number 0)
@@ -144,11 +146,11 @@ unfoldable pub gives_at : List Name → ℕ → Members → Script Fault Gives
 gives_at shared count t = do
   word ← result_at t
   from ← positions_at section.Method key.From count t
-  _ ← test (from_fits word from) (Range section.Method key.From)
+  _ ← test (from_fits word (has_key key.From t) from) (Range section.Method key.From)
   number ← shared_at word shared t
   Value (gives_of word from number)
 
--- the positions are there exactly with a sink
+-- the positions are there exactly with a sink; their types are tested before
 abbrev pub fits_sink : Option ℕ → Bool → Bool
 fits_sink None there = not there
 fits_sink (Some n) there = there
@@ -166,6 +168,7 @@ sink_with sink positions = sink_in sink positions
 unfoldable pub sink_at : List Name → ℕ → Members → Script Fault (Option (ℕ × List ℕ))
 sink_at categories count t = do
   sink ← listed_at section.Method key.Sink categories t
+  _ ← items_at section.Method key.Positions shape.Number t
   _ ← test (sink_fits sink (has_key key.Positions t)) (Range section.Method key.Positions)
   positions ← positions_at section.Method key.Positions count t
   Value (sink_with sink positions)

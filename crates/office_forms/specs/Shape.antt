@@ -1,5 +1,5 @@
 -- Of which types the items of an array have to be.
-use Rattle.std.specs.Prelude.{◌&&◌, Bool, true, false, List, Option, Some, None, slice_get}
+use Rattle.std.specs.Prelude.{◌&&◌, Bool, true, false, List, [], ◌∷◌, Option, Some, None}
 use Rattle.std.specs.List.{list_all}
 use Rattle.toml.specs.Data.{Data, string, integer, table}
 use Rattle.office_forms.specs.declared.shape.Shape.{Shape}
@@ -14,32 +14,35 @@ unfoldable pub is_number : Data → Bool
 is_number (integer z) = true
 is_number _ = false
 
--- a part of a pair, where it is there
-unfoldable pub number_or_none : Option Data → Bool
-number_or_none None = true
-number_or_none (Some (integer z)) = true
-number_or_none (Some _) = false
+unfoldable pub is_text : Data → Bool
+is_text (string text) = true
+is_text _ = false
 
-unfoldable pub text_or_none : Option Data → Bool
-text_or_none None = true
-text_or_none (Some (string text)) = true
-text_or_none (Some _) = false
+unfoldable pub are_numbers : List Data → Bool
+are_numbers ds = list_all (λ d. is_number d) ds
 
--- a list whose first two items are, where they are there, two numbers
+unfoldable pub are_texts : List Data → Bool
+are_texts ds = list_all (λ d. is_text d) ds
+
+-- a list of numbers: what stands behind the second of a pair has the second's type, and its length is another matter
 abbrev pub numbers_in : Option (List Data) → Bool
 numbers_in None = false
-numbers_in (Some items) = number_or_none (slice_get items 0) && number_or_none (slice_get items 1)
+numbers_in (Some items) = are_numbers items
 
 unfoldable pub is_number_pair : Data → Bool
 is_number_pair d = numbers_in (items_in d)
 
--- a list whose first two items are, where they are there, a number and a text
-abbrev pub number_and_text_in : Option (List Data) → Bool
-number_and_text_in None = false
-number_and_text_in (Some items) = number_or_none (slice_get items 0) && text_or_none (slice_get items 1)
+-- the first item is a number, where there is one, and each behind it is a text
+unfoldable pub number_and_texts : List Data → Bool
+number_and_texts [] = true
+number_and_texts (first ∷ others) = is_number first && are_texts others
+
+abbrev pub number_and_texts_in : Option (List Data) → Bool
+number_and_texts_in None = false
+number_and_texts_in (Some items) = number_and_texts items
 
 unfoldable pub is_named_pair : Data → Bool
-is_named_pair d = number_and_text_in (items_in d)
+is_named_pair d = number_and_texts_in (items_in d)
 
 unfoldable pub has_shape : Shape → Data → Bool
 has_shape shape.Table d = is_table d

@@ -2,6 +2,7 @@
 use Rattle.std.specs.Prelude.{ℕ, ◌-◌, ◌==◌, ◌&&◌, ◌||◌, nat_le, Bool, true, length, slice_index}
 use Rattle.std.specs.List.{list_all}
 use Rattle.app_machine.specs.Names.{Name}
+use Rattle.case_rules.specs.Docket.{is_reference}
 use Rattle.office_forms.specs.declared.spelling.Spelling.{Spelling}
 use Rattle.office_forms.specs.declared.spelling.Spelling.TheVariants as spelling
 
@@ -24,8 +25,22 @@ are_category_bytes s = list_all (λ b. is_category_byte b) s
 unfoldable pub is_category : Name → Bool
 is_category s = is_short s && are_category_bytes s
 
+-- a visible ASCII character, 33 to 126
+-- RFC 5234, appendix B.1: `VCHAR`
+unfoldable pub is_visible : ℕ → Bool
+is_visible b = nat_le 33 b && nat_le b 126
+
+unfoldable pub are_visible : Name → Bool
+are_visible s = list_all (λ b. is_visible b) s
+
+-- 8 to 128 of these
+unfoldable pub is_token : Name → Bool
+is_token s = nat_le 8 (length s) && nat_le (length s) 128 && are_visible s
+
 unfoldable pub fits : Spelling → Name → Bool
 fits spelling.Any s = true
 fits spelling.Text s = is_short s
 fits spelling.Class s = is_class s
 fits spelling.Category s = is_category s
+fits spelling.Reference s = is_reference s
+fits spelling.Token s = is_token s

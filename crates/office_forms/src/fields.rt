@@ -94,7 +94,8 @@ pub fn number_at(
     low: u32,
     high: u32,
 ) -> Result<u32, Stop<Fault>>
-    ensures { Gives (λ n. n) result (number_at section key low high (table_view table.now)) }
+    ensures value { Gives (λ n. n) result (number_at section key low high (table_view table.now)) }
+    ensures within { IfOk result (λ n. (low ≤ n) × (n ≤ high)) }
 {
     let Some(value) = value_at(table, key) else {
         return Err(Stop::Fault(Fault::Missing(section, key)));

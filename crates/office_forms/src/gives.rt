@@ -36,7 +36,7 @@ pub fn gives_at(
 {
     let word = result_at(table)?;
     let from = positions_at(alloc, table, Section::Method, Key::From, count)?;
-    if !from_fits(word, &from) {
+    if !from_fits(word, has_key(table, Key::From), &from) {
         return Err(Stop::Fault(Fault::Range(Section::Method, Key::From)));
     }
     let number = shared_at(alloc, table, word, shared)?;
@@ -97,19 +97,20 @@ fn source_allows(has_source: bool, word: GivesWord) -> bool
     }
 }
 
-/// One position for `same` and `taken`, any number for `joined`, none otherwise.
+/// One position for `same` and `taken`, any number for `joined`; otherwise the key is not there.
 #[tactic(auto, unfolding(crate::specs::Methods::from_fits))]
-fn from_fits(word: GivesWord, from: &[u32]) -> bool
-    ensures { result ≡ from_fits word from.now }
+fn from_fits(word: GivesWord, there: bool, from: &[u32]) -> bool
+    ensures { result ≡ from_fits word there from.now }
 {
     match word {
         GivesWord::Same | GivesWord::Taken => from.len() == 1,
         GivesWord::Joined => true,
-        GivesWord::Blank | GivesWord::Shared => from.is_empty(),
+        GivesWord::Blank | GivesWord::Shared => !there,
     }
 }
 
-/// The number of the shared object, which is named exactly with the result `shared`.
+/// The number of the shared object, which is named exactly with the result `shared`; that it is a text
+/// is tested before.
 #[tactic(auto, unfolding(crate::specs::Methods::shared_at), using(vet_base::proofs::Scripts::run_bind))]
 fn shared_at(
     alloc: Global,
@@ -120,6 +121,7 @@ fn shared_at(
     requires { length shared.now ≤ 65536 }
     ensures { GivesBack (λ n. n) result (shared_at word shared.now (table_view table.now)) }
 {
+    word_at(table, Section::Method, Key::Shared)?;
     if !shared_fits(word, has_key(table, Key::Shared)) {
         return Err(Stop::Fault(Fault::Range(Section::Method, Key::Shared)));
     }

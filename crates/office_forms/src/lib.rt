@@ -1,5 +1,5 @@
-//! Reads the forms that a developer and the store hand in as TOML: the declaration, each to its
-//! value or to the first test that it fails.
+//! Reads the forms that a developer and the store hand in as TOML: manifest, layouts, declaration,
+//! lists and the office file, each to its value or to the first test that it fails.
 #![tactic(auto)]
 
 mod callbacks;
@@ -15,6 +15,7 @@ mod layouts;
 mod lists;
 mod manifest;
 mod methods;
+mod office;
 mod once;
 mod positions;
 mod shape;
@@ -30,5 +31,6 @@ pub use law::one_form_or_fault;
 pub use layouts::read_layouts;
 pub use lists::read_lists;
 pub use manifest::read_manifest;
+pub use office::read_office;
 pub use told::FormFault;
 pub use words::{Key, Section};

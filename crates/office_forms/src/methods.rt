@@ -8,7 +8,8 @@ ghost use Rattle.vet_base.specs.Script.{Gives};
 use crate::fields::{table_in, text_at};
 use crate::gives::gives_at;
 use crate::index::Index;
-use crate::positions::{flag_at, has_key, listed_at, named_at, pairs_at, positions_at};
+use crate::positions::{flag_at, has_key, items_at, listed_at, named_at, pairs_at, positions_at};
+use crate::shape::Shape;
 use crate::signature::{MethodKey, Signature, position_count, proto_at};
 use crate::spelling::Spelling;
 use crate::tree::known;
@@ -168,7 +169,8 @@ fn category_at(
     }
 }
 
-/// The category and the positions of a sink: the positions are there exactly with the category.
+/// The category and the positions of a sink: the positions are there exactly with the category; that they
+/// are numbers is tested before.
 #[tactic(auto, unfolding(crate::specs::Methods::sink_at), using(vet_base::proofs::Scripts::run_bind))]
 fn sink_at(
     alloc: Global,
@@ -180,6 +182,7 @@ fn sink_at(
     ensures { Gives (λ x. x) result (sink_at categories.now count (table_view table.now)) }
 {
     let sink = category_at(alloc, table, Key::Sink, categories)?;
+    items_at(table, Section::Method, Key::Positions, Shape::Number)?;
     if !sink_fits(sink, has_key(table, Key::Positions)) {
         return Err(Stop::Fault(Fault::Range(Section::Method, Key::Positions)));
     }

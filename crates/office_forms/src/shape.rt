@@ -1,6 +1,7 @@
 //! Of which types the items of an array have to be.
 ghost use Rattle.std.specs.Prelude.{◌≡◌, map, option_map, slice_get};
-ghost use Rattle.office_forms.specs.Shape.{is_table, is_number, is_number_pair, is_named_pair, number_or_none, text_or_none, has_shape, all_have};
+ghost use Rattle.std.specs.List.{list_all};
+ghost use Rattle.office_forms.specs.Shape.{is_table, is_number, is_text, is_number_pair, number_and_texts, is_named_pair, has_shape, all_have};
 ghost use Rattle.toml.specs.View.{view};
 
 use crate::tree::items_in;
@@ -11,9 +12,9 @@ use toml::Value;
 pub enum Shape {
     Table,
     Number,
-    /// A list that begins with two numbers. Its length is another matter.
+    /// A list of numbers. Its length is another matter.
     NumberPair,
-    /// A list that begins with a number and a text.
+    /// A list of a number and then texts. Its length is another matter.
     NamedPair,
 }
 
@@ -56,12 +57,31 @@ fn is_number(value: &Value) -> bool
     value.as_integer().is_some()
 }
 
-#[tactic(auto, unfolding(crate::specs::Shape::is_number_pair))]
+#[tactic(auto, unfolding(crate::specs::Shape::is_text))]
+fn is_text(value: &Value) -> bool
+    ensures { result ≡ is_text (view value.now) }
+{
+    value.as_str().is_some()
+}
+
+fn are_numbers(items: &[Value]) -> bool
+    ensures { result ≡ list_all (λ item. is_number (view item)) items.now }
+{
+    items.iter().all(|item| is_number(item))
+}
+
+fn are_texts(items: &[Value]) -> bool
+    ensures { result ≡ list_all (λ item. is_text (view item)) items.now }
+{
+    items.iter().all(|item| is_text(item))
+}
+
+#[tactic(auto, unfolding(crate::specs::Shape::is_number_pair), using(crate::proofs::Shapes::numbers_seen))]
 fn is_number_pair(value: &Value) -> bool
     ensures { result ≡ is_number_pair (view value.now) }
 {
     match items_in(value) {
-        Some(items) => number_or_none(item_at(items, 0)) && number_or_none(item_at(items, 1)),
+        Some(items) => are_numbers(items),
         None => false,
     }
 }
@@ -71,27 +91,18 @@ fn is_named_pair(value: &Value) -> bool
     ensures { result ≡ is_named_pair (view value.now) }
 {
     match items_in(value) {
-        Some(items) => number_or_none(item_at(items, 0)) && text_or_none(item_at(items, 1)),
+        Some(items) => number_and_texts(items),
         None => false,
     }
 }
 
-#[tactic(auto, unfolding(crate::specs::Shape::number_or_none))]
-fn number_or_none(value: Option<&Value>) -> bool
-    ensures { result ≡ number_or_none (option_map (λ v. view v.now) value.entry) }
+/// Whether the first item is a number, where there is one, and each behind it a text.
+#[tactic(auto, unfolding(crate::specs::Shape::number_and_texts), using(crate::proofs::Shapes::texts_seen))]
+fn number_and_texts(items: &[Value]) -> bool
+    ensures { result ≡ number_and_texts (map view items.now) }
 {
-    match value {
-        Some(value) => value.as_integer().is_some(),
-        None => true,
-    }
-}
-
-#[tactic(auto, unfolding(crate::specs::Shape::text_or_none))]
-fn text_or_none(value: Option<&Value>) -> bool
-    ensures { result ≡ text_or_none (option_map (λ v. view v.now) value.entry) }
-{
-    match value {
-        Some(value) => value.as_str().is_some(),
+    match items.split_first() {
+        Some((first, others)) => is_number(first) && are_texts(others),
         None => true,
     }
 }

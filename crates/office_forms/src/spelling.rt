@@ -1,6 +1,9 @@
 //! How the texts of the forms are spelled.
 ghost use Rattle.std.specs.Prelude.{◌≡◌};
-ghost use Rattle.office_forms.specs.Spelling.{fits, is_short, is_class, is_category, are_category_bytes, is_category_byte};
+ghost use Rattle.office_forms.specs.Spelling.{fits, is_short, is_class, is_category, are_category_bytes, is_category_byte, is_token, are_visible, is_visible};
+ghost use Rattle.case_rules.specs.Docket.{is_reference};
+
+use case_rules::is_reference;
 
 /// The spellings of a text.
 #[derive(Clone, Copy, Debug, PartialEq, Eq)]
@@ -13,6 +16,10 @@ pub enum Spelling {
     Class,
     /// 1 to 255 of `a` to `z`, `0` to `9` and `_`.
     Category,
+    /// 1 to 64 of `A` to `Z`, `a` to `z`, `0` to `9`, `.`, `_` and `-`.
+    Reference,
+    /// 8 to 128 visible ASCII characters.
+    Token,
 }
 
 impl Spelling {
@@ -26,6 +33,8 @@ impl Spelling {
             Spelling::Text => is_short(text),
             Spelling::Class => is_class(text),
             Spelling::Category => is_category(text),
+            Spelling::Reference => is_reference(text),
+            Spelling::Token => is_token(text),
         }
     }
 }
@@ -64,4 +73,25 @@ fn is_category_byte(byte: u8) -> bool
     ensures { result ≡ is_category_byte byte }
 {
     byte.is_ascii_lowercase() || byte.is_ascii_digit() || byte == b'_'
+}
+
+#[tactic(auto, unfolding(crate::specs::Spelling::is_token))]
+fn is_token(text: &[u8]) -> bool
+    ensures { result ≡ is_token text.now }
+{
+    8 <= text.len() && text.len() <= 128 && are_visible(text)
+}
+
+#[tactic(auto, unfolding(crate::specs::Spelling::are_visible))]
+fn are_visible(text: &[u8]) -> bool
+    ensures { result ≡ are_visible text.now }
+{
+    text.iter().all(|byte| is_visible(*byte))
+}
+
+#[tactic(auto, unfolding(crate::specs::Spelling::is_visible))]
+fn is_visible(byte: u8) -> bool
+    ensures { result ≡ is_visible byte }
+{
+    byte.is_ascii_graphic()
 }

@@ -15,11 +15,14 @@ pub enum Section {
     Shared,
     Method,
     Callback,
+    Office,
+    Party,
 }
 
 /// The keys of these tables.
 #[derive(Clone, Copy, Debug, PartialEq, Eq)]
 pub enum Key {
+    AppealDays,
     Application,
     Callback,
     Categories,
@@ -37,11 +40,14 @@ pub enum Key {
     Name,
     Package,
     Parents,
+    Party,
+    Port,
     Positions,
     Proto,
     Puts,
     Reflective,
     Result,
+    Role,
     Rows,
     Shared,
     Sink,
@@ -49,7 +55,9 @@ pub enum Key {
     Sources,
     Static,
     Stores,
+    Token,
     Use,
+    Workers,
 }
 
 impl Key {
@@ -59,6 +67,7 @@ impl Key {
         ensures { result.now ≡ text_of self }
     {
         match self {
+            Key::AppealDays => "appeal_days",
             Key::Application => "application",
             Key::Callback => "callback",
             Key::Categories => "categories",
@@ -76,11 +85,14 @@ impl Key {
             Key::Name => "name",
             Key::Package => "package",
             Key::Parents => "parents",
+            Key::Party => "party",
+            Key::Port => "port",
             Key::Positions => "positions",
             Key::Proto => "proto",
             Key::Puts => "puts",
             Key::Reflective => "reflective",
             Key::Result => "result",
+            Key::Role => "role",
             Key::Rows => "rows",
             Key::Shared => "shared",
             Key::Sink => "sink",
@@ -88,7 +100,9 @@ impl Key {
             Key::Sources => "sources",
             Key::Static => "static",
             Key::Stores => "stores",
+            Key::Token => "token",
             Key::Use => "use",
+            Key::Workers => "workers",
         }
     }
 }
@@ -111,6 +125,8 @@ impl Section {
             Section::Shared => "shared.",
             Section::Method => "method.",
             Section::Callback => "callback.",
+            Section::Office => "",
+            Section::Party => "party.",
         }
     }
 
@@ -158,6 +174,8 @@ impl Section {
                 Key::Reflective,
             ],
             Section::Callback => &[Key::Class, Key::Name, Key::Proto, Key::Sources],
+            Section::Office => &[Key::Port, Key::Workers, Key::AppealDays, Key::Party],
+            Section::Party => &[Key::Name, Key::Role, Key::Token],
         }
     }
 }
