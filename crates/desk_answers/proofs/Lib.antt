@@ -1,0 +1,4 @@
+mod Adding
+mod Coded
+mod Printed
+mod Texts
