@@ -1,0 +1,6 @@
+pub mod Listed
+pub mod Utf8
+pub mod Slashes
+pub mod Decoding
+pub mod Due
+pub mod ByPages
