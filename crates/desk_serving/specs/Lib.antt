@@ -1,0 +1,5 @@
+pub mod Obeying
+pub mod Responding
+pub mod Run
+pub mod Sending
+pub mod Serving
