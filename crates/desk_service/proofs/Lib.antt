@@ -1,0 +1,4 @@
+pub mod Ended
+pub mod Opened
+pub mod Safe
+pub mod Stays

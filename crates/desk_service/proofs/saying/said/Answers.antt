@@ -1,0 +1,18 @@
+use Rattle.std.proofs.Common.{ap, refl, ◌∙◌}
+use Rattle.desk_service.specs.Words.{asked_words}
+use Rattle.desk_service.proofs.Ended.{said_of_desk, said_of_halt}
+use Rattle.desk_service.proofs.saying.said.Goals as goal
+
+pub returns-in-Ok-clause-says : goal.returns-in-Ok-clause-says
+returns-in-Ok-clause-says g c =
+    said_of_desk (asked_words c.args.asked.now) (g.C.Clock.told c.args.outside.now.clock) _ _ c.in-Ok.desk
+    c.taken.result _ c.in-Ok.ensures.opens (
+      ap g.F.Files.told c.taken.ensures.files ∙ c.in-Ok.ensures.leaves.0,
+      ap g.F.Files.fault_count c.taken.ensures.files ∙ c.in-Ok.ensures.leaves.1,
+    )
+    c.taken.ensures.serves c.taken.ensures.cause c.closed.ensures
+
+pub returns-in-Err-clause-says : goal.returns-in-Err-clause-says
+returns-in-Err-clause-says g c =
+    said_of_halt (asked_words c.args.asked.now) (g.C.Clock.told c.args.outside.now.clock) _ _ c.in-Err.halt _
+    c.in-Err.ensures.opens c.in-Err.ensures.leaves refl c.halted.ensures

@@ -1,0 +1,41 @@
+-- What the content of a case comes to by lists.
+use Rattle.std.specs.Prelude.{◌≡◌, ℕ, List}
+use Rattle.case_rules.specs.declared.case.Content.{Content}
+use Rattle.case_rules.specs.declared.case.OutcomeWord.{OutcomeWord}
+use Rattle.case_rules.specs.declared.case.OutcomeWord.TheVariants as words
+use Rattle.case_rules.specs.Desk.{Judgement}
+use Rattle.verdict.specs.declared.outcome.Judged.{Judged}
+use Rattle.verdict.specs.declared.outcome.Outcome.{Outcome}
+use Rattle.verdict.specs.declared.outcome.Outcome.TheVariants.{Clear, Flagged, Undecided, Refused}
+use Rattle.verdict.specs.declared.parts.Parts.{Parts}
+use Rattle.verdict.specs.Report.{report_text}
+use Rattle.verdict.specs.Tells.{IsFollowed, TellsOfApp}
+use Rattle.verdict.specs.Verdict.{IsSafeApp}
+use Rattle.verdict.specs.Verdict.{Judgement as Verdict}
+
+-- the files of the app, with these lists
+abbrev pub parts_of : List ℕ → Content → Parts
+parts_of lists content = record {
+  manifest = content.manifest;
+  layouts = content.layouts;
+  declaration = content.declaration;
+  lists = lists;
+  dex = content.dex;
+}
+
+-- the first word of the report
+abbrev pub word_of : Outcome → OutcomeWord
+word_of Clear = words.Clear
+word_of (Flagged findings) = words.Flagged
+word_of (Undecided causes findings) = words.Undecided
+word_of (Refused part reason) = words.Refused
+
+-- Word and report are those of the verdict on the content under the lists. Where the word is clear the content is an app
+-- that is safe; and unless it is refused or too large, the report leaves out nothing that a run of the app does.
+pub record FindsBy (lists : List ℕ) (content : Content) (judgement : Judgement) : Type 0 where
+  pub judged : Judged
+  pub verdict : Verdict (parts_of lists content) judged
+  pub word : judgement.outcome ≡ word_of judged.outcome
+  pub report : judgement.report ≡ report_text judged.outcome
+  pub safe : judgement.outcome ≡ words.Clear → IsSafeApp (parts_of lists content)
+  pub told : IsFollowed judged.outcome → TellsOfApp (parts_of lists content) judged.outcome

@@ -1,0 +1,6 @@
+pub mod Judging
+pub mod Opening
+pub mod Safety
+pub mod Serving
+pub mod Texts
+pub mod Words

@@ -1,0 +1,18 @@
+//! The command `serve OFFICE N`: a desk over the files of an office, a keeper, a door and a clock, which judges by the
+//! lists of its office.
+#![tactic(auto)]
+
+mod laws;
+mod lists_judge;
+mod opening;
+mod outside;
+mod run;
+mod saying;
+mod texts;
+mod words;
+
+pub use laws::a_clear_decision_is_of_a_safe_app;
+pub use lists_judge::ListsJudge;
+pub use outside::{Outside, Status};
+pub use run::serve;
+pub use words::database_path;

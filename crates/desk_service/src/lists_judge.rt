@@ -1,0 +1,124 @@
+//! One who judges apps by the lists of the office.
+ghost use Rattle.std.specs.Prelude.{◌≡◌, ℕ, List, IfOk};
+ghost use Rattle.sha2.specs.Sha256.{sha256};
+ghost use Rattle.case_rules.specs.declared.case.Content.{Content};
+ghost use Rattle.case_rules.specs.Desk.{Judgement};
+ghost use Rattle.desk_serving.specs.Obeying.{judgement_of};
+ghost use Rattle.verdict.specs.Report.{report_text};
+ghost use Rattle.desk_service.specs.Judging.{parts_of, word_of, FindsBy};
+
+use case_rules::{Content, OutcomeWord};
+use desk_serving::{Judge, Judged};
+use sha2::{Digest, Sha256};
+use std::alloc::Global;
+use verdict::{Outcome, Parts, judge, report};
+use vet_base::{Memory, Seq, Shared};
+
+/// One who judges apps by the lists of the office.
+#[derive(Drop)]
+pub struct ListsJudge {
+    /// The bytes of `lists.toml`.
+    pub(crate) lists: Shared<u8>,
+    /// The SHA-256 of these bytes.
+    pub(crate) edition: [u8; 32],
+    /// Any number that a stranger cannot guess. It says where rows are stored while an app is judged; no answer depends
+    /// on it.
+    pub(crate) seed: u64,
+}
+
+/// The edition of lists: the SHA-256 of their bytes (FIPS 180-4).
+fn edition_of(lists: &[u8]) -> [u8; 32]
+    ensures { result ≡ sha256 lists.now }
+{
+    let mut hasher = Sha256::new();
+    hasher.update(lists);
+    hasher.finalize()
+}
+
+impl ListsJudge {
+    /// One who judges by the lists of these bytes.
+    pub fn new(alloc: Global, lists: Vec<u8>, seed: u64) -> Result<ListsJudge, Memory>
+        ensures lists { IfOk result (λ j. j.lists ≡ lists.items) }
+        ensures edition { IfOk result (λ j. j.edition ≡ sha256 lists.items) }
+    {
+        let edition = edition_of(&lists);
+        let lists = Shared::from_vec(alloc, lists)?;
+        Ok(ListsJudge {
+            lists,
+            edition,
+            seed,
+        })
+    }
+}
+
+fn copied(alloc: Global, bytes: &Shared<u8>) -> Result<Seq<u8>, Memory>
+    ensures { IfOk result (λ seq. seq ≡ bytes.now) }
+{
+    Ok(Seq::from_vec(bytes.as_slice().to_vec(alloc)?))
+}
+
+fn all_copied(alloc: Global, files: &[Shared<u8>]) -> Result<Seq<Seq<u8>>, Memory>
+    ensures { IfOk result (λ seq. seq ≡ files.now) }
+{
+    let mut all = Vec::new(alloc);
+    for file in files {
+        all.push(copied(alloc, file)?)?;
+    }
+    Ok(Seq::from_vec(all))
+}
+
+/// The parts of an app, with the lists by which it is judged.
+fn parts_of(alloc: Global, lists: &Shared<u8>, content: &Content) -> Result<Parts, Memory>
+    ensures { IfOk result (λ parts. parts ≡ parts_of lists.now content.now) }
+{
+    Ok(Parts {
+        manifest: copied(alloc, &content.manifest)?,
+        layouts: copied(alloc, &content.layouts)?,
+        declaration: copied(alloc, &content.declaration)?,
+        lists: copied(alloc, lists)?,
+        dex: all_copied(alloc, content.dex.as_slice())?,
+    })
+}
+
+/// The first word of the report of an outcome.
+fn word_of(outcome: &Outcome) -> OutcomeWord
+    ensures { result ≡ word_of outcome.now }
+{
+    match outcome {
+        Outcome::Clear => OutcomeWord::Clear,
+        Outcome::Flagged(_) => OutcomeWord::Flagged,
+        Outcome::Undecided(_, _) => OutcomeWord::Undecided,
+        Outcome::Refused(_, _) => OutcomeWord::Refused,
+    }
+}
+
+/// The first word and the report of an outcome.
+fn told_of(alloc: Global, outcome: &Outcome) -> Result<Judged, Memory>
+    ensures word { IfOk result (λ judged. judged.outcome ≡ word_of outcome.now) }
+    ensures report { IfOk result (λ judged. judged.report ≡ report_text outcome.now) }
+{
+    let text = report(alloc, outcome)?;
+    Ok(Judged {
+        outcome: word_of(outcome),
+        report: Shared::from_vec(alloc, text)?,
+    })
+}
+
+impl Judge for ListsJudge {
+    ghost finds = { λ j. FindsBy j.lists };
+
+    ghost edition = { λ j. j.edition };
+
+    fn edition(&self) -> &[u8; 32] {
+        &self.edition
+    }
+
+    fn judge(&self, alloc: Global, content: &Content) -> Result<Judged, Memory>
+        ensures { IfOk result (λ judged. FindsBy self.now.lists content.now (judgement_of judged)) }
+    {
+        let parts = parts_of(alloc, &self.lists, content)?;
+        let judged = judge(alloc, &parts, self.seed)?;
+        let told = told_of(alloc, &judged.outcome)?;
+        Ok(told)
+    }
+}

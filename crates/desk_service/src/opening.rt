@@ -1,0 +1,151 @@
+//! The files of an office, read in their order: the office file, and then the lists.
+ghost use Rattle.std.specs.Prelude.{◌≡◌, string_bytes, IfOk};
+ghost use Rattle.desk_service.specs.Opening.{paper_name, paper_path, ReadsPaper, Leaves, HaltsForm, OpensOffice, OpensLists, OpensDesk};
+
+use crate::lists_judge::ListsJudge;
+use desk_office::Office;
+use desk_serving::Desk;
+use office_forms::{FormFault, one_form_or_fault, read_lists, read_office};
+use std::alloc::{AllocError, Global};
+use vet_base::{FileFault, Files, Memory};
+
+/// A file has at most so many bytes.
+const FILE_LIMIT: u64 = 16_777_216;
+
+/// A file of the office.
+#[derive(Clone, Copy, Debug, PartialEq, Eq)]
+pub(crate) enum Paper {
+    Office,
+    Lists,
+}
+
+/// Why it is refused.
+#[derive(Debug, Drop)]
+pub(crate) enum Unfit {
+    /// The file is not there.
+    Absent,
+    /// The file has more than 16,777,216 bytes.
+    TooLong,
+    Form(FormFault),
+}
+
+/// Why a desk could not be opened.
+#[derive(Debug, Drop)]
+pub(crate) enum Halt {
+    /// The first file that is refused.
+    Refused(Paper, Unfit),
+    /// The read of this file failed.
+    ReadFault(Paper),
+    Memory,
+}
+
+impl From<AllocError> for Halt {
+    ghost use Rattle.desk_service.specs.declared.opening.Halt.TheVariants.{Memory};
+
+    ghost from_gives = { λ _ e. e ≡ Memory };
+
+    fn from(_e: AllocError) -> Halt {
+        Halt::Memory
+    }
+}
+
+impl From<Memory> for Halt {
+    ghost use Rattle.desk_service.specs.declared.opening.Halt.TheVariants.{Memory as OutOfMemory};
+
+    ghost from_gives = { λ _ e. e ≡ OutOfMemory };
+
+    fn from(_e: Memory) -> Halt {
+        Halt::Memory
+    }
+}
+
+#[tactic(auto, unfolding(crate::specs::Opening::paper_name))]
+pub(crate) fn name_of(paper: Paper) -> &'static str
+    ensures { result.now ≡ paper_name paper }
+{
+    match paper {
+        Paper::Office => "office.toml",
+        Paper::Lists => "lists.toml",
+    }
+}
+
+#[tactic(auto, unfolding(crate::specs::Opening::paper_path))]
+pub(crate) fn path_of(alloc: Global, office: &str, paper: Paper) -> Result<String, AllocError>
+    ensures { IfOk result (λ path. string_bytes path ≡ paper_path office.now paper) }
+{
+    let mut path = String::from_str(alloc, office)?;
+    path.push_str("/")?;
+    path.push_str(name_of(paper))?;
+    Ok(path)
+}
+
+/// The bytes of a file of the office.
+fn paper_in<F: Files>(
+    alloc: Global,
+    files: &mut F,
+    office: &str,
+    paper: Paper,
+) -> Result<Vec<u8>, Halt>
+    ensures reads { ReadsPaper (F.told files.old) office.now paper result }
+    ensures leaves { Leaves (F.told files.old) (F.told files.new) (F.fault_count files.old) (F.fault_count files.new) office.now result }
+{
+    let path = path_of(alloc, office, paper)?;
+    match files.read(alloc, path.as_str(), FILE_LIMIT) {
+        Ok(bytes) => Ok(bytes),
+        Err(FileFault::Absent) => Err(Halt::Refused(paper, Unfit::Absent)),
+        Err(FileFault::TooLong) => Err(Halt::Refused(paper, Unfit::TooLong)),
+        Err(FileFault::Failed) => Err(Halt::ReadFault(paper)),
+        Err(FileFault::Memory) => Err(Halt::Memory),
+    }
+}
+
+fn halt_of(paper: Paper, fault: FormFault) -> Halt
+    ensures { HaltsForm paper fault result }
+{
+    match fault {
+        FormFault::Memory => Halt::Memory,
+        fault => Halt::Refused(paper, Unfit::Form(fault)),
+    }
+}
+
+/// The office that the office file says.
+fn office_in<F: Files>(alloc: Global, files: &mut F, folder: &str) -> Result<Office, Halt>
+    ensures opens { OpensOffice (F.told files.old) folder.now result }
+    ensures leaves { Leaves (F.told files.old) (F.told files.new) (F.fault_count files.old) (F.fault_count files.new) folder.now result }
+{
+    let text = paper_in(alloc, files, folder, Paper::Office)?;
+    match read_office(alloc, &text) {
+        Ok(office) => Ok(office),
+        Err(fault) => Err(halt_of(Paper::Office, fault)),
+    }
+}
+
+/// The bytes of the lists, which are of their form.
+fn lists_in<F: Files>(alloc: Global, files: &mut F, folder: &str) -> Result<Vec<u8>, Halt>
+    ensures opens { OpensLists (F.told files.old) folder.now result }
+    ensures leaves { Leaves (F.told files.old) (F.told files.new) (F.fault_count files.old) (F.fault_count files.new) folder.now result }
+{
+    let text = paper_in(alloc, files, folder, Paper::Lists)?;
+    match read_lists(alloc, &text) {
+        Ok(_) => Ok(text),
+        Err(fault) => Err(halt_of(Paper::Lists, fault)),
+    }
+}
+
+/// The desk of the office in a folder, or the first refusal: of `office.toml`, and then of `lists.toml`. A file that is
+/// absent, too long or not of its form is refused at once.
+pub(crate) fn desk_in<F: Files>(
+    alloc: Global,
+    files: &mut F,
+    folder: &str,
+    seed: u64,
+) -> Result<Desk<ListsJudge>, Halt>
+    ensures opens { OpensDesk (F.told files.old) folder.now result }
+    ensures leaves { Leaves (F.told files.old) (F.told files.new) (F.fault_count files.old) (F.fault_count files.new) folder.now result }
+{
+    one_form_or_fault();
+    let office = office_in(alloc, files, folder)?;
+    let lists = lists_in(alloc, files, folder)?;
+    let judge = ListsJudge::new(alloc, lists, seed)?;
+    Ok(Desk { office, judge })
+}

@@ -1,0 +1,97 @@
+//! What is printed. Each text is one line, which ends with one line feed.
+ghost use Rattle.std.specs.Prelude.{◌≡◌, ◌++◌, codes, OnOk, IfOk};
+ghost use Rattle.std.specs.Fmt.{decimal};
+ghost use Rattle.verdict.specs.Printed.{escaped};
+ghost use Rattle.verdict.specs.Reasons.{form_reason};
+ghost use Rattle.desk_service.specs.Texts.{unfit_text, refused_text, read_fault_text, served_text, door_fault_text};
+
+use crate::opening::{Paper, Unfit, name_of};
+use office_forms::FormFault;
+use std::alloc::Global;
+use verdict::put_name;
+use vet_base::{Memory, Name};
+
+/// Adds a word and a name.
+fn put_named(text: &mut Vec<u8>, word: &[u8], name: &Name) -> Result<(), Memory>
+    ensures { OnOk result (text.new.items ≡ text.old.items ++ word.now ++ escaped name.now) }
+{
+    text.extend_from_slice(word)?;
+    put_name(text, name.as_bytes())
+}
+
+/// Adds bytes as they are.
+fn put(text: &mut Vec<u8>, bytes: &[u8]) -> Result<(), Memory>
+    ensures { OnOk result (text.new.items ≡ text.old.items ++ bytes.now) }
+{
+    text.extend_from_slice(bytes)?;
+    Ok(())
+}
+
+/// Adds why a form is refused.
+#[tactic(auto, unfolding(verdict::specs::Reasons::form_reason))]
+fn put_form_reason(text: &mut Vec<u8>, fault: &FormFault) -> Result<(), Memory>
+    ensures { OnOk result (text.new.items ≡ text.old.items ++ form_reason fault.now) }
+{
+    match fault {
+        FormFault::NotToml => put(text, b"not toml".as_slice()),
+        FormFault::Missing(key) => put_named(text, b"missing ".as_slice(), key),
+        FormFault::Wrong(key) => put_named(text, b"wrong ".as_slice(), key),
+        FormFault::Unknown(key) => put_named(text, b"unknown ".as_slice(), key),
+        FormFault::Range(key) => put_named(text, b"range ".as_slice(), key),
+        FormFault::Twice(name) => put_named(text, b"twice ".as_slice(), name),
+        FormFault::Memory => put(text, b"memory".as_slice()),
+    }
+}
+
+/// Adds why a file is refused.
+#[tactic(auto, unfolding(crate::specs::Texts::unfit_text))]
+fn put_unfit(text: &mut Vec<u8>, unfit: &Unfit) -> Result<(), Memory>
+    ensures { OnOk result (text.new.items ≡ text.old.items ++ unfit_text unfit.now) }
+{
+    match unfit {
+        Unfit::Absent => put(text, b"absent".as_slice()),
+        Unfit::TooLong => put(text, b"longer than 16777216".as_slice()),
+        Unfit::Form(fault) => put_form_reason(text, fault),
+    }
+}
+
+/// Which file of the office is refused, and why.
+#[tactic(auto, unfolding(crate::specs::Texts::refused_text))]
+pub(crate) fn refused(alloc: Global, paper: Paper, unfit: &Unfit) -> Result<Vec<u8>, Memory>
+    ensures { IfOk result (λ text. text.items ≡ refused_text paper unfit.now) }
+{
+    let mut text = b"refused ".as_slice().to_vec(alloc)?;
+    put(&mut text, name_of(paper).as_bytes())?;
+    put(&mut text, b": ".as_slice())?;
+    put_unfit(&mut text, unfit)?;
+    put(&mut text, b"\n".as_slice())?;
+    Ok(text)
+}
+
+/// Which file could not be read, by its path.
+#[tactic(auto, unfolding(crate::specs::Texts::read_fault_text))]
+pub(crate) fn read_fault(alloc: Global, path: &[u8]) -> Result<Vec<u8>, Memory>
+    ensures { IfOk result (λ text. text.items ≡ read_fault_text path.now) }
+{
+    let mut text = b"read fault ".as_slice().to_vec(alloc)?;
+    put_name(&mut text, path)?;
+    put(&mut text, b"\n".as_slice())?;
+    Ok(text)
+}
+
+/// How many connections were taken.
+#[tactic(auto, unfolding(crate::specs::Texts::served_text))]
+pub(crate) fn served(alloc: Global, count: u32) -> Result<Vec<u8>, Memory>
+    ensures { IfOk result (λ text. text.items ≡ served_text count) }
+{
+    let line = format!(in alloc; "served {count}\n")?;
+    Ok(line.as_bytes().to_vec(alloc)?)
+}
+
+/// That the door failed.
+#[tactic(auto, unfolding(crate::specs::Texts::door_fault_text))]
+pub(crate) fn door_fault(alloc: Global) -> Result<Vec<u8>, Memory>
+    ensures { IfOk result (λ text. text.items ≡ door_fault_text) }
+{
+    Ok(b"door fault\n".as_slice().to_vec(alloc)?)
+}
