@@ -10,6 +10,3 @@ mod target;
 
 pub use command::{Turn, command_of};
 pub use law::routes_are_the_targets_of_pages;
-
-#[cfg(test)]
-mod tests;
