@@ -19,9 +19,9 @@ const CONNECTION_LIMIT: u64 = 120;
 const LINGER: u64 = 200;
 
 /// A door on a port of 127.0.0.1, bound when the first connection is asked for. A read or a write that waits for more
-/// than 10 seconds fails, and so does each once those of its connection waited for 120 seconds together; a peer that is
-/// slow or silent costs no more than that, and its own connection alone. The time that the desk takes to answer does not
-/// count.
+/// than 10 seconds fails, and so does each once those of its connection waited for 120 seconds together. Before a
+/// connection is closed what its peer still sends is waited for, 12.8 seconds at most. So a peer that is slow or silent
+/// costs 132.8 seconds at most, and its own connection alone. The time that the desk takes to answer does not count.
 #[derive(Drop)]
 pub struct TcpDoor<R: Net + Clock + Drop> {
     rt: R,
