@@ -1,23 +1,12 @@
 //! What is printed. Each text is one line, which ends with one line feed.
 ghost use Rattle.std.specs.Prelude.{◌≡◌, ◌++◌, codes, OnOk, IfOk};
 ghost use Rattle.std.specs.Fmt.{decimal};
-ghost use Rattle.verdict.specs.Printed.{escaped};
-ghost use Rattle.verdict.specs.Reasons.{form_reason};
 ghost use Rattle.desk_service.specs.Texts.{unfit_text, refused_text, read_fault_text, served_text, door_fault_text};
 
 use crate::opening::{Paper, Unfit, name_of};
-use office_forms::FormFault;
 use std::alloc::Global;
-use verdict::put_name;
-use vet_base::{Memory, Name};
-
-/// Adds a word and a name.
-fn put_named(text: &mut Vec<u8>, word: &[u8], name: &Name) -> Result<(), Memory>
-    ensures { OnOk result (text.new.items ≡ text.old.items ++ word.now ++ escaped name.now) }
-{
-    text.extend_from_slice(word)?;
-    put_name(text, name.as_bytes())
-}
+use verdict::{put_form_reason, put_name};
+use vet_base::Memory;
 
 /// Adds bytes as they are.
 fn put(text: &mut Vec<u8>, bytes: &[u8]) -> Result<(), Memory>
@@ -25,22 +14,6 @@ fn put(text: &mut Vec<u8>, bytes: &[u8]) -> Result<(), Memory>
 {
     text.extend_from_slice(bytes)?;
     Ok(())
-}
-
-/// Adds why a form is refused.
-#[tactic(auto, unfolding(verdict::specs::Reasons::form_reason))]
-fn put_form_reason(text: &mut Vec<u8>, fault: &FormFault) -> Result<(), Memory>
-    ensures { OnOk result (text.new.items ≡ text.old.items ++ form_reason fault.now) }
-{
-    match fault {
-        FormFault::NotToml => put(text, b"not toml".as_slice()),
-        FormFault::Missing(key) => put_named(text, b"missing ".as_slice(), key),
-        FormFault::Wrong(key) => put_named(text, b"wrong ".as_slice(), key),
-        FormFault::Unknown(key) => put_named(text, b"unknown ".as_slice(), key),
-        FormFault::Range(key) => put_named(text, b"range ".as_slice(), key),
-        FormFault::Twice(name) => put_named(text, b"twice ".as_slice(), name),
-        FormFault::Memory => put(text, b"memory".as_slice()),
-    }
 }
 
 /// Adds why a file is refused.

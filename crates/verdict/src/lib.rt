@@ -19,5 +19,6 @@ pub use outcome::{Judged, Outcome, Part, Reason, Rechecked, status_for};
 pub use outcomes::{Cause, Finding, Place};
 pub use parts::Parts;
 pub use printed::put_name;
+pub use reasons::put_form_reason;
 pub use rejudging::judge_table;
 pub use reporting::report;

@@ -59,8 +59,9 @@ fn put_named(text: &mut Text, word: &[u8], name: &Name) -> Result<(), Memory>
     put_name(text, name.as_bytes())
 }
 
+/// Adds why a form is refused, at the end, as a report says it. After want of memory a part of it may be there.
 #[tactic(auto, unfolding(crate::specs::Reasons::form_reason))]
-fn put_form_reason(text: &mut Text, fault: &FormFault) -> Result<(), Memory>
+pub fn put_form_reason(text: &mut Vec<u8>, fault: &FormFault) -> Result<(), Memory>
     ensures { OnOk result (text.new.items ≡ text.old.items ++ form_reason fault.now) }
 {
     match fault {
