@@ -21,7 +21,8 @@ use Rattle.desk_service.specs.declared.opening.Halt.{Halt}
 use Rattle.desk_service.specs.declared.opening.Halt.TheVariants as halts
 use Rattle.desk_service.specs.declared.outside.Status.{Status}
 use Rattle.desk_service.specs.Opening.{opened_of, OpensDesk, Leaves, paper_path}
-use Rattle.desk_service.specs.Serving.{Seen, seen, ServesDesk, Serves, ComesToSay, RunsOut, Ends, PutsText, Says, HaltSays, TakenSays, SaysAs}
+use Rattle.desk_service.specs.Saying.{PutsText, Says, HaltSays, TakenSays, SaysAs}
+use Rattle.desk_service.specs.Serving.{Seen, seen, ServesDesk, Serves, ComesToSay, RunsOut, Ends}
 use Rattle.desk_service.specs.Texts.{refused_text, read_fault_text, served_text, door_fault_text}
 use Rattle.desk_service.specs.Words.{Serve}
 

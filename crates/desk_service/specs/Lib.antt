@@ -1,6 +1,7 @@
 pub mod Judging
 pub mod Opening
 pub mod Safety
+pub mod Saying
 pub mod Serving
 pub mod Texts
 pub mod Words

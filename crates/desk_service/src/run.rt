@@ -1,7 +1,8 @@
 //! The top call.
 ghost use Rattle.std.specs.Prelude.{map, string_bytes};
 ghost use Rattle.desk_serving.specs.Obeying.{TellsDocket};
-ghost use Rattle.desk_service.specs.Serving.{seen, Answers, Ends, PutsText};
+ghost use Rattle.desk_service.specs.Saying.{PutsText};
+ghost use Rattle.desk_service.specs.Serving.{seen, Answers, Ends};
 ghost use Rattle.desk_service.specs.Words.{asked_words, parse};
 
 use crate::outside::{Outside, Status};

@@ -5,7 +5,8 @@ ghost use Rattle.vet_base.specs.Outside.{HasRisen};
 ghost use Rattle.desk_serving.specs.Obeying.{TellsDocket};
 ghost use Rattle.desk_serving.specs.Serving.{outside as desk_outside};
 ghost use Rattle.desk_service.specs.Opening.{opened_of};
-ghost use Rattle.desk_service.specs.Serving.{seen, ServesDesk, HaltSays, TakenSays, SaysAs, Says};
+ghost use Rattle.desk_service.specs.Saying.{HaltSays, TakenSays, SaysAs, Says};
+ghost use Rattle.desk_service.specs.Serving.{seen, ServesDesk};
 ghost use Rattle.desk_service.specs.Words.{asked_words};
 
 use crate::laws::a_clear_decision_is_of_a_safe_app;
