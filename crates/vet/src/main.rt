@@ -1,9 +1,12 @@
 //! `vet`: the command line of the vetting desk.
 #![tactic(auto)]
 
+mod databases;
+
+use databases::Databases;
 use std::process::ExitCode;
 use vet_main::run;
 
 fn main(rt: HostRuntime) -> ExitCode {
-    run(rt)
+    run(rt, &Databases(rt))
 }

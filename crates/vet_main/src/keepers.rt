@@ -1,0 +1,25 @@
+ghost use Rattle.desk_serving.specs.Obeying.{TellsDocket};
+
+use case_keeper::{Keeper, MemKeeper};
+use std::alloc::Global;
+
+/// Where a desk finds the keeper of its cases.
+pub trait Keepers {
+    type Kept: Keeper + Drop;
+
+    /// The keeper of the cases that are kept in the file at this path. The file is neither read nor made yet.
+    fn keeper_at(&self, path: String) -> Self::Kept
+        ensures { TellsDocket (Self.Kept.told result) };
+}
+
+/// Keepers in memory: the cases of a desk end with it, and no file is read or made.
+#[derive(Drop)]
+pub struct InMemory(pub Global);
+
+impl Keepers for InMemory {
+    type Kept = MemKeeper;
+
+    fn keeper_at(&self, _path: String) -> MemKeeper {
+        MemKeeper::new(self.0)
+    }
+}
