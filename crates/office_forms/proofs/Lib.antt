@@ -17,4 +17,6 @@ pub mod OnceApart
 pub mod OfficeSound
 pub mod PositionsSound
 pub mod ListsSound
+pub mod TypesSpelled
+pub mod ListsSpelled
 pub mod OneForms

@@ -1,9 +1,9 @@
 -- What holds of the value of a script wherever all its tests hold.
-use Rattle.std.proofs.Common.{◌≡◌, ℕ, suc, ◌+◌, Bool, true, false, Result, Ok, Err, List, [], ◌∷◌, length, refl, sym, ap, subst, ◌∙◌, arith}
+use Rattle.std.proofs.Common.{◌≡◌, ℕ, zero, suc, ◌+◌, Bool, true, false, cond, Result, Ok, Err, List, [], ◌∷◌, length, refl, sym, ap, subst, ◌∙◌, arith}
 use Rattle.std.specs.Prelude.{IsTrue}
 use Rattle.std.specs.List.{All}
 use Rattle.std.proofs.lemmas.List.Elements.{All-nil, All-cons}
-use Rattle.vet_base.specs.Script.{Script, Value, Test, ◌>>=◌, run, then_run, test, walk, each}
+use Rattle.vet_base.specs.Script.{Script, Value, Test, ◌>>=◌, run, then_run, test, sweep, walk, each}
 use Rattle.vet_base.proofs.Scripts.{run_bind}
 
 pub record Yields {F A : Type 0} (P : A → Type 0) (s : Script F A) : Type 0 where
@@ -77,3 +77,21 @@ yields_walk_all {F = F} {S = S} {X = X} {Y = Y} P row step (x ∷ xs) s =
     yields_then (λ r. P r.0) Q (row x s) _ (step x s)
     (λ first h. yields_then Q Q (walk row xs first.1) _ (yields_walk_all P row step xs first.1)
     (λ others all. yields_value Q _ (All-cons P first.0 others.0 h all)))
+
+-- one script or the other
+yields_if : {F A : Type 0} (P : A → Type 0) (b : Bool) (s t : Script F A) → Yields P s → Yields P t → Yields P (cond b s t)
+yields_if P true s t one other = one
+yields_if P false s t one other = other
+
+-- what each row gives holds of all that is given, while there are more
+pub yields_sweep_all : {F S X : Type 0} (P : X → Type 0) (more : S → Bool) (row : S → Script F (X × S)) → ((s : S) → Yields (λ r. P r.0) (row s))
+    → (n : ℕ) (s : S) → Yields (λ r. All P r.0) (sweep n more row s)
+unfolding sweep
+yields_sweep_all P more row step zero s = yields_value _ ([], s) (All-nil P)
+yields_sweep_all {F = F} {S = S} {X = X} P more row step (suc n) s =
+    let Q : (List X × S) → Type 0 = λ r. All P r.0 in
+    yields_if Q (more s) _ _
+    (yields_then (λ r. P r.0) Q (row s) _ (step s)
+    (λ first h. yields_then Q Q (sweep n more row first.1) _ (yields_sweep_all P more row step n first.1)
+    (λ others all. yields_value Q _ (All-cons P first.0 others.0 h all))))
+    (yields_value Q ([], s) (All-nil P))

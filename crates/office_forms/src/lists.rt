@@ -3,6 +3,7 @@ ghost use Rattle.std.specs.Prelude.{◌≡◌, ◌≢◌, ◌≤◌, ◌+◌, Is
 ghost use Rattle.office_forms.specs.Form.{IsForm, FirstFormFault};
 ghost use Rattle.office_forms.specs.Lists.{are_categories, categories_at, shared_row, shared_of, rows_of, rows_once, lists_form};
 ghost use Rattle.app_machine.specs.SoundLists.{SoundLists};
+ghost use Rattle.office_forms.specs.Sound.{SpelledLists};
 ghost use Rattle.toml.specs.View.{table_view, view};
 ghost use Rattle.vet_base.specs.Script.{Gives};
 
@@ -37,6 +38,7 @@ use vet_base::{Name, Seq, Stop};
 pub fn read_lists(alloc: Global, text: &[u8]) -> Result<Lists, FormFault>
     ensures ok { IfOk result (λ d. IsForm lists_form text.now d) }
     ensures sound { IfOk result SoundLists }
+    ensures spelled { IfOk result SpelledLists }
     ensures err { IfErr result (λ e. e ≢ FormFault.Memory → FirstFormFault lists_form text.now e) }
 {
     let tree = match read_tree(alloc, text) {
