@@ -1,3 +1,5 @@
+ghost use Rattle.std.specs.Prelude.{◌≡◌};
+
 use crate::late_keeper::{LateKeeper, Opener};
 use sqlite::{Connection, Error, File, FileStore};
 
@@ -21,7 +23,9 @@ pub type SqlKeeper = LateKeeper<DatabaseFile>;
 
 impl LateKeeper<DatabaseFile> {
     /// A keeper over the file at a path. It opens nothing.
-    pub fn new(rt: HostRuntime, path: String) -> SqlKeeper {
+    pub fn new(rt: HostRuntime, path: String) -> SqlKeeper
+        ensures { result.faults ≡ 0 }
+    {
         LateKeeper::over(DatabaseFile { rt, path })
     }
 }
