@@ -1,0 +1,190 @@
+#!/usr/bin/env python3
+"""Kills the desk at random moments: what it told as kept is there when it comes back, or that with one change more.
+
+usage: bench/killed_desk.py PROGRAM [KILLS [SEED]]
+
+PROGRAM is the built program, as crates/vet/out/vet. The desk is started in a copy of examples/office on a free port. A
+developer submits apps and appeals, reviewers decide and rule, one request after the other, until the desk is killed
+(SIGKILL) at most 150 milliseconds after it listens. Then it is started anew and asked for the developer's cases. Every case
+has to be in the state that was last told, or, for the last request alone, which had no reply, in the state that it asked for. At the end `sqlite3` has to find the database whole. Ends with status 1 at
+the first case that is not as it is to be.
+"""
+
+import base64
+import json
+import os
+import random
+import shutil
+import signal
+import socket
+import subprocess
+import sys
+import tempfile
+import threading
+import time
+import tomllib
+
+TOP = os.path.dirname(os.path.dirname(os.path.abspath(__file__)))
+
+
+def free_port():
+    with socket.socket() as s:
+        s.bind(("127.0.0.1", 0))
+        return s.getsockname()[1]
+
+
+class Desk:
+    """The desk in a folder, which is killed and started anew."""
+
+    def __init__(self, program, folder, port):
+        self.words = [program, "serve", folder, "9999"]
+        self.port, self.process = port, None
+
+    def start(self):
+        self.process = subprocess.Popen(self.words, stdout=subprocess.DEVNULL)
+
+    def kill(self):
+        self.process.send_signal(signal.SIGKILL)
+        self.process.wait()
+
+    def connected(self):
+        for _ in range(3000):
+            try:
+                return socket.create_connection(("127.0.0.1", self.port), timeout=60)
+            except ConnectionRefusedError:
+                if self.process.poll() is not None:
+                    raise ConnectionResetError("the desk has ended")
+                time.sleep(0.01)
+        raise SystemExit("nobody listens")
+
+    def asked(self, token, method, path, body=None):
+        """Status and body of a reply, or None where there is no whole one."""
+        content = b"" if body is None else json.dumps(body).encode()
+        head = f"{method} {path} HTTP/1.1\r\nx-desk-token: {token}\r\ncontent-length: {len(content)}\r\n\r\n"
+        try:
+            with self.connected() as s:
+                s.sendall(head.encode() + content)
+                reply = b""
+                while part := s.recv(65536):
+                    reply += part
+        except (ConnectionError, OSError):
+            return None
+        front, end, rest = reply.partition(b"\r\n\r\n")
+        lengths = [int(l[15:]) for l in front.split(b"\r\n") if l.startswith(b"content-length:")]
+        if not end or lengths != [len(rest)]:
+            return None
+        return int(front.split(b" ", 2)[1]), rest
+
+
+def flagged_app():
+    """An app against whose decision an appeal is taken."""
+    folder = f"{TOP}/examples/device_id_posted"
+    with open(f"{folder}/classes.dex", "rb") as f:
+        app = {"dex": [base64.b64encode(f.read()).decode()]}
+    for part in ("manifest", "layouts", "declaration"):
+        with open(f"{folder}/{part}.toml") as f:
+            app[part] = f.read()
+    return app
+
+
+class Office:
+    """A developer and two reviewers, and the states of the cases as they were last told."""
+
+    def __init__(self, desk, parties, rng):
+        self.desk, self.rng, self.states, self.queue, self.app = desk, rng, {}, [], flagged_app()
+        self.developer = next(p["token"] for p in parties if p["role"] == "developer")
+        self.party = next(p["name"] for p in parties if p["role"] == "developer")
+        self.reviewers = [p["token"] for p in parties if p["role"] == "reviewer"]
+        assert len(self.reviewers) >= 2, "two reviewers are needed"
+
+    def next_change(self):
+        """Token, method, path, body, the case and the state that it is to have."""
+        ruled = [r for r, s in self.states.items() if s == "appealed"]
+        decided = [r for r, s in self.states.items() if s == "decided"]
+        kind = self.rng.choice(["submit", "submit", "decide", "appeal", "rule"])
+        if kind == "decide" and self.queue:
+            return self.reviewers[0], "POST", "/decisions", None, self.queue[0], "decided"
+        if kind == "appeal" and decided:
+            reference = self.rng.choice(decided)
+            return self.developer, "POST", f"/cases/{reference}/appeal", {"text": "not so"}, reference, "appealed"
+        if kind == "rule" and ruled:
+            reference = self.rng.choice(ruled)
+            body = {"developer": self.party, "reference": reference, "ruling": "uphold"}
+            return self.reviewers[1], "POST", "/rulings", body, reference, "ruled"
+        reference = f"r{len(self.states)}"
+        return self.developer, "POST", "/cases", {**self.app, "reference": reference}, reference, "queued"
+
+    def note(self, reference, state):
+        if state == "queued" and reference not in self.states:
+            self.queue.append(reference)
+        elif reference in self.queue:
+            self.queue.remove(reference)
+        self.states[reference] = state
+
+    def work(self):
+        """Makes changes until one has no reply: that one's case and state."""
+        while True:
+            token, method, path, body, reference, state = self.next_change()
+            reply = self.desk.asked(token, method, path, body)
+            if reply is None:
+                return reference, state
+            if reply[0] not in (200, 201):
+                raise SystemExit(f"{method} {path}: {reply}")
+            self.note(reference, state)
+
+    def look(self, last):
+        """Compares what the desk has with what it told; the last change, which had no reply, may be there."""
+        reply = self.desk.asked(self.developer, "GET", "/cases")
+        assert reply and reply[0] == 200, reply
+        found = {c["reference"]: c["state"] for c in json.loads(reply[1])["cases"]}
+        if found == self.states:
+            return 0
+        reference, state = last
+        if found != {**self.states, reference: state}:
+            due = self.states
+            wrong = {r: (found.get(r), due.get(r)) for r in {*found, *due} if found.get(r) != due.get(r)}
+            raise SystemExit(f"not as told: {wrong}, where the last change was {last}")
+        self.note(reference, state)
+        return 1
+
+
+def office_in(folder, port):
+    shutil.copy(f"{TOP}/examples/office/lists.toml", folder)
+    with open(f"{TOP}/examples/office/office.toml") as f:
+        lines = [f"port = {port}\n" if l.startswith("port") else l for l in f]
+    with open(f"{folder}/office.toml", "w") as f:
+        f.writelines(lines)
+    return tomllib.loads("".join(lines))["party"]
+
+
+def main():
+    program = os.path.abspath(sys.argv[1])
+    kills, seed = (int(n) for n in sys.argv[2:] + ["200", "1"][len(sys.argv) - 2 :])
+    rng, port, folder = random.Random(seed), free_port(), tempfile.mkdtemp()
+    desk = Desk(program, folder, port)
+    office = Office(desk, office_in(folder, port), rng)
+    more = 0
+    try:
+        for _ in range(kills):
+            desk.start()
+            desk.connected().close()
+            timer = threading.Timer(rng.uniform(0, 0.15), desk.kill)
+            timer.start()
+            last = office.work()
+            timer.join()
+            desk.start()
+            more += office.look(last)
+            desk.kill()
+        said = subprocess.run(
+            ["sqlite3", f"{folder}/desk.sqlite", "PRAGMA integrity_check"], capture_output=True, text=True, check=True
+        ).stdout.strip()
+        assert said == "ok", said
+        print(f"{kills} kills, {len(office.states)} cases: all that was told as kept was there, {more} times one change more")
+    finally:
+        if desk.process and desk.process.poll() is None:
+            desk.kill()
+        shutil.rmtree(folder)
+
+
+if __name__ == "__main__":
+    main()
