@@ -1,5 +1,5 @@
+use desk_main::Keepers;
 use sqlite_keeper::SqlKeeper;
-use vet_main::Keepers;
 
 /// Keepers in databases of SQLite, each in the file at its path.
 #[derive(Drop)]

@@ -4,8 +4,8 @@
 mod databases;
 
 use databases::Databases;
+use desk_main::run;
 use std::process::ExitCode;
-use vet_main::run;
 
 fn main(rt: HostRuntime) -> ExitCode {
     run(rt, &Databases(rt))

@@ -2,8 +2,8 @@
 #![tactic(auto)]
 
 use std::process::ExitCode;
-use vet_main::{InMemory, run};
+use vet_main::run;
 
 fn main(rt: HostRuntime) -> ExitCode {
-    run(rt, &InMemory(rt.alloc()))
+    run(rt)
 }
