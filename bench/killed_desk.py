@@ -6,8 +6,8 @@ usage: bench/killed_desk.py PROGRAM [KILLS [SEED]]
 PROGRAM is the built program, as crates/vet/out/vet. The desk is started in a copy of examples/office on a free port. A
 developer submits apps and appeals, reviewers decide and rule, one request after the other, until the desk is killed
 (SIGKILL) at most 150 milliseconds after it listens. Then it is started anew and asked for the developer's cases. Every case
-has to be in the state that was last told, or, for the last request alone, which had no reply, in the state that it asked for. At the end `sqlite3` has to find the database whole. Ends with status 1 at
-the first case that is not as it is to be.
+has to be in the state that was last told, or, for the last request alone, which had no reply, in the state that it asked
+for. At the end `sqlite3` has to find the database whole. Ends with status 1 at the first case that is not as it is to be.
 """
 
 import base64
