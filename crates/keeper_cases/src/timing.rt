@@ -1,7 +1,7 @@
 ghost use Rattle.case_rules.specs.Docket.{IsDocket};
 
-use crate::reply_to;
 use case_keeper::MemKeeper;
+use case_lines::reply_to;
 use std::io;
 use std::time::Instant;
 

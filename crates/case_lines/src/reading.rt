@@ -1,5 +1,7 @@
-use crate::asking::Turn;
+use crate::turn::{ToldJudge, Turn};
 use case_rules::{Command, Content, OutcomeWord, Party, Role, RulingWord};
+use desk_office::Office;
+use desk_serving::Desk;
 use std::alloc::{AllocError, Global};
 use vet_base::{Memory, Name, Shared};
 
@@ -103,6 +105,19 @@ fn command_of(alloc: Global, words: &[&str]) -> Result<Command, Memory> {
     }
 }
 
+/// A desk that takes appeals for 30 days, without parties: who asks stands in the turn.
+fn desk_of(edition: [u8; 32], outcome: OutcomeWord) -> Desk<ToldJudge> {
+    Desk {
+        office: Office {
+            port: 8080,
+            workers: 1,
+            appeal_days: 30,
+            parties: Shared::new(),
+        },
+        judge: ToldJudge { edition, outcome },
+    }
+}
+
 /// The turn that a line says: the day, the number of the edition, the party, the command and its words. The last word
 /// of a decision or review is the outcome.
 pub fn turn_of(alloc: Global, line: &str) -> Result<Turn, Memory> {
@@ -115,8 +130,10 @@ pub fn turn_of(alloc: Global, line: &str) -> Result<Turn, Memory> {
     Ok(Turn {
         party,
         day: word(&words, 0).parse::<u32>().unwrap_or(0),
-        edition: edition_of(word(&words, 1)),
-        outcome: outcome_of(words.last().copied().unwrap_or("")),
+        desk: desk_of(
+            edition_of(word(&words, 1)),
+            outcome_of(words.last().copied().unwrap_or("")),
+        ),
         command: command_of(alloc, &words)?,
     })
 }
