@@ -354,7 +354,7 @@ def heads(c):
         "no head",
         (b"GET /cases/\xff HTTP/1.1\r\nx-desk-token: ann-token\r\n\r\n", BAD),
         (b"GET /cases HTTP/2.0\r\nx-desk-token: ann-token\r\n\r\n", BAD),
-        (b"GET /cases\r\n\r\n", BAD), (b"\r\n\r\n", BAD), (b"\x00\xff\r\n\r\n", BAD),
+        (b"GET /cases\r\n\r\n", BAD), (b"\r\n\r\n", BAD), (b"\x00\xff\r\n\r\n", BAD), (b"?\n\n", BAD),
         (b"GET /cases HTTP/1.1\r\nno field\r\n\r\n", BAD), (b"GET /cases HTTP/1.1\r\n: b\r\n\r\n", BAD),
         (b"GET /cases HTTP/1.1\r\na: b\r\n c\r\n\r\n", BAD),
         (b"GET /cases HTTP/1.1\r\na: \x00\r\n\r\n", BAD),
@@ -556,6 +556,7 @@ def ends(c):
     c.case("a connection that ends before a whole request", "keeper", "day 100", "edition 1")
     c.turn(b"GET /ca", ENDED)
     c.turn(b"", ENDED)
+    c.turn(b"?", ENDED)
     c.each("front", post_, ENDED, len(post_))
     c.turn(get_, none)
     c.each("front", get_, ENDED, len(get_))
@@ -634,11 +635,22 @@ def doors(c):
         ("5", [none, STORE_FAILED, added, decided("ann", "r1", "flagged"), shown("r1", "decided", 1, 100, "flagged")])])
 
 
+def bytewise(c):
+    """The worked case once more, where each byte of a request comes alone: none of them has 999."""
+    case = day()
+    for line in case.lines[1:]:
+        c.line(line)
+        if line.startswith("## "):
+            c.line("pieces 999*1")
+    c.count += case.count
+
+
 def links():
     c = Cases()
     ends(c)
     faults(c)
     doors(c)
+    bytewise(c)
     return c
 
 

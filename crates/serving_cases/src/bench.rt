@@ -1,9 +1,7 @@
-use crate::bytes::bytes_of;
-use crate::judge::FirstByte;
-use crate::office::desk;
 use crate::store::Store;
 use desk_links::MemDoor;
 use desk_serving::Desk;
+use serving_lines::{FirstByte, bytes_of, desk};
 use std::alloc::{AllocError, Global};
 use vet_base::Memory;
 

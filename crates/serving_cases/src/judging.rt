@@ -1,6 +1,6 @@
 use crate::bench::{Bench, Way};
-use crate::bytes::{bytes_of, shown};
 use crate::serving::{found_with, reply_to, serve_door, written_next};
+use serving_lines::{bytes_of, shown};
 use std::alloc::{AllocError, Global};
 use std::io;
 

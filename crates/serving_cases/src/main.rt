@@ -4,10 +4,7 @@
 #![tactic(auto)]
 
 mod bench;
-mod bytes;
-mod judge;
 mod judging;
-mod office;
 mod serving;
 mod store;
 

@@ -1,7 +1,7 @@
-use crate::judge::FirstByte;
 use case_keeper::{Keeper, MemKeeper};
 use desk_links::{DoorFault, FixedClock, MemDoor, MemLink};
 use desk_serving::{Desk, Served, serve_door, serve_one};
+use serving_lines::FirstByte;
 use std::alloc::Global;
 use std::marker::Model;
 
