@@ -1,5 +1,6 @@
 #!/usr/bin/env python3
-"""The desk under load: 10,000 requests one after the other, 200 connections that say nothing, and 1,000 that break off.
+"""The desk under load: 10,000 requests one after the other, 200 connections that say nothing, 1,000 that break off, 100 that
+announce the greatest body and send ten bytes of it, and one that sends a byte every five seconds.
 
 usage: bench/serve_load.py PROGRAM [REQUESTS [SILENT [BROKEN]]]
 
@@ -17,6 +18,7 @@ import socket
 import subprocess
 import sys
 import tempfile
+import threading
 import time
 
 TOP = os.path.dirname(os.path.dirname(os.path.abspath(__file__)))
@@ -33,7 +35,7 @@ def free_port():
 def connected(port):
     for _ in range(600):
         try:
-            return socket.create_connection(("127.0.0.1", port), timeout=60)
+            return socket.create_connection(("127.0.0.1", port), timeout=300)
         except ConnectionRefusedError:
             time.sleep(0.1)
     raise SystemExit("nobody listens")
@@ -53,10 +55,10 @@ def status(reply):
 
 
 def memory(process):
-    """Resident memory in KB, now and at most."""
+    """Resident memory in KB, now and at most, and the greatest address space."""
     with open(f"/proc/{process.pid}/status") as f:
         fields = dict(line.split(":", 1) for line in f)
-    return [int(fields[key].split()[0]) for key in ("VmRSS", "VmHWM")]
+    return [int(fields[key].split()[0]) for key in ("VmRSS", "VmHWM", "VmPeak")]
 
 
 class Desk:
@@ -87,6 +89,16 @@ class Desk:
     def exchanged(self, request):
         self.take()
         return exchanged(self.port, request)
+
+
+def dripped(s):
+    """Sends a byte every five seconds, until the desk closes the connection."""
+    try:
+        while True:
+            s.sendall(b"G")
+            time.sleep(5)
+    except OSError:
+        pass
 
 
 def rate(count, once):
@@ -151,6 +163,18 @@ def main():
         assert status(desk.exchanged(listed)) == 200
         print(f"{broken} that broke off: the next request was answered")
 
+        # Connections that announce 64 MiB, of which the desk reserves none before it comes.
+        announced = f"POST /cases HTTP/1.1\r\n{head}content-length: 67108864\r\n\r\n{body[:10]}".encode()
+        peak = memory(desk.process)[2]
+        for _ in range(100):
+            desk.take()
+            with connected(desk.port) as s:
+                s.sendall(announced)
+        assert status(desk.exchanged(listed)) == 200
+        grown = memory(desk.process)[2] - peak
+        assert grown < 32768, f"{grown} KB"
+        print(f"100 that announced 64 MiB and broke off: {grown} KB more of address space")
+
         # Connections that say nothing, as many open at once as the queue of the system takes.
         begin = time.monotonic()
         for some in range(0, silent, QUEUE):
@@ -167,6 +191,14 @@ def main():
             begin = time.monotonic()
             assert status(desk.exchanged(listed)) == 200
             print(f"one that stayed: the next request was answered after {time.monotonic() - begin:.1f} s")
+        desk.take()
+        with connected(desk.port) as slow:
+            threading.Thread(target=dripped, args=(slow,), daemon=True).start()
+            begin = time.monotonic()
+            assert status(desk.exchanged(listed)) == 200
+            waited = time.monotonic() - begin
+            assert 115 < waited < 135, waited
+            print(f"one that sent a byte every 5 s: the next request was answered after {waited:.1f} s")
         after = memory(desk.process)
         print(f"memory in KB before {before[0]} (at most {before[1]}), after {after[0]} (at most {after[1]})")
         desk.end()
