@@ -1,0 +1,13 @@
+CREATE TABLE cases (number INTEGER PRIMARY KEY AUTOINCREMENT, party TEXT NOT NULL, reference TEXT NOT NULL, manifest BLOB NOT NULL, layouts BLOB NOT NULL, declaration BLOB NOT NULL, UNIQUE(party, reference));
+CREATE TABLE dex (number INTEGER NOT NULL, place INTEGER NOT NULL, bytes BLOB NOT NULL, PRIMARY KEY(number, place));
+CREATE TABLE decisions (number INTEGER PRIMARY KEY, outcome TEXT NOT NULL, report BLOB NOT NULL, lists BLOB NOT NULL, reviewer TEXT NOT NULL, day INTEGER NOT NULL);
+CREATE TABLE appeals (number INTEGER PRIMARY KEY, day INTEGER NOT NULL, body BLOB NOT NULL);
+CREATE TABLE rulings (number INTEGER PRIMARY KEY, reviewer TEXT NOT NULL, day INTEGER NOT NULL, word TEXT NOT NULL);
+INSERT INTO cases (party, reference, manifest, layouts, declaration) VALUES ('ann', 'r1', x'6d616e6966657374', x'', x'6465636c61726174696f6e');
+INSERT INTO cases (party, reference, manifest, layouts, declaration) VALUES ('ann', 'a2', x'6d616e6966657374', x'', x'6465636c61726174696f6e');
+INSERT INTO cases (party, reference, manifest, layouts, declaration) VALUES ('bob', 'r1', x'6d616e6966657374', x'', x'6465636c61726174696f6e');
+INSERT INTO dex (number, place, bytes) VALUES (1, 0, x'646578'), (1, 1, x'617070'), (2, 0, x'646578'), (2, 1, x'6f74686572'), (3, 0, x'646578'), (3, 1, x'7468697264');
+INSERT INTO decisions (number, outcome, report, lists, reviewer, day) VALUES (1, 'flagged', x'666c61676765642031', x'0100000000000000000000000000000000000000000000000000000000000000', 'rex', 100);
+INSERT INTO decisions (number, outcome, report, lists, reviewer, day) VALUES (3, 'undecided', x'756e646563696465642031', x'0100000000000000000000000000000000000000000000000000000000000000', 'rex', 100);
+INSERT INTO appeals (number, day, body) VALUES (3, 101, x'6e6f7420736f');
+INSERT INTO rulings (number, reviewer, day, word) VALUES (3, 'sue', 102, 'uphold');

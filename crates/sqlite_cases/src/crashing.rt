@@ -1,0 +1,184 @@
+//! Machines that stop at each call in turn.
+
+use crate::alike::{changes, no_answer, of_version_1};
+use crate::comparing::answer_alike;
+use crate::fitting::make;
+use crate::lines::after_statements;
+use crate::shelf::{come_back_and_opened, opened_at_last, stopping};
+use case_keeper::{KeepFault, Keeper, MemKeeper};
+use case_rules::Change;
+use sqlite::{Alter, Connection, Files};
+use sqlite_disk::Crash;
+use sqlite_keeper::OpenKeeper;
+use std::alloc::Global;
+use std::io;
+use std::rt::Files as Disks;
+
+/// Makes the changes up to the first that is not told as kept, and the same in memory: the place of that one.
+fn kept_up_to<S: Alter + Drop>(
+    alloc: Global,
+    memory: &mut MemKeeper,
+    keeper: &mut OpenKeeper<S>,
+    changes: &[Change],
+) -> Result<usize, KeepFault> {
+    let mut place = 0usize;
+    for change in changes {
+        if keeper.apply(alloc, change).is_err() {
+            break;
+        }
+        if make(alloc, memory, change)? {
+            place = place.saturating_add(1);
+        }
+    }
+    Ok(place)
+}
+
+/// Whether the database has what memory has, or that with one change more.
+fn has_all<A: Keeper, B: Keeper>(
+    alloc: Global,
+    memory: &mut A,
+    keeper: &mut B,
+    next: Option<&Change>,
+) -> Result<bool, KeepFault> {
+    if answer_alike(alloc, memory, keeper)? {
+        return Ok(true);
+    }
+    match next {
+        Some(change) => Ok(make(alloc, memory, change)? && answer_alike(alloc, memory, keeper)?),
+        None => Ok(false),
+    }
+}
+
+/// How a run ended whose files do so many calls.
+#[derive(Clone, Copy, Debug, PartialEq, Eq)]
+enum Ending {
+    /// Every change was told as kept.
+    Whole,
+    /// One was not.
+    Stopped,
+    /// What the database has afterwards is neither what was told as kept nor that with one change more.
+    Lost,
+}
+
+/// How it ended where the database has what is due or not, and all was told as kept or not.
+fn ending_of(has_all: bool, is_whole: bool) -> Ending {
+    match (has_all, is_whole) {
+        (false, _) => Ending::Lost,
+        (true, false) => Ending::Stopped,
+        (true, true) => Ending::Whole,
+    }
+}
+
+/// Makes the changes, as far as they are told as kept, in a database and in memory; how many they are.
+fn changed<S: Alter + Drop>(
+    alloc: Global,
+    memory: &mut MemKeeper,
+    connection: Connection<S>,
+) -> io::Result<(Connection<S>, usize)> {
+    let changes = changes(alloc).map_err(|_| no_answer(KeepFault::Memory))?;
+    let mut keeper = OpenKeeper::adopt(connection);
+    let place = kept_up_to(alloc, memory, &mut keeper, &changes).map_err(no_answer)?;
+    Ok((keeper.give_back(), place))
+}
+
+/// How that ended, by what the database has afterwards.
+fn ended<S: Alter + Drop>(
+    alloc: Global,
+    memory: &mut MemKeeper,
+    connection: Connection<S>,
+    place: usize,
+) -> io::Result<Ending> {
+    let changes = changes(alloc).map_err(|_| no_answer(KeepFault::Memory))?;
+    let mut keeper = OpenKeeper::adopt(connection);
+    let next = changes.get(place);
+    let has_all = has_all(alloc, memory, &mut keeper, next).map_err(no_answer)?;
+    Ok(ending_of(has_all, next.is_none()))
+}
+
+/// Makes the changes over files that stop, and says how that ended.
+fn run_with<D: Crash + Drop>(alloc: Global, files: Files<D>) -> io::Result<Ending> {
+    let mut memory = MemKeeper::new(alloc);
+    let connection = opened_at_last(alloc, files)?;
+    let (connection, place) = changed(alloc, &mut memory, connection)?;
+    let connection = come_back_and_opened(alloc, connection)?;
+    ended(alloc, &mut memory, connection, place)
+}
+
+/// Whether the database has just what was told as kept, or one change more, where the log stops at its first call,
+/// at its second and so on until all changes are told as kept. Each of the nine is at least one write and one sync,
+/// so the log is to stop at 18 places at least.
+pub fn survives_each_call_of_the_log(alloc: Global) -> io::Result<bool> {
+    let mut stops = 0u64;
+    for calls in 0..10_000u64 {
+        match run_with(alloc, stopping(alloc, calls, u64::MAX))? {
+            Ending::Lost => return Ok(false),
+            Ending::Stopped => stops = stops.saturating_add(1),
+            Ending::Whole if stops > 0 => break,
+            Ending::Whole => {}
+        }
+    }
+    Ok(stops >= 18)
+}
+
+/// Whether it has them where the database file stops at one of its first hundred calls, as while the log is copied
+/// into it.
+pub fn survives_calls_of_the_file(alloc: Global) -> io::Result<bool> {
+    for calls in 0..100u64 {
+        if run_with(alloc, stopping(alloc, u64::MAX, calls))? == Ending::Lost {
+            return Ok(false);
+        }
+    }
+    Ok(true)
+}
+
+/// Makes a database of version 1 and has it raised: whether that was told as done. Nothing where the files stop before
+/// it is made.
+fn raised<R: Disks + AllocGlobal, S: Alter + Drop>(
+    rt: &R,
+    connection: Connection<S>,
+) -> Option<(Connection<S>, bool)> {
+    let keeper = OpenKeeper::adopt(connection);
+    let Ok(mut keeper) = after_statements(rt, keeper, "version_1.sql") else {
+        return None;
+    };
+    let is_raised = keeper.appeals(rt.alloc()).is_ok();
+    Some((keeper.give_back(), is_raised))
+}
+
+/// Whether a database has the cases of version 1.
+fn has_version_1<S: Alter + Drop>(alloc: Global, connection: Connection<S>) -> io::Result<bool> {
+    let mut memory = MemKeeper::new(alloc);
+    let are_made = of_version_1(alloc, &mut memory).map_err(no_answer)?;
+    let mut keeper = OpenKeeper::adopt(connection);
+    Ok(are_made && answer_alike(alloc, &mut memory, &mut keeper).map_err(no_answer)?)
+}
+
+/// How a run ended in which a database of version 1 is raised over files that stop, where they suffice to make it.
+fn raised_with<R: Disks + AllocGlobal, D: Crash + Drop>(
+    rt: &R,
+    files: Files<D>,
+) -> io::Result<Option<Ending>> {
+    let alloc = rt.alloc();
+    let connection = opened_at_last(alloc, files)?;
+    let Some((connection, is_raised)) = raised(rt, connection) else {
+        return Ok(None);
+    };
+    let connection = come_back_and_opened(alloc, connection)?;
+    let has_all = has_version_1(alloc, connection)?;
+    Ok(Some(ending_of(has_all, is_raised)))
+}
+
+/// Whether the cases of a database of version 1 are there where the log stops at any call while they are raised. The
+/// transaction is at least one write and one sync, so it is to stop at two places at least.
+pub fn survives_being_raised<R: Disks + AllocGlobal>(rt: &R) -> io::Result<bool> {
+    let mut stops = 0u64;
+    for calls in 0..10_000u64 {
+        match raised_with(rt, stopping(rt.alloc(), calls, u64::MAX))? {
+            Some(Ending::Lost) => return Ok(false),
+            Some(Ending::Stopped) => stops = stops.saturating_add(1),
+            Some(Ending::Whole) if stops > 0 => break,
+            _ => {}
+        }
+    }
+    Ok(stops >= 2)
+}
