@@ -1,18 +1,13 @@
 -- The table of the smallest app is good.
-use Rattle.std.proofs.Common.{◌≡◌, ◌==◌, ◌<◌, ◌+◌, ◌-◌, ℕ, zero, suc, true, false, Bool, cond, List, [], ◌∷◌, inl, inr, Option, Some, None, refl, ap, sym, ◌∙◌, subst, lit<, arith}
+use Rattle.std.proofs.Common.{◌≡◌, ◌<◌, ◌+◌, ◌-◌, ℕ, zero, suc, false, List, [], ◌∷◌, inl, inr, Option, Some, refl, ap, sym, subst, lit<, arith}
 use Rattle.std.specs.Prelude.{codes, map, slice_get}
-use Rattle.app_machine.specs.declared.method.Step.{Step}
-use Rattle.app_machine.specs.declared.method.Act.{Act}
-use Rattle.app_machine.specs.declared.method.Act.TheVariants.{Return}
 use Rattle.app_machine.specs.declared.method.Method.{Method}
 use Rattle.app_machine.specs.declared.component.Kind.TheVariants.{Activity}
-use Rattle.app_machine.specs.declared.component.Component.{Component as ComponentOf}
 use Rattle.vet_base.specs.Members.{In, IsAt}
-use Rattle.app_machine.specs.Names.{Name, descriptor_of, is_reference, is_wide, initialiser_name, initialiser_proto}
-use Rattle.app_machine.specs.Lookups.{ActAt, Goes, Catches, Initialises, step_at, body_named, method_with, up, method_of, initialisers, class_initialised, initialisers_from, initialiser_of}
+use Rattle.app_machine.specs.Names.{Name, descriptor_of, is_reference}
+use Rattle.app_machine.specs.Lookups.{step_at, body_named, method_with, up}
 use Rattle.app_machine.specs.LifeEvents.{LifeEvent, life_events}
-use Rattle.app_machine.specs.Events.{IsApplication, LifeEventAt, InitialiserAt, life_body, layout, parameter_type}
-use Rattle.fact_rows.specs.declared.context.Ctx.{Ctx}
+use Rattle.app_machine.specs.Events.{LifeEventAt, layout, parameter_type}
 use Rattle.fact_rows.specs.declared.context.Ctx.TheVariants as ctx
 use Rattle.fact_rows.specs.declared.site.Site.TheVariants.{Param, Component}
 use Rattle.fact_rows.specs.declared.row.Row.{Row}
@@ -25,9 +20,9 @@ use Rattle.flow_rules.specs.LocalRules.{LocalRule, reach_next, reach_caught, kee
 use Rattle.flow_rules.specs.EffectRules.{EffectRule, lift_effect, effect_next, effect_caught, method_effect, caller_effect, effect_static, effect_handed, effect_own, effect_other}
 use Rattle.flow_rules.specs.CallRules.{CallRule, enter_direct, enter_class, enter_receiver, pass_points, pass_taint, returned_points, returned_taint, caught_points, caught_taint, unwound_points, unwound_taint, use_by_name, use_by_class, enter_initialiser, initialiser_taint}
 use Rattle.flow_rules.specs.LibraryRules.{LibraryRule, hand_points, hand_taint, sink_arrives, same_points, same_taint, taken_points, taken_taint, joined_points, joined_taint, joined_element, source_taint, source_element, shared_static_points, shared_points, shared_taint, row_put_cell, row_put_effect, store_static, store_cell, store_effect, copy_cell, copy_effect}
-use Rattle.flow_rules.specs.EventRules.{EventRule, life_live, life_begins, life_receiver, life_taint, life_receiver_taint, live_begins, live_receiver, live_receiver_taint, handed_begins, handed_receiver, handed_receiver_taint, initialiser_begins, handed_parameter, handed_parameter_taint, exit_handed, exit_handed_taint, application_live, Begins, ComesToLive, begin_reached, begin_points, begin_taint, begin_element, begin_receiver_element, begin_native, by_callback, by_click}
+use Rattle.flow_rules.specs.EventRules.{EventRule, life_live, life_begins, life_receiver, life_taint, life_receiver_taint, live_begins, live_receiver, live_receiver_taint, handed_begins, handed_receiver, handed_receiver_taint, initialiser_begins, handed_parameter, handed_parameter_taint, exit_handed, exit_handed_taint, application_live, Begins, begin_reached, begin_points, begin_taint, begin_element, begin_receiver_element, begin_native}
 use Rattle.rule_witness.specs.Smallest.{main_class, smallest_app, no_lists, on_create_node, smallest_table, SmallestTableIsGood}
-use Rattle.std.proofs.lemmas.Option.{none-some}
+use Rattle.rule_witness.proofs.SmallestApp.{never_goes, never_caught, only_returns, none_initialises, the_activity, is_the_activity, no_application, to_below, the_event, at_event, the_method, is_the_method, first_parameter, register_of, none_comes, no_initialiser}
 
 -- the rows, one by one
 data Listed : Row → Type 0 where
@@ -67,127 +62,9 @@ in_table r is_reached = inr (inr (inr (inr (inr (inr (inr (inr (inl refl))))))))
 in_table r has_receiver = inr (inr (inr (inr (inr (inr (inr (inr (inr (inl refl)))))))))
 in_table r has_bundle = inr (inr (inr (inr (inr (inr (inr (inr (inr (inr (inl refl))))))))))
 
--- The one step.
-abbrev the_step : Step
-the_step = record { pc = 0; act = Return None; next = []; catches = [] }
-
-abbrev Returns : Act → Type 0
-Returns (Return None) = Unit {0}
-Returns act = ⊥
-
-found : (b : Bool) (s : Step) → ◌≡◌ {A = Option Step} (cond b (Some the_step) None) (Some s) → the_step ≡ s
-found true s e = cc
-found false s e = absurd (none-some s e)
-
-is_the_step : (method pc : ℕ) (s : Step) → step_at smallest_app method pc ≡ Some s → the_step ≡ s
-unfolding step_at smallest_app
-is_the_step zero pc s e = found (0 == pc) s e
-is_the_step (suc method) pc s e = absurd (none-some s e)
-
-never_goes : {method pc to : ℕ} → Goes smallest_app method pc to → ⊥
-never_goes {method} {pc} {to} g = subst (λ (s : Step). In to s.next) (sym (is_the_step method pc g.step g.there)) g.next
-
-never_caught : {method pc to : ℕ} → Catches smallest_app method pc to → ⊥
-never_caught {method} {pc} {to} g = subst (λ (s : Step). In to s.catches) (sym (is_the_step method pc g.step g.there)) g.catch
-
-only_returns : {method pc : ℕ} {act : Act} → ActAt smallest_app method pc act → Returns act
-only_returns {method} {pc} a = subst Returns (ap (λ (s : Step). s.act) (is_the_step method pc a.step a.there) ∙ a.same) tt
-
-none_initialises : {method pc body : ℕ} → Initialises smallest_app method pc body → ⊥
-unfolding initialisers class_initialised
-none_initialises {method} {pc} {body} i = subst (λ act. In body (initialisers smallest_app act)) (sym (ap (λ (s : Step). s.act) (is_the_step method pc i.at.step i.at.there) ∙ i.at.same)) i.is_one
-
--- The one component, and the events in its life.
-abbrev the_activity : ComponentOf
-the_activity = record { kind = Activity; class = main_class }
-
-is_the_activity : (c : ℕ) (component : ComponentOf) → IsAt smallest_app.components c component → (c ≡ 0) × (the_activity ≡ component)
-unfolding smallest_app
-is_the_activity zero component at = (refl, let e = at.there in cc)
-is_the_activity (suc c) component at = absurd (none-some component at.there)
-
-no_application : {a : ℕ} → IsApplication smallest_app a → ⊥
-no_application {a} is = let e = (is_the_activity a is.component is.there).1 in let kind = is.kind in let other : Activity ≡ is.component.kind = ap (λ (c : ComponentOf). c.kind) e in let none : ⊥ = cc in none
-
-below_eight : {l life : LifeEvent} → ◌≡◌ {A = Option LifeEvent} (Some l) (Some life) → l.to < 8 → life.to < 8
-below_eight {l} {life} e b = let same : l ≡ life = cc in subst (λ (x : LifeEvent). x.to < 8) same b
-
-to_below : (e : ℕ) (life : LifeEvent) → slice_get (life_events Activity) e ≡ Some life → life.to < 8
-unfolding life_events
-to_below zero life h = below_eight h (lit< tt)
-to_below (suc zero) life h = below_eight h (lit< tt)
-to_below (suc (suc zero)) life h = below_eight h (lit< tt)
-to_below (suc (suc (suc zero))) life h = below_eight h (lit< tt)
-to_below (suc (suc (suc (suc zero)))) life h = below_eight h (lit< tt)
-to_below (suc (suc (suc (suc (suc zero))))) life h = below_eight h (lit< tt)
-to_below (suc (suc (suc (suc (suc (suc zero)))))) life h = below_eight h (lit< tt)
-to_below (suc (suc (suc (suc (suc (suc (suc zero))))))) life h = below_eight h (lit< tt)
-to_below (suc (suc (suc (suc (suc (suc (suc (suc zero)))))))) life h = below_eight h (lit< tt)
-to_below (suc (suc (suc (suc (suc (suc (suc (suc (suc zero))))))))) life h = below_eight h (lit< tt)
-to_below (suc (suc (suc (suc (suc (suc (suc (suc (suc (suc zero)))))))))) life h = below_eight h (lit< tt)
-to_below (suc (suc (suc (suc (suc (suc (suc (suc (suc (suc (suc zero))))))))))) life h = below_eight h (lit< tt)
-to_below (suc (suc (suc (suc (suc (suc (suc (suc (suc (suc (suc (suc e)))))))))))) life h = absurd (none-some life h)
-
--- `onCreate` alone has a body
-without : {l life : LifeEvent} {body : ℕ} → ◌≡◌ {A = Option LifeEvent} (Some l) (Some life) → life_body smallest_app main_class l ≡ None → life_body smallest_app main_class life ≡ Some body → ⊥
-without {l} {life} {body} e none some = let same : l ≡ life = cc in none-some body (sym none ∙ subst (λ (x : LifeEvent). life_body smallest_app main_class x ≡ Some body) (sym same) some)
-
-with_body : {l life : LifeEvent} {body : ℕ} → ◌≡◌ {A = Option LifeEvent} (Some l) (Some life) → life_body smallest_app main_class l ≡ Some 0 → life_body smallest_app main_class life ≡ Some body → 0 ≡ body
-with_body {l} {life} {body} e first some = let same : l ≡ life = cc in let both : ◌≡◌ {A = Option ℕ} (Some 0) (Some body) = sym first ∙ subst (λ (x : LifeEvent). life_body smallest_app main_class x ≡ Some body) (sym same) some in cc
-
-the_event : (e : ℕ) (life : LifeEvent) (body : ℕ) → slice_get (life_events Activity) e ≡ Some life → life_body smallest_app main_class life ≡ Some body → (1 ≡ e) × (0 ≡ body)
-unfolding life_events body_named method_with up descriptor_of smallest_app
-the_event zero life body h b = absurd (without h refl b)
-the_event (suc zero) life body h b = (refl, with_body h refl b)
-the_event (suc (suc zero)) life body h b = absurd (without h refl b)
-the_event (suc (suc (suc zero))) life body h b = absurd (without h refl b)
-the_event (suc (suc (suc (suc zero)))) life body h b = absurd (without h refl b)
-the_event (suc (suc (suc (suc (suc zero))))) life body h b = absurd (without h refl b)
-the_event (suc (suc (suc (suc (suc (suc zero)))))) life body h b = absurd (without h refl b)
-the_event (suc (suc (suc (suc (suc (suc (suc zero))))))) life body h b = absurd (without h refl b)
-the_event (suc (suc (suc (suc (suc (suc (suc (suc zero)))))))) life body h b = absurd (without h refl b)
-the_event (suc (suc (suc (suc (suc (suc (suc (suc (suc zero))))))))) life body h b = absurd (without h refl b)
-the_event (suc (suc (suc (suc (suc (suc (suc (suc (suc (suc zero)))))))))) life body h b = absurd (without h refl b)
-the_event (suc (suc (suc (suc (suc (suc (suc (suc (suc (suc (suc zero))))))))))) life body h b = absurd (without h refl b)
-the_event (suc (suc (suc (suc (suc (suc (suc (suc (suc (suc (suc (suc e)))))))))))) life body h b = absurd (none-some life h)
-
--- the event at a place, of the one activity
-record AtEvent (c e : ℕ) (life : LifeEvent) (body : Option ℕ) : Type 0 where
-  component : 0 ≡ c
-  is_event : slice_get (life_events Activity) e ≡ Some life
-  is_body : life_body smallest_app main_class life ≡ body
-
-at_event : {c e : ℕ} {class : Name} {life : LifeEvent} {body : Option ℕ} → LifeEventAt smallest_app c e class life body → AtEvent c e life body
-at_event {c} {e} {class} {life} {body} at =
-    let is = is_the_activity c at.component at.there in
-    let same_class : main_class ≡ class = ap (λ (x : ComponentOf). x.class) is.1 ∙ at.of_class in
-    record {
-      component = sym is.0;
-      is_event = subst (λ (x : ComponentOf). slice_get (life_events x.kind) e ≡ Some life) (sym is.1) at.is_event.there;
-      is_body = subst (λ (x : Name). life_body smallest_app x life ≡ body) (sym same_class) at.is_body;
-    }
-
+-- What begins with `onCreate`, and the states of the activity.
 live_to : {c e : ℕ} {class : Name} {life : LifeEvent} {body : Option ℕ} → LifeEventAt smallest_app c e class life body → Listed (row.Live c life.to)
 live_to {c} {e} {class} {life} at = let is = at_event at in subst (λ x. Listed (row.Live x life.to)) is.component (is_live (to_below e life is.is_event))
-
--- What begins with `onCreate`.
-abbrev the_method : Method
-the_method = record { at = record { class = main_class; name = codes "onCreate"; proto = record { params = codes "Landroid/os/Bundle;" ∷ []; ret = codes "V" } }; is_static = false; is_native = false; registers = 2; ins = 2; steps = the_step ∷ [] }
-
-is_the_method : (m : Method) → slice_get smallest_app.methods 0 ≡ Some m → the_method ≡ m
-unfolding smallest_app
-is_the_method m e = cc
-
-first_parameter : (i : ℕ) (type : Name) → parameter_type the_method.at.proto.params i ≡ Some type → 1 ≡ i
-first_parameter zero type e = absurd (none-some type e)
-first_parameter (suc zero) type e = refl
-first_parameter (suc (suc i)) type e = absurd (none-some type e)
-
-register_of : (index z : ℕ) → IsAt (layout the_method.at.proto.params) index 1 → z ≡ (2 - 2) + index → 1 ≡ z
-unfolding layout is_wide
-register_of zero z at e = absurd (let h : ◌≡◌ {A = Option ℕ} (Some 0) (Some 1) = at.there in let none : ⊥ = cc in none)
-register_of (suc zero) z at e = sym e
-register_of (suc (suc index)) z at e = absurd (none-some 1 at.there)
 
 begun : {r : Row} → Begins smallest_app (ctx.Row 0 1) 0 [] r → Listed r
 begun (begin_reached code) = is_reached
@@ -220,21 +97,6 @@ receiver_at {c} {e} {body} {z} {class} {life} at reg =
     let second = subst (λ x. Listed (row.Points (entry (activation_in (ctx.Row 0 1) x)) z (Component 0))) event.1 first in
     let third = subst (λ x. Listed (row.Points (entry (activation_in (ctx.Row 0 x) body)) z (Component 0))) event.0 second in
     subst (λ x. Listed (row.Points (entry (activation_in (ctx.Row x e) body)) z (Component x))) is.component third
-
--- Nothing else comes: there are no callbacks, clicks and initialisers.
-none_comes : {c body : ℕ} {k : Ctx} {sources : List (ℕ × ℕ)} → ComesToLive smallest_app no_lists c k body sources → ⊥
-unfolding smallest_app no_lists
-none_comes (by_callback at) = none-some at.callback at.is_row.there
-none_comes (by_click at) = none-some at.name at.is_click.there
-
-has_no_initialiser : initialisers_from smallest_app main_class ≡ []
-unfolding initialisers_from initialiser_of initialiser_name initialiser_proto up method_of smallest_app
-has_no_initialiser = refl
-
-no_initialiser : {c body : ℕ} → InitialiserAt smallest_app c body → ⊥
-no_initialiser {c} {body} at =
-    let is = is_the_activity c at.component at.there in
-    subst (λ xs. In body xs) has_no_initialiser (subst (λ (x : ComponentOf). In body (initialisers_from smallest_app x.class)) (sym is.1) at.is_one)
 
 -- Rules 1 to 13: the one step goes nowhere and does nothing else.
 closed_local : {rule : ℕ} {premises : List Row} {r : Row} → LocalRule smallest_app rule premises r → Each Listed premises → Listed r
