@@ -20,7 +20,7 @@ use Rattle.dex_maker.specs.File.{params_bytes, data_at, params_data, class_begin
 use Rattle.dex_round_trip.specs.Costs.{body_cost, class_cost, code_cost, try_cost}
 use Rattle.dex_round_trip.proofs.CodeReads.{length_u2s}
 use Rattle.dex_round_trip.proofs.TryReads.{groups_short, handler_short, items_bytes}
-use Rattle.dex_round_trip.proofs.FileReads.{file_length}
+use Rattle.dex_round_trip.proofs.FileParts.{file_length}
 use Rattle.dex_round_trip.proofs.IdTables.{params_in}
 
 padding_short : (n : ℕ) → length (padding_of n) ≤ 3

@@ -2,6 +2,7 @@ pub mod ClassDataReads
 pub mod ClassRows
 pub mod CodeReads
 pub mod Extensions
+pub mod FileParts
 pub mod FileReads
 pub mod FileSize
 pub mod Fits
