@@ -13,6 +13,7 @@ use vet_base::{Seq, Stop};
 const CLASS_DATA: u32 = 400_000;
 
 /// A walk along members: where the next one stands, the sum of the index differences of its list, and the totals.
+/// Behind the last member of a list the next list begins, whose differences begin anew at 0.
 #[derive(Clone, Copy)]
 pub struct Walk {
     pub at: u32,
@@ -84,18 +85,13 @@ fn members_of(
     fields: u32,
     class: u32,
     count: u32,
-    at: u32,
-    totals: Totals,
+    before: Walk,
 ) -> Result<(Seq<Member>, Walk), ReadError>
     requires { length file.now < 2 ^ 32 }
-    ensures { Gives (λ x. x) result (members_at file.now fields class count at totals) }
+    ensures { Gives (λ x. x) result (members_at file.now fields class count before.at before.totals) }
 {
     let mut members = Vec::new(alloc);
-    let mut walk = Walk {
-        at,
-        index: 0,
-        totals,
-    };
+    let mut walk = Walk { index: 0, ..before };
     for _ in 0..count {
         let (member, next) = member_of(file, fields, class, walk)?;
         members.push(member)?;
@@ -131,18 +127,13 @@ fn bodies_of(
     sizes: Sizes,
     class: u32,
     count: u32,
-    at: u32,
-    totals: Totals,
+    before: Walk,
 ) -> Result<(Seq<Body>, Walk), ReadError>
     requires { length file.now < 2 ^ 32 }
-    ensures { Gives (λ x. x) result (bodies_at file.now sizes class count at totals) }
+    ensures { Gives (λ x. x) result (bodies_at file.now sizes class count before.at before.totals) }
 {
     let mut bodies = Vec::new(alloc);
-    let mut walk = Walk {
-        at,
-        index: 0,
-        totals,
-    };
+    let mut walk = Walk { index: 0, ..before };
     for _ in 0..count {
         let (body, next) = body_of(alloc, file, sizes, class, walk)?;
         bodies.push(body)?;
@@ -183,10 +174,15 @@ fn some_class_data_of(
 {
     let n = counts_of(file, offset)?;
     let fields = sizes.fields;
-    let (statics, to) = members_of(alloc, file, fields, class, n.statics, n.at, totals)?;
-    let (instances, to) = members_of(alloc, file, fields, class, n.instances, to.at, to.totals)?;
-    let (directs, to) = bodies_of(alloc, file, sizes, class, n.directs, to.at, to.totals)?;
-    let (virtuals, to) = bodies_of(alloc, file, sizes, class, n.virtuals, to.at, to.totals)?;
+    let begin = Walk {
+        at: n.at,
+        index: 0,
+        totals,
+    };
+    let (statics, to) = members_of(alloc, file, fields, class, n.statics, begin)?;
+    let (instances, to) = members_of(alloc, file, fields, class, n.instances, to)?;
+    let (directs, to) = bodies_of(alloc, file, sizes, class, n.directs, to)?;
+    let (virtuals, to) = bodies_of(alloc, file, sizes, class, n.virtuals, to)?;
     let found = ClassData {
         statics,
         instances,

@@ -6,7 +6,7 @@ use crate::fault::{Fault, Limit, ReadError, Table};
 use crate::header::Section;
 use crate::parts::{test_index, u4_of};
 use crate::place::Place;
-use crate::type_lists::{Owner, type_list_of};
+use crate::type_lists::{NamedList, type_list_of};
 use std::alloc::Global;
 use vet_base::{Seq, Stop};
 
@@ -74,16 +74,17 @@ fn class_row_of(
     requires { length file.now < 2 ^ 32 }
     ensures { Gives (λ x. x) result (class_row file.now types table row place) }
 {
-    let owner = Owner {
-        table: Table::ClassDefs,
-        row,
-    };
     let (class, at) = u4_of(file, place.at, table)?;
-    test_index(class, types, owner.table, row)?;
+    test_index(class, types, Table::ClassDefs, row)?;
     let (flags, at) = u4_of(file, at, table)?;
     let (superclass, at) = superclass_at_of(file, types, table, row, at)?;
-    let (list, at) = u4_of(file, at, table)?;
-    let (interfaces, total) = type_list_of(alloc, file, types, owner, list, place.total)?;
+    let (offset, at) = u4_of(file, at, table)?;
+    let list = NamedList {
+        table: Table::ClassDefs,
+        row,
+        at: offset,
+    };
+    let (interfaces, total) = type_list_of(alloc, file, types, list, place.total)?;
     if row >= CLASS_DEFS {
         return Err(Stop::Fault(Fault::TooMany(Limit::ClassDefs)));
     }

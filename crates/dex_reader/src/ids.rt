@@ -7,7 +7,7 @@ use crate::fault::{ReadError, Table};
 use crate::header::Section;
 use crate::parts::{test_index, u2_of, u4_of};
 use crate::place::{Place, Sizes};
-use crate::type_lists::{Owner, type_list_of};
+use crate::type_lists::{NamedList, type_list_of};
 use std::alloc::Global;
 use vet_base::Seq;
 
@@ -64,12 +64,13 @@ fn proto_of(
     test_index(shorty, sizes.strings, Table::ProtoIds, row)?;
     let (ret, at) = u4_of(file, at, table)?;
     test_index(ret, sizes.types, Table::ProtoIds, row)?;
-    let (list, at) = u4_of(file, at, table)?;
-    let owner = Owner {
+    let (offset, at) = u4_of(file, at, table)?;
+    let list = NamedList {
         table: Table::ProtoIds,
         row,
+        at: offset,
     };
-    let (params, total) = type_list_of(alloc, file, sizes.types, owner, list, place.total)?;
+    let (params, total) = type_list_of(alloc, file, sizes.types, list, place.total)?;
     Ok((ProtoId { ret, params }, Place { at, total }))
 }
 

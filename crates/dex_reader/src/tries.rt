@@ -73,11 +73,20 @@ fn try_items_of(
     Ok((items, place))
 }
 
+/// The handlers of a code item, by rising offsets: where their list begins, and where it ends.
+#[derive(Clone, Copy)]
+struct HandlerList<'a> {
+    begin: u32,
+    end: u32,
+    handlers: &'a [Handler],
+}
+
 /// The handler that begins at an offset, by halving.
-fn handler_in(handlers: &[Handler], end: u32, at: u64) -> Option<&Handler>
-    requires { AreRising handlers.now end }
-    ensures { option_copied result ≡ handler_at at handlers.now }
+fn handler_in<'a>(list: HandlerList<'a>, at: u64) -> Option<&'a Handler>
+    requires { AreRising list.handlers.now list.end }
+    ensures { option_copied result ≡ handler_at at list.entry.handlers.now }
 {
+    let handlers = list.handlers;
     match handlers.binary_search_by_key(&at, |handler| u64::from(handler.at)) {
         Ok(i) => Some(&handlers[i]),
         Err(_) => None,
@@ -86,18 +95,16 @@ fn handler_in(handlers: &[Handler], end: u32, at: u64) -> Option<&Handler>
 
 #[tactic(auto, unfolding(crate::specs::Tries::try_of), using(vet_base::proofs::Scripts::run_bind))]
 fn raw_try_of(
-    handlers: &[Handler],
-    end: u32,
-    list: u32,
+    list: HandlerList<'_>,
     code: u32,
     item: &TryItem,
     total: u32,
 ) -> Result<(RawTry, u32), ReadError>
-    requires { AreRising handlers.now end }
-    ensures { Gives (λ x. x) result (try_of handlers.now list code item.now total) }
+    requires { AreRising list.handlers.now list.end }
+    ensures { Gives (λ x. x) result (try_of list.entry.handlers.now list.entry.begin code item.now total) }
 {
-    let at = u64::from(list) + u64::from(item.handler);
-    let Some(handler) = handler_in(handlers, end, at) else {
+    let at = u64::from(list.begin) + u64::from(item.handler);
+    let Some(handler) = handler_in(list, at) else {
         return Err(Stop::Fault(Fault::Index(Table::Tries, code)));
     };
     let pairs = handler.pairs.as_slice();
@@ -117,20 +124,18 @@ fn raw_try_of(
 #[tactic(auto, unfolding(crate::specs::Tries::joined_at), using(vet_base::proofs::Scripts::walk_begins, vet_base::proofs::Scripts::walk_goes_on_at, vet_base::proofs::Scripts::walk_fails_at, vet_base::proofs::Scripts::walk_is_done))]
 fn joined_of(
     alloc: Global,
-    handlers: &[Handler],
-    end: u32,
-    list: u32,
+    list: HandlerList<'_>,
     code: u32,
     items: &[TryItem],
     begin: u32,
 ) -> Result<(Shared<RawTry>, u32), ReadError>
-    requires { AreRising handlers.now end }
-    ensures { Gives (λ x. x) result (joined_at handlers.now list code items.now begin) }
+    requires { AreRising list.handlers.now list.end }
+    ensures { Gives (λ x. x) result (joined_at list.entry.handlers.now list.entry.begin code items.now begin) }
 {
     let mut tries = Vec::with_capacity(alloc, items.len())?;
     let mut total = begin;
     for item in items {
-        let (found, sum) = raw_try_of(handlers, end, list, code, item, total)?;
+        let (found, sum) = raw_try_of(list, code, item, total)?;
         tries.push(found)?;
         total = sum;
     }
@@ -166,14 +171,19 @@ fn some_tries_of(
         at: begin as u32,
         total,
     };
-    let (items, list) = try_items_of(alloc, file, code, u32::from(head.tries), place)?;
-    let (size, at) = uleb_of(file, list.at)?;
+    let (items, behind) = try_items_of(alloc, file, code, u32::from(head.tries), place)?;
+    let (size, at) = uleb_of(file, behind.at)?;
     let place = Place {
         at,
-        total: list.total,
+        total: behind.total,
     };
     let (handlers, end) = handlers_of(alloc, file, types, code, size, place)?;
-    joined_of(alloc, &handlers, end.at, list.at, code, &items, end.total)
+    let list = HandlerList {
+        begin: behind.at,
+        end: end.at,
+        handlers: handlers.as_slice(),
+    };
+    joined_of(alloc, list, code, &items, end.total)
 }
 
 /// The try items of a code item, each with its handler, and the running total behind them.

@@ -4,4 +4,4 @@ use Rattle.vet_base.proofs.Repeats.{Repeats}
 use Rattle.dex_reader.proofs.type_lists.entries_of.Given as goal
 
 abbrev pub invariant-loop : goal.invariant-loop
-invariant-loop l = Repeats l.size l.counter (entry_row l.file l.types l.owner.table l.owner.row l.list) l.entries.items l.place (run (entries_at l.file l.types l.owner.table l.owner.row l.list l.size l.fn.begin))
+invariant-loop l = Repeats l.size l.counter (entry_row l.file l.types l.list.table l.list.row l.list.at) l.entries.items l.place (run (entries_at l.file l.types l.list.table l.list.row l.list.at l.size l.fn.begin))
