@@ -8,7 +8,9 @@ use crate::{EXCEPTION, RESULT, RETURNING, THROWING};
 use app_machine::{App, Step};
 use app_model::step_at;
 use fact_rows::{Activation, Node, Row};
-use rule_ground::{Conclusion, Content, Facts, Join, Key, Premises, Sink, for_each_hit, put_each};
+use rule_ground::{
+    Conclusion, Content, Facts, Inference, Join, Key, Premises, Sink, for_each_hit, put_each,
+};
 
 /// What is returned is the result behind the step that called.
 fn hand_back<S: Sink>(
@@ -23,16 +25,11 @@ fn hand_back<S: Sink>(
     match step {
         None => Ok(()),
         Some(step) => {
-            let premises = Premises::Two(content.leaves(by, RETURNING), Row::CalledBy(by, node));
-            put_each(
-                25,
-                premises,
-                content,
-                node,
-                RESULT,
-                step.next.as_slice(),
-                out,
-            )
+            let inference = Inference {
+                rule: 25,
+                premises: Premises::Two(content.leaves(by, RETURNING), Row::CalledBy(by, node)),
+            };
+            put_each(inference, content, node, RESULT, step.next.as_slice(), out)
         }
     }
 }
@@ -50,10 +47,12 @@ fn catch<S: Sink>(
     match step {
         None => Ok(()),
         Some(step) => {
-            let premises = Premises::Two(content.leaves(by, THROWING), Row::CalledBy(by, node));
+            let inference = Inference {
+                rule: 26,
+                premises: Premises::Two(content.leaves(by, THROWING), Row::CalledBy(by, node)),
+            };
             put_each(
-                26,
-                premises,
+                inference,
                 content,
                 node,
                 EXCEPTION,

@@ -9,7 +9,9 @@ use access_path::{Path, cut, rest};
 use app_parts::CallResult;
 use fact_rows::Row;
 use library_ground::LibraryCall;
-use rule_ground::{Content, Facts, Join, Key, Premises, Sink, for_each_candidate, put_each};
+use rule_ground::{
+    Content, Facts, Inference, Join, Key, Premises, Sink, for_each_candidate, put_each,
+};
 
 /// A value of a position, and what its object is known to hold.
 #[derive(Clone, Copy)]
@@ -30,7 +32,8 @@ pub fn give_result<S: Sink>(
 ) -> Result<(), S::Refusal>
     ensures { OnOk result (out.new ≡ fold S.then out.old (results rule premises content (shown_call call.now))) }
 {
-    put_each(rule, premises, content, call.node, RESULT, call.next, out)
+    let inference = Inference { rule, premises };
+    put_each(inference, content, call.node, RESULT, call.next, out)
 }
 
 /// The result has the label, and of a reference type holds it as an element.

@@ -7,7 +7,8 @@ use app_machine::{Act, Step};
 use app_parts::writes;
 use fact_rows::{Node, Row};
 use rule_ground::{
-    Conclusion, Content, Facts, Join, Key, Premises, Sink, for_each_hit, put_all, put_each,
+    Conclusion, Content, Facts, Inference, Join, Key, Premises, Sink, for_each_hit, put_all,
+    put_each,
 };
 use vet_base::KeyId;
 
@@ -21,11 +22,13 @@ fn keep<S: Sink>(
 ) -> Result<(), S::Refusal>
     ensures { OnOk result (out.new ≡ fold S.then out.old (keeps step.now node register content)) }
 {
-    let premises = Premises::One(content.held(node, register));
+    let inference = Inference {
+        rule: 2,
+        premises: Premises::One(content.held(node, register)),
+    };
     if !writes(&step.act, register) {
         put_each(
-            2,
-            premises,
+            inference,
             content,
             node,
             register,
@@ -35,8 +38,7 @@ fn keep<S: Sink>(
     }
     if register != EXCEPTION {
         put_each(
-            2,
-            premises,
+            inference,
             content,
             node,
             register,
@@ -63,7 +65,8 @@ fn throw<S: Sink>(
         premises,
         row: content.leaves(node.by, 1),
     })?;
-    put_each(11, premises, content, node, EXCEPTION, catches, out)
+    let inference = Inference { rule: 11, premises };
+    put_each(inference, content, node, EXCEPTION, catches, out)
 }
 
 /// The content goes to registers, to a static or out of the activation.
@@ -77,39 +80,17 @@ fn pass<S: Sink>(
     ensures { OnOk result (out.new ≡ fold S.then out.old (passes step.now.act step.now.next step.now.catches node register content)) }
 {
     let premises = Premises::One(content.held(node, register));
+    let moved = Inference { rule: 3, premises };
+    let next = step.next.as_slice();
     match &step.act {
         Act::Move(targets, from) if *from == register => {
-            put_all(
-                3,
-                premises,
-                content,
-                node,
-                targets.as_slice(),
-                step.next.as_slice(),
-                out,
-            )
+            put_all(moved, content, node, targets.as_slice(), next, out)
         }
         Act::TakeResult(targets) if register == RESULT => {
-            put_all(
-                3,
-                premises,
-                content,
-                node,
-                targets.as_slice(),
-                step.next.as_slice(),
-                out,
-            )
+            put_all(moved, content, node, targets.as_slice(), next, out)
         }
         Act::TakeException(target) if register == EXCEPTION => {
-            put_each(
-                3,
-                premises,
-                content,
-                node,
-                *target,
-                step.next.as_slice(),
-                out,
-            )
+            put_each(moved, content, node, *target, next, out)
         }
         Act::PutStatic(field, from) if *from == register => {
             out.put(Conclusion {

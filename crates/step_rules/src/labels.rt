@@ -9,7 +9,7 @@ use access_path::{Path, cut, rest};
 use app_machine::{Act, App, Step};
 use app_model::step_at;
 use fact_rows::{Node, Row};
-use rule_ground::{Content, Facts, Premises, Sink, is_among, put_all, put_each};
+use rule_ground::{Content, Facts, Inference, Premises, Sink, is_among, put_all, put_each};
 use vet_base::KeyId;
 
 fn is_bare_path(path: Path) -> bool
@@ -34,10 +34,12 @@ fn got<S: Sink>(
     match left {
         None => Ok(()),
         Some(shorter) => {
-            let premises = Premises::One(Row::Taint(node, register, path, label));
+            let inference = Inference {
+                rule: 7,
+                premises: Premises::One(Row::Taint(node, register, path, label)),
+            };
             put_all(
-                7,
-                premises,
+                inference,
                 Content::Label(shorter, label),
                 node,
                 targets,
@@ -63,10 +65,11 @@ fn label_alone<S: Sink>(
     match &step.act {
         Act::Join(targets, sources) => {
             if is_among(sources.as_slice(), register) && is_bare_path(path) {
+                let joined = Inference { rule: 4, premises };
+                let bare = Content::Label(Path::empty(), label);
                 put_all(
-                    4,
-                    premises,
-                    Content::Label(Path::empty(), label),
+                    joined,
+                    bare,
                     node,
                     targets.as_slice(),
                     step.next.as_slice(),
@@ -79,7 +82,8 @@ fn label_alone<S: Sink>(
         Act::Fill(elements, _) => {
             if is_among(elements.as_slice(), register) {
                 let inner = Content::Label(cut(KeyId(0), &path), label);
-                put_each(6, premises, inner, node, RESULT, step.next.as_slice(), out)
+                let filled = Inference { rule: 6, premises };
+                put_each(filled, inner, node, RESULT, step.next.as_slice(), out)
             } else {
                 Ok(())
             }

@@ -8,7 +8,8 @@ use app_machine::{Act, App, Step};
 use app_model::step_at;
 use fact_rows::{Node, Row, Site};
 use rule_ground::{
-    Conclusion, Content, Facts, Join, Key, Premises, Sink, for_each_hit, is_among, put_all,
+    Conclusion, Content, Facts, Inference, Join, Key, Premises, Sink, for_each_hit, is_among,
+    put_all,
 };
 use vet_base::KeyId;
 
@@ -30,16 +31,13 @@ impl<'a> Join for Got<'a> {
     fn give<S: Sink>(&self, row: Row, out: &mut S) -> Result<(), S::Refusal> {
         match row {
             Row::Cell(_, _, held) => {
-                let premises = Premises::Two(Row::Points(self.node, self.register, self.site), row);
-                put_all(
-                    7,
-                    premises,
-                    Content::Object(held),
-                    self.node,
-                    self.targets,
-                    self.next,
-                    out,
-                )
+                let object = Row::Points(self.node, self.register, self.site);
+                let inference = Inference {
+                    rule: 7,
+                    premises: Premises::Two(object, row),
+                };
+                let held = Content::Object(held);
+                put_all(inference, held, self.node, self.targets, self.next, out)
             }
             _ => Ok(()),
         }
@@ -193,14 +191,17 @@ fn get<S: Sink>(
     match &step.act {
         Act::Get(targets, from, own) => {
             if *from == register && own.0 == key.0 {
-                let premises = Premises::Two(
-                    Row::Points(node, register, site),
-                    Row::Cell(site, key, held),
-                );
+                let inference = Inference {
+                    rule: 7,
+                    premises: Premises::Two(
+                        Row::Points(node, register, site),
+                        Row::Cell(site, key, held),
+                    ),
+                };
+                let held = Content::Object(held);
                 put_all(
-                    7,
-                    premises,
-                    Content::Object(held),
+                    inference,
+                    held,
                     node,
                     targets.as_slice(),
                     step.next.as_slice(),

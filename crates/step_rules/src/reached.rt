@@ -8,7 +8,7 @@ use crate::statics::read_statics;
 use app_machine::{Act, App};
 use app_model::step_at;
 use fact_rows::{Node, Row, Site};
-use rule_ground::{Conclusion, Content, Facts, Premises, Sink, put_each};
+use rule_ground::{Conclusion, Content, Facts, Inference, Premises, Sink, put_each};
 use rule_nodes::at_pc;
 
 /// Control goes on to each of the pcs.
@@ -30,10 +30,13 @@ fn make<S: Sink>(act: &Act, next: &[u32], node: Node, out: &mut S) -> Result<(),
     ensures { OnOk result (out.new ≡ fold S.then out.old (made act.now next.now node)) }
 {
     let made = Content::Object(Site::At(node));
-    let premises = Premises::One(Row::Reached(node));
+    let inference = Inference {
+        rule: 5,
+        premises: Premises::One(Row::Reached(node)),
+    };
     match act {
-        Act::New(target, _) => put_each(5, premises, made, node, *target, next, out),
-        Act::Fill(_, _) => put_each(5, premises, made, node, RESULT, next, out),
+        Act::New(target, _) => put_each(inference, made, node, *target, next, out),
+        Act::Fill(_, _) => put_each(inference, made, node, RESULT, next, out),
         _ => Ok(()),
     }
 }

@@ -6,7 +6,7 @@ ghost use Rattle.step_rules.specs.StepGiven.{reads, reader_gives, reader_takes, 
 use app_machine::{Act, App, Step};
 use app_model::step_at;
 use fact_rows::{Node, Row};
-use rule_ground::{Content, Facts, Join, Key, Premises, Sink, for_each_hit, put_all};
+use rule_ground::{Content, Facts, Inference, Join, Key, Premises, Sink, for_each_hit, put_all};
 use static_readers::{Reader, StaticReaders};
 
 /// The targets of a read of the static hold its content.
@@ -23,8 +23,11 @@ fn read<S: Sink>(
     match act {
         Act::GetStatic(targets, own) => {
             if *own == number {
-                let premises = Premises::Two(Row::Reached(node), content.held_static(number));
-                put_all(9, premises, content, node, targets.as_slice(), next, out)
+                let inference = Inference {
+                    rule: 9,
+                    premises: Premises::Two(Row::Reached(node), content.held_static(number)),
+                };
+                put_all(inference, content, node, targets.as_slice(), next, out)
             } else {
                 Ok(())
             }
