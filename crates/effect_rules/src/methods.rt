@@ -8,29 +8,38 @@ use app_model::event_rows;
 use fact_rows::{Activation, Ctx, Node, Row, Site};
 use rule_ground::{Conclusion, Facts, Join, Key, Premises, Sink, for_each_hit};
 
+/// An effect of an activation on objects of a site.
+#[derive(Clone, Copy)]
+pub struct MethodEffect {
+    pub by: Activation,
+    pub site: Site,
+    pub path: Path,
+    pub label: u8,
+}
+
+impl MethodEffect {
+    fn row(&self) -> Row
+        ensures { result ≡ Row.MethodEffect self.now.by self.now.site self.now.path self.now.label }
+    {
+        Row::MethodEffect(self.by, self.site, self.path, self.label)
+    }
+}
+
 /// Who enters the activation has its effect.
 #[derive(Drop)]
-struct Callers {
-    by: Activation,
-    site: Site,
-    path: Path,
-    label: u8,
-}
+struct Callers(MethodEffect);
 
 impl Join for Callers {
     ghost ready = { λ j. Unit {0} };
 
-    ghost gives = { λ j row. caller_has j.by j.site j.path j.label row };
+    ghost gives = { λ j row. caller_has j.0.by j.0.site j.0.path j.0.label row };
 
     fn give<S: Sink>(&self, row: Row, out: &mut S) -> Result<(), S::Refusal> {
         match row {
             Row::CalledBy(_, node) => out.put(Conclusion {
                 rule: 17,
-                premises: Premises::Two(
-                    Row::MethodEffect(self.by, self.site, self.path, self.label),
-                    row,
-                ),
-                row: Row::Effect(node, self.site, self.path, self.label),
+                premises: Premises::Two(self.0.row(), row),
+                row: Row::Effect(node, self.0.site, self.0.path, self.0.label),
             }),
             _ => Ok(()),
         }
@@ -74,16 +83,31 @@ fn state_after(app: &App, component: u32, event: u32) -> Option<u8>
     }
 }
 
-/// The component holds it in the state, where it is there.
-fn comes_to<S: Sink>(
-    to: Option<u8>,
+/// An effect of an activation on a component.
+#[derive(Clone, Copy)]
+struct ComponentEffect {
     by: Activation,
     component: u32,
     path: Path,
     label: u8,
-    out: &mut S,
-) -> Result<(), S::Refusal>
-    ensures { OnOk result (out.new ≡ fold S.then out.old (own_to to by component path label)) }
+}
+
+impl ComponentEffect {
+    fn row(&self) -> Row
+        ensures { result ≡ Row.MethodEffect self.now.by (Site.Component self.now.component) self.now.path self.now.label }
+    {
+        Row::MethodEffect(
+            self.by,
+            Site::Component(self.component),
+            self.path,
+            self.label,
+        )
+    }
+}
+
+/// The component holds it in the state, where it is there.
+fn comes_to<S: Sink>(to: Option<u8>, effect: ComponentEffect, out: &mut S) -> Result<(), S::Refusal>
+    ensures { OnOk result (out.new ≡ fold S.then out.old (own_to to effect.by effect.component effect.path effect.label)) }
 {
     match to {
         None => Ok(()),
@@ -93,13 +117,8 @@ fn comes_to<S: Sink>(
             } else {
                 out.put(Conclusion {
                     rule: 20,
-                    premises: Premises::One(Row::MethodEffect(
-                        by,
-                        Site::Component(component),
-                        path,
-                        label,
-                    )),
-                    row: Row::CompTaint(component, to, path, label),
+                    premises: Premises::One(effect.row()),
+                    row: Row::CompTaint(effect.component, to, effect.path, effect.label),
                 })
             }
         }
@@ -107,27 +126,13 @@ fn comes_to<S: Sink>(
 }
 
 /// The effect of an event in the component's own life.
-fn own<S: Sink>(
-    app: &App,
-    by: Activation,
-    component: u32,
-    path: Path,
-    label: u8,
-    out: &mut S,
-) -> Result<(), S::Refusal>
-    ensures { OnOk result (out.new ≡ fold S.then out.old (own_gives app.now by.ctx by component path label)) }
+fn own<S: Sink>(app: &App, effect: ComponentEffect, out: &mut S) -> Result<(), S::Refusal>
+    ensures { OnOk result (out.new ≡ fold S.then out.old (own_gives app.now effect.by.ctx effect.by effect.component effect.path effect.label)) }
 {
-    match by.ctx {
+    match effect.by.ctx {
         Ctx::Row(own, event) => {
-            if own == component {
-                comes_to(
-                    state_after(app, component, event),
-                    by,
-                    component,
-                    path,
-                    label,
-                    out,
-                )
+            if own == effect.component {
+                comes_to(state_after(app, effect.component, event), effect, out)
             } else {
                 Ok(())
             }
@@ -149,17 +154,12 @@ fn beside(ctx: Ctx, component: u32) -> bool
 
 /// The component keeps the effect in each of its states.
 #[derive(Drop)]
-struct States {
-    by: Activation,
-    component: u32,
-    path: Path,
-    label: u8,
-}
+struct States(ComponentEffect);
 
 impl Join for States {
     ghost ready = { λ j. Unit {0} };
 
-    ghost gives = { λ j row. stays j.by j.component j.path j.label row };
+    ghost gives = { λ j row. stays j.0.by j.0.component j.0.path j.0.label row };
 
     fn give<S: Sink>(&self, row: Row, out: &mut S) -> Result<(), S::Refusal> {
         match row {
@@ -169,16 +169,8 @@ impl Join for States {
                 } else {
                     out.put(Conclusion {
                         rule: 21,
-                        premises: Premises::Two(
-                            Row::MethodEffect(
-                                self.by,
-                                Site::Component(self.component),
-                                self.path,
-                                self.label,
-                            ),
-                            row,
-                        ),
-                        row: Row::CompTaint(self.component, state, self.path, self.label),
+                        premises: Premises::Two(self.0.row(), row),
+                        row: Row::CompTaint(self.0.component, state, self.0.path, self.0.label),
                     })
                 }
             }
@@ -191,29 +183,22 @@ impl Join for States {
 fn on_component<F: Facts, S: Sink>(
     app: &App,
     facts: &F,
-    by: Activation,
-    site: Site,
-    path: Path,
-    label: u8,
+    effect: MethodEffect,
     out: &mut S,
 ) -> Result<(), S::Refusal>
-    ensures { OnOk result (out.new ≡ fold S.then out.old (component_gives app.now (F.hits facts.now) by site path label)) }
+    ensures { OnOk result (out.new ≡ fold S.then out.old (component_gives app.now (F.hits facts.now) effect.by effect.site effect.path effect.label)) }
 {
-    match site {
+    match effect.site {
         Site::Component(component) => {
-            own(app, by, component, path, label, out)?;
-            if beside(by.ctx, component) {
-                for_each_hit(
-                    facts,
-                    &Key::LivesOf(component),
-                    &States {
-                        by,
-                        component,
-                        path,
-                        label,
-                    },
-                    out,
-                )
+            let on = ComponentEffect {
+                by: effect.by,
+                component,
+                path: effect.path,
+                label: effect.label,
+            };
+            own(app, on, out)?;
+            if beside(on.by.ctx, component) {
+                for_each_hit(facts, &Key::LivesOf(component), &States(on), out)
             } else {
                 Ok(())
             }
@@ -226,26 +211,13 @@ fn on_component<F: Facts, S: Sink>(
 pub fn method_effect<F: Facts, S: Sink>(
     app: &App,
     facts: &F,
-    by: Activation,
-    site: Site,
-    path: Path,
-    label: u8,
+    effect: MethodEffect,
     out: &mut S,
 ) -> Result<(), S::Refusal>
-    ensures { OnOk result (out.new ≡ fold S.then out.old (method_gives app.now (F.hits facts.now) by site path label)) }
+    ensures { OnOk result (out.new ≡ fold S.then out.old (method_gives app.now (F.hits facts.now) effect.by effect.site effect.path effect.label)) }
 {
-    for_each_hit(
-        facts,
-        &Key::CallersOf(by),
-        &Callers {
-            by,
-            site,
-            path,
-            label,
-        },
-        out,
-    )?;
-    on_component(app, facts, by, site, path, label, out)
+    for_each_hit(facts, &Key::CallersOf(effect.by), &Callers(effect), out)?;
+    on_component(app, facts, effect, out)
 }
 
 /// The component is in the state.

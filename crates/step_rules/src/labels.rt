@@ -12,6 +12,23 @@ use fact_rows::{Node, Row};
 use rule_ground::{Content, Facts, Inference, Premises, Sink, is_among, put_all, put_each};
 use vet_base::KeyId;
 
+/// A register that may lead to a label at a node, by a path.
+#[derive(Clone, Copy)]
+pub struct Labelled {
+    pub node: Node,
+    pub register: u32,
+    pub path: Path,
+    pub label: u8,
+}
+
+impl Labelled {
+    fn row(&self) -> Row
+        ensures { result ≡ Row.Taint self.now.node self.now.register self.now.path self.now.label }
+    {
+        Row::Taint(self.node, self.register, self.path, self.label)
+    }
+}
+
 fn is_bare_path(path: Path) -> bool
     ensures { result ≡ is_bare path }
 {
@@ -19,87 +36,56 @@ fn is_bare_path(path: Path) -> bool
 }
 
 /// What is left of the path behind the key goes to the targets.
-fn got<S: Sink>(
+fn get_rest<S: Sink>(
     left: Option<Path>,
     targets: &[u32],
     next: &[u32],
-    node: Node,
-    register: u32,
-    path: Path,
-    label: u8,
+    from: Labelled,
     out: &mut S,
 ) -> Result<(), S::Refusal>
-    ensures { OnOk result (out.new ≡ fold S.then out.old (rest_gives left targets.now next.now node register path label)) }
+    ensures { OnOk result (out.new ≡ fold S.then out.old (rest_gives left targets.now next.now from.node from.register from.path from.label)) }
 {
     match left {
         None => Ok(()),
         Some(shorter) => {
             let inference = Inference {
                 rule: 7,
-                premises: Premises::One(Row::Taint(node, register, path, label)),
+                premises: Premises::One(from.row()),
             };
-            put_all(
-                inference,
-                Content::Label(shorter, label),
-                node,
-                targets,
-                next,
-                out,
-            )
+            let content = Content::Label(shorter, from.label);
+            put_all(inference, content, from.node, targets, next, out)
         }
     }
 }
 
 /// What a label gives that an object does not give so.
-fn label_alone<S: Sink>(
-    step: &Step,
-    node: Node,
-    register: u32,
-    path: Path,
-    label: u8,
-    out: &mut S,
-) -> Result<(), S::Refusal>
-    ensures { OnOk result (out.new ≡ fold S.then out.old (label_gives step.now.act step.now.next node register path label)) }
+fn label_alone<S: Sink>(step: &Step, held: Labelled, out: &mut S) -> Result<(), S::Refusal>
+    ensures { OnOk result (out.new ≡ fold S.then out.old (label_gives step.now.act step.now.next held.node held.register held.path held.label)) }
 {
-    let premises = Premises::One(Row::Taint(node, register, path, label));
+    let premises = Premises::One(held.row());
+    let next = step.next.as_slice();
     match &step.act {
         Act::Join(targets, sources) => {
-            if is_among(sources.as_slice(), register) && is_bare_path(path) {
+            if is_among(sources.as_slice(), held.register) && is_bare_path(held.path) {
                 let joined = Inference { rule: 4, premises };
-                let bare = Content::Label(Path::empty(), label);
-                put_all(
-                    joined,
-                    bare,
-                    node,
-                    targets.as_slice(),
-                    step.next.as_slice(),
-                    out,
-                )
+                let bare = Content::Label(Path::empty(), held.label);
+                put_all(joined, bare, held.node, targets.as_slice(), next, out)
             } else {
                 Ok(())
             }
         }
         Act::Fill(elements, _) => {
-            if is_among(elements.as_slice(), register) {
-                let inner = Content::Label(cut(KeyId(0), &path), label);
+            if is_among(elements.as_slice(), held.register) {
                 let filled = Inference { rule: 6, premises };
-                put_each(filled, inner, node, RESULT, step.next.as_slice(), out)
+                let inner = Content::Label(cut(KeyId(0), &held.path), held.label);
+                put_each(filled, inner, held.node, RESULT, next, out)
             } else {
                 Ok(())
             }
         }
         Act::Get(targets, from, key) => {
-            if *from == register {
-                got(
-                    rest(&path, *key),
-                    targets.as_slice(),
-                    step.next.as_slice(),
-                    node,
-                    register,
-                    path,
-                    label,
-                    out,
-                )
+            if *from == held.register {
+                get_rest(rest(&held.path, *key), targets.as_slice(), next, held, out)
             } else {
                 Ok(())
             }
@@ -109,46 +95,37 @@ fn label_alone<S: Sink>(
 }
 
 /// What a register leads that may lead to a label: what follows from it alone.
-pub fn lead_taint<S: Sink>(
-    app: &App,
-    node: Node,
-    register: u32,
-    path: Path,
-    label: u8,
-    out: &mut S,
-) -> Result<(), S::Refusal>
+pub fn lead_label<S: Sink>(app: &App, held: Labelled, out: &mut S) -> Result<(), S::Refusal>
     requires { SoundApp app.now }
-    ensures { OnOk result (out.new ≡ fold S.then out.old (taint_leads (step_here app.now node) node register path label)) }
+    ensures { OnOk result (out.new ≡ fold S.then out.old (taint_leads (step_here app.now held.node) held.node held.register held.path held.label)) }
 {
-    match step_at(app, node.by.method, node.pc) {
+    match step_at(app, held.node.by.method, held.node.pc) {
         None => Ok(()),
         Some(step) => {
-            content(step, node, register, Content::Label(path, label), out)?;
-            label_alone(step, node, register, path, label, out)
+            let label = Content::Label(held.path, held.label);
+            content(step, held.node, held.register, label, out)?;
+            label_alone(step, held, out)
         }
     }
 }
 
 /// What follows where a register may lead to a label.
-pub fn taint<F: Facts, S: Sink>(
+pub fn from_label<F: Facts, S: Sink>(
     app: &App,
     facts: &F,
-    node: Node,
-    register: u32,
-    path: Path,
-    label: u8,
+    held: Labelled,
     out: &mut S,
 ) -> Result<(), S::Refusal>
     requires { SoundApp app.now }
-    ensures { OnOk result (out.new ≡ fold S.then out.old (taint_on (step_here app.now node) (F.hits facts.now) node register path label)) }
+    ensures { OnOk result (out.new ≡ fold S.then out.old (taint_on (step_here app.now held.node) (F.hits facts.now) held.node held.register held.path held.label)) }
 {
-    match step_at(app, node.by.method, node.pc) {
+    match step_at(app, held.node.by.method, held.node.pc) {
         None => Ok(()),
         Some(step) => {
-            let held = Content::Label(path, label);
-            content(step, node, register, held, out)?;
-            label_alone(step, node, register, path, label, out)?;
-            put(facts, &step.act, node, register, held, out)
+            let label = Content::Label(held.path, held.label);
+            content(step, held.node, held.register, label, out)?;
+            label_alone(step, held, out)?;
+            put(facts, &step.act, held.node, held.register, label, out)
         }
     }
 }

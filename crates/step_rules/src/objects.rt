@@ -13,31 +13,51 @@ use rule_ground::{
 };
 use vet_base::KeyId;
 
+/// A register that may hold an object of a site at a node.
+#[derive(Clone, Copy)]
+pub struct Holding {
+    pub node: Node,
+    pub register: u32,
+    pub site: Site,
+}
+
+impl Holding {
+    fn row(&self) -> Row
+        ensures { result ≡ Row.Points self.now.node self.now.register self.now.site }
+    {
+        Row::Points(self.node, self.register, self.site)
+    }
+}
+
 /// What the object holds under the key goes to the targets.
 #[derive(Drop)]
 struct Got<'a> {
     targets: &'a [u32],
     next: &'a [u32],
-    node: Node,
-    register: u32,
-    site: Site,
+    from: Holding,
 }
 
 impl<'a> Join for Got<'a> {
     ghost ready = { λ j. Unit {0} };
 
-    ghost gives = { λ j row. got_gives j.targets.now j.next.now j.node j.register j.site row };
+    ghost gives = { λ j row. got_gives j.targets.now j.next.now j.from.node j.from.register j.from.site row };
 
     fn give<S: Sink>(&self, row: Row, out: &mut S) -> Result<(), S::Refusal> {
         match row {
             Row::Cell(_, _, held) => {
-                let object = Row::Points(self.node, self.register, self.site);
                 let inference = Inference {
                     rule: 7,
-                    premises: Premises::Two(object, row),
+                    premises: Premises::Two(self.from.row(), row),
                 };
                 let held = Content::Object(held);
-                put_all(inference, held, self.node, self.targets, self.next, out)
+                put_all(
+                    inference,
+                    held,
+                    self.from.node,
+                    self.targets,
+                    self.next,
+                    out,
+                )
             }
             _ => Ok(()),
         }
@@ -47,29 +67,27 @@ impl<'a> Join for Got<'a> {
 /// The object holds what the put's register holds.
 #[derive(Drop)]
 struct OnObject {
-    node: Node,
     key: KeyId,
-    register: u32,
-    site: Site,
+    into: Holding,
 }
 
 impl Join for OnObject {
     ghost ready = { λ j. Unit {0} };
 
-    ghost gives = { λ j row. put_on_gives j.node j.key j.register j.site row };
+    ghost gives = { λ j row. put_on_gives j.into.node j.key j.into.register j.into.site row };
 
     fn give<S: Sink>(&self, row: Row, out: &mut S) -> Result<(), S::Refusal> {
-        let premises = Premises::Two(Row::Points(self.node, self.register, self.site), row);
+        let premises = Premises::Two(self.into.row(), row);
         match row {
             Row::Points(_, _, held) => out.put(Conclusion {
                 rule: 8,
                 premises,
-                row: Row::Cell(self.site, self.key, held),
+                row: Row::Cell(self.into.site, self.key, held),
             }),
             Row::Taint(_, _, path, label) => out.put(Conclusion {
                 rule: 8,
                 premises,
-                row: Content::Label(path, label).stored(self.node, self.site, self.key),
+                row: Content::Label(path, label).stored(self.into.node, self.into.site, self.key),
             }),
             _ => Ok(()),
         }
@@ -77,52 +95,46 @@ impl Join for OnObject {
 }
 
 /// What an object gives that a label does not give so.
-fn object<F: Facts, S: Sink>(
+fn object_alone<F: Facts, S: Sink>(
     facts: &F,
     step: &Step,
-    node: Node,
-    register: u32,
-    site: Site,
+    held: Holding,
     out: &mut S,
 ) -> Result<(), S::Refusal>
-    ensures { OnOk result (out.new ≡ fold S.then out.old (object_gives (F.hits facts.now) step.now.act step.now.next node register site)) }
+    ensures { OnOk result (out.new ≡ fold S.then out.old (object_gives (F.hits facts.now) step.now.act step.now.next held.node held.register held.site)) }
 {
     match &step.act {
         Act::Fill(elements, _) => {
-            if is_among(elements.as_slice(), register) {
+            if is_among(elements.as_slice(), held.register) {
                 out.put(Conclusion {
                     rule: 6,
-                    premises: Premises::One(Row::Points(node, register, site)),
-                    row: Row::Cell(Site::At(node), KeyId(0), site),
+                    premises: Premises::One(held.row()),
+                    row: Row::Cell(Site::At(held.node), KeyId(0), held.site),
                 })
             } else {
                 Ok(())
             }
         }
         Act::Get(targets, from, key) => {
-            if *from == register {
+            if *from == held.register {
                 let with = Got {
                     targets: targets.as_slice(),
                     next: step.next.as_slice(),
-                    node,
-                    register,
-                    site,
+                    from: held,
                 };
-                for_each_hit(facts, &Key::CellsOf(site, *key), &with, out)
+                for_each_hit(facts, &Key::CellsOf(held.site, *key), &with, out)
             } else {
                 Ok(())
             }
         }
         Act::Put(into, key, from) => {
-            if *into == register {
+            if *into == held.register {
                 let with = OnObject {
-                    node,
                     key: *key,
-                    register,
-                    site,
+                    into: held,
                 };
-                for_each_hit(facts, &Key::PointsAt(node, *from), &with, out)?;
-                for_each_hit(facts, &Key::TaintsAt(node, *from), &with, out)
+                for_each_hit(facts, &Key::PointsAt(held.node, *from), &with, out)?;
+                for_each_hit(facts, &Key::TaintsAt(held.node, *from), &with, out)
             } else {
                 Ok(())
             }
@@ -133,76 +145,73 @@ fn object<F: Facts, S: Sink>(
 
 /// What a register leads that may hold an object of the site: what follows from it alone, and with
 /// what the object holds and what is put into it.
-pub fn lead_points<F: Facts, S: Sink>(
+pub fn lead_object<F: Facts, S: Sink>(
     app: &App,
     facts: &F,
-    node: Node,
-    register: u32,
-    site: Site,
+    held: Holding,
     out: &mut S,
 ) -> Result<(), S::Refusal>
     requires { SoundApp app.now }
-    ensures { OnOk result (out.new ≡ fold S.then out.old (points_lead (step_here app.now node) (F.hits facts.now) node register site)) }
+    ensures { OnOk result (out.new ≡ fold S.then out.old (points_lead (step_here app.now held.node) (F.hits facts.now) held.node held.register held.site)) }
 {
-    match step_at(app, node.by.method, node.pc) {
+    match step_at(app, held.node.by.method, held.node.pc) {
         None => Ok(()),
         Some(step) => {
-            content(step, node, register, Content::Object(site), out)?;
-            object(facts, step, node, register, site, out)
+            content(
+                step,
+                held.node,
+                held.register,
+                Content::Object(held.site),
+                out,
+            )?;
+            object_alone(facts, step, held, out)
         }
     }
 }
 
 /// What follows where a register may hold an object of the site.
-pub fn points<F: Facts, S: Sink>(
+pub fn from_object<F: Facts, S: Sink>(
     app: &App,
     facts: &F,
-    node: Node,
-    register: u32,
-    site: Site,
+    held: Holding,
     out: &mut S,
 ) -> Result<(), S::Refusal>
     requires { SoundApp app.now }
-    ensures { OnOk result (out.new ≡ fold S.then out.old (points_on (step_here app.now node) (F.hits facts.now) node register site)) }
+    ensures { OnOk result (out.new ≡ fold S.then out.old (points_on (step_here app.now held.node) (F.hits facts.now) held.node held.register held.site)) }
 {
-    match step_at(app, node.by.method, node.pc) {
+    match step_at(app, held.node.by.method, held.node.pc) {
         None => Ok(()),
         Some(step) => {
-            let held = Content::Object(site);
-            content(step, node, register, held, out)?;
-            object(facts, step, node, register, site, out)?;
-            put(facts, &step.act, node, register, held, out)
+            let object = Content::Object(held.site);
+            content(step, held.node, held.register, object, out)?;
+            object_alone(facts, step, held, out)?;
+            put(facts, &step.act, held.node, held.register, object, out)
         }
     }
 }
 
-/// The step gets what the cell holds, where it gets it from the register under the key.
-fn get<S: Sink>(
+/// The step gets what the object holds under the key, where it gets it from the register.
+fn get_held<S: Sink>(
     step: &Step,
-    node: Node,
-    register: u32,
-    site: Site,
+    from: Holding,
     key: KeyId,
     held: Site,
     out: &mut S,
 ) -> Result<(), S::Refusal>
-    ensures { OnOk result (out.new ≡ fold S.then out.old (gets step.now.act step.now.next node register site key held)) }
+    ensures { OnOk result (out.new ≡ fold S.then out.old (gets step.now.act step.now.next from.node from.register from.site key held)) }
 {
     match &step.act {
-        Act::Get(targets, from, own) => {
-            if *from == register && own.0 == key.0 {
+        Act::Get(targets, register, own) => {
+            if *register == from.register && own.0 == key.0 {
                 let inference = Inference {
                     rule: 7,
-                    premises: Premises::Two(
-                        Row::Points(node, register, site),
-                        Row::Cell(site, key, held),
-                    ),
+                    premises: Premises::Two(from.row(), Row::Cell(from.site, key, held)),
                 };
                 let held = Content::Object(held);
                 put_all(
                     inference,
                     held,
-                    node,
+                    from.node,
                     targets.as_slice(),
                     step.next.as_slice(),
                     out,
@@ -233,7 +242,14 @@ impl<'a> Join for Getter<'a> {
         match row {
             Row::Points(node, register, _) => match step_at(self.app, node.by.method, node.pc) {
                 None => Ok(()),
-                Some(step) => get(step, node, register, self.site, self.key, self.held, out),
+                Some(step) => {
+                    let from = Holding {
+                        node,
+                        register,
+                        site: self.site,
+                    };
+                    get_held(step, from, self.key, self.held, out)
+                }
             },
             _ => Ok(()),
         }
