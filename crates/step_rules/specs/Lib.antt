@@ -2,4 +2,5 @@ pub mod Complete
 pub mod Lifted
 pub mod Sound
 pub mod StepGiven
+pub mod StepListed
 pub mod StepsExact
