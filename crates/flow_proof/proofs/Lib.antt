@@ -6,6 +6,7 @@ pub mod Lasting
 pub mod Sounding
 pub mod Stepping
 pub mod Framing
+pub mod Later
 pub mod Librarian
 pub mod EventTypes
 pub mod Eventing

@@ -10,7 +10,7 @@ use Rattle.app_machine.specs.declared.call.MethodRef.{MethodRef}
 use Rattle.app_machine.specs.declared.call.CallKind.{CallKind}
 use Rattle.app_machine.specs.declared.method.Act.TheVariants.{Call}
 use Rattle.app_machine.specs.declared.summary.Gives.{Gives}
-use Rattle.app_machine.specs.declared.summary.Gives.TheVariants.{Blank, Same, Taken, Joined, Shared as SharedResult}
+use Rattle.app_machine.specs.declared.summary.Gives.TheVariants.{Joined}
 use Rattle.app_machine.specs.declared.summary.Summary.{Summary}
 use Rattle.app_machine.specs.declared.lists.Lists.{Lists}
 use Rattle.app_machine.specs.declared.lists.SummaryId.{SummaryId}
@@ -19,17 +19,16 @@ use Rattle.vet_base.specs.Members.{In, IsAt}
 use Rattle.app_machine.specs.Names.{Name, is_reference, is_void}
 use Rattle.app_machine.specs.Lookups.{Target, Library, elem_key, ActAt, Goes}
 use Rattle.app_machine.specs.Heap.{Value, Object, blank, labelled, EntryAt, Reaches, add_all, entry_of}
-use Rattle.app_machine.specs.State.{result_register, shared_static, Arrival, Component_state, World, Frame, object_at, new_object}
+use Rattle.app_machine.specs.State.{result_register, shared_static, Arrival, World, Frame, object_at, new_object}
 use Rattle.app_machine.specs.Calls.{Calls_to, by_name, by_nothing, by_class}
-use Rattle.app_machine.specs.Library.{positions, value_at, AtSink, Hands, result_shared, shared_named, shared_class, Makes_shared, all_there, is_there, is_made, Joins, joined_object, Results, of_void, as_blank, as_same, as_taken, as_shared, as_labels, as_object, Adds, by_put, by_store, by_copy, Library_call, Uses_row}
+use Rattle.app_machine.specs.Library.{positions, value_at, AtSink, Hands, result_shared, shared_named, Makes_shared, all_there, is_there, is_made, Joins, joined_object, Results, of_void, as_blank, as_same, as_taken, as_shared, as_labels, as_object, Adds, by_put, by_store, by_copy, Library_call, Uses_row}
 use Rattle.fact_rows.specs.declared.context.Ctx.{Ctx}
-use Rattle.fact_rows.specs.declared.context.Activation.{Activation}
 use Rattle.fact_rows.specs.declared.site.Site.{Site}
 use Rattle.fact_rows.specs.declared.site.Site.TheVariants.{At, Shared}
 use Rattle.fact_rows.specs.declared.row.Row.{Row}
 use Rattle.fact_rows.specs.declared.row.Row.TheVariants.{Points, Taint, Cell, StaticPoints, StaticTaint, Effect, Uses, Arrive}
 use Rattle.flow_rules.specs.Nodes.{at_pc}
-use Rattle.flow_rules.specs.Sites.{site_class, SiteClass}
+use Rattle.flow_rules.specs.Sites.{SiteClass}
 use Rattle.flow_rules.specs.EffectRules.{effect_next}
 use Rattle.flow_rules.specs.CallRules.{use_by_name, use_by_class, LooksUp, finds_row}
 use Rattle.flow_rules.specs.LibraryRules.{RowAt, places_of, hand_points, hand_taint, sink_arrives, same_points, same_taint, taken_points, taken_taint, joined_points, joined_taint, joined_element, source_taint, source_element, shared_static_points, shared_points, shared_taint, row_put_cell, row_put_effect, store_static, store_cell, store_effect, copy_cell, copy_effect}
@@ -37,62 +36,10 @@ use Rattle.flow_rules.specs.Rules.{Closed}
 use Rattle.flow_proof.proofs.HeapLaws.{EntryAt-add_all, ClassAt-add_all, length-add_all}
 use Rattle.flow_proof.proofs.Fitting.{Fits, Covered, Changed, PutFits, Touched, fits_map, fits_after, blank_fits, placeless_fits}
 use Rattle.flow_proof.proofs.Growing.{with_site, NewFits, new_fits, fits_grown}
-use Rattle.flow_proof.proofs.Knowing.{node_of, Taints, RegisterFits, SharedOnly, StaticFits, HandedFits, handed_of, ArrivalKnown, Owns, Waits, Runs, RunsPending}
+use Rattle.flow_proof.proofs.Knowing.{node_of, Taints, RegisterFits, SharedOnly, StaticFits, HandedFits, handed_of, ArrivalKnown, Runs, RunsPending}
 use Rattle.flow_proof.proofs.Lasting.{lib, cal, eff, lift_at, running_after, running_grown}
 use Rattle.flow_proof.proofs.Stepping.{class_at, running_writing, gets_fit}
-
--- The frame runs in a later heap, and what was known of values is known there.
-record Later (app : App) (lists : Lists) (has : Row → Type 0) (heap : List Object) (site : ℕ → Site) (w : World) (c : Ctx) (f : Frame) (fs : List Frame) : Type 1 where
-  sites : ℕ → Site
-  running : Runs app lists has w sites c f fs
-  stays : (v : Value) (P : Site → Type 0) (T : Path → ℕ → Type 0) → Fits heap site v P T → Fits w.heap sites v P T
-
--- and a result is known at each next node
-record WithResult (app : App) (lists : Lists) (has : Row → Type 0) (heap : List Object) (site : ℕ → Site) (w : World) (c : Ctx) (f : Frame) (fs : List Frame) (v : Value) : Type 1 where
-  later : Later app lists has heap site w c f fs
-  result : (pc : ℕ) → Goes app f.method f.pc pc → RegisterFits has (at_pc (node_of c f) pc) w.heap later.sites result_register v
-
--- the same heap, and the same components
-waits_at : {app : App} {has : Row → Type 0} {bottom : Activation} {new old : List Object} {site : ℕ → Site} {b : Activation} {i : Bool} {fs : List Frame} →
-    new ≡ old → Waits app has bottom old site b i fs → Waits app has bottom new site b i fs
-waits_at e h = rw e h
-
-owns_at : (has : Row → Type 0) (bottom : Activation) (new old : ℕ → Component_state) → new ≡ old → Owns has bottom old → Owns has bottom new
-owns_at has bottom new old e h = rw e h
-
--- the value of a position is that of its register, or a blank
-position_fits : {heap : List Object} {site : ℕ → Site} (f : Frame) (places : List ℕ) (i : ℕ) {P : Site → Type 0} {T : Path → ℕ → Type 0} →
-    ((x : ℕ) → IsAt places i x → Fits heap site (f.registers x) P T) → Fits heap site (value_at f places i) P T
-position_fits {heap} {site} f places i {P} {T} fits = go (slice_get places i) refl
-  where
-    go : (o : Option ℕ) → slice_get places i ≡ o → Fits heap site (elim o [ Some x ↦ f.registers x | None ↦ blank ]) P T
-    go None e = blank_fits _ _ _ _
-    go (Some x) e = fits x (record { there = e })
-
--- the site of a shared object has its class
-shared_site : {app : App} {lists : Lists} {i : ℕ} {class : Name} → shared_class lists i ≡ Some class → SiteClass app lists (Shared i) class
-unfolding site_class
-shared_site e = record { is_class = e }
-
--- a shared object that a store names
-stored : (stores : List (ℕ × ℕ)) (i : ℕ) → In i (map (λ (s : ℕ × ℕ). s.1) stores) → (j : ℕ) × In {A = ℕ × ℕ} (j, i) stores
-stored [] i h = absurd h
-stored (s ∷ stores) i (inl same) = (s.0, inl (rw same refl))
-stored (s ∷ stores) i (inr h) = let later = stored stores i h in (later.0, inr later.1)
-
--- and that the result names
-shared_result : (gives : Gives) (i : ℕ) → In i (result_shared gives) → gives ≡ SharedResult i
-shared_result Blank i h = absurd h
-shared_result (Same j) i h = absurd h
-shared_result (Taken j) i h = absurd h
-shared_result (Joined from) i h = absurd h
-shared_result (SharedResult j) i (inl same) = ap (λ k. SharedResult k) (sym same)
-shared_result (SharedResult j) i (inr h) = absurd h
-
-in_either : {A : Type 0} (x : A) (xs ys : List A) → In x (xs ++ ys) → In x xs ⊎ In x ys
-in_either x [] ys h = inr h
-in_either x (y ∷ xs) ys (inl e) = inl (inl e)
-in_either x (y ∷ xs) ys (inr h) = elim (in_either x xs ys h) [ inl a ↦ inl (inr a) | inr b ↦ inr b ]
+use Rattle.flow_proof.proofs.Later.{Later, WithResult, waits_at, owns_at, position_fits, shared_site, stored, shared_result, in_either}
 
 module _ (app : App) (lists : Lists) (has : Row → Type 0) (closed : Closed app lists has) (laws : PathLaws) where
   -- a new object leaves all known
