@@ -18,8 +18,9 @@ use Rattle.dex_reader.specs.Sequences.{IsLeb, Follow}
 use Rattle.dex_reader.specs.ClassesStand.{one_member, Spot, IsMember, IsBody, HasClassData, MaybeClassData}
 use Rattle.dex_reader.specs.Totals.{no_totals, plus}
 use Rattle.dex_reader.proofs.Readings.{there_ok, repeat_read, repeat_again, OneRead, ManyRead}
-use Rattle.dex_reader.proofs.TableReadings.{suc_not_zero}
-use Rattle.dex_reader.proofs.CodeReadings.{WithinTotals, same_totals, totals_add, maybe_code_is, maybe_code_again}
+use Rattle.dex_reader.proofs.Numbers.{suc_not_zero}
+use Rattle.dex_reader.proofs.RunningTotals.{WithinTotals, same_totals, totals_add}
+use Rattle.dex_reader.proofs.CodeReadings.{maybe_code_is, maybe_code_again}
 use Rattle.vet_base.proofs.Runs.{bind_ok, test_ok, bind_runs, value_is}
 
 spot : Spot → Totals → Walk

@@ -27,8 +27,9 @@ use Rattle.dex_reader.specs.ClassesStand.{one_member, Spot, IsMember, IsBody, Ma
 use Rattle.dex_reader.specs.Dex.{IsDex}
 use Rattle.dex_reader.specs.Sound.{rows_of, IsSoundProto, IsSoundField, IsSoundMethod, IsSoundTry, IsSoundCode, IsSoundMember, IfCode, IsSoundBody, IfSuperclass, IsSoundClass, code_units, tried, code_tries, body_units, body_tries, class_members, class_units, class_tries, SoundDex}
 use Rattle.dex_reader.specs.Totals.{no_totals, plus}
-use Rattle.dex_reader.proofs.TableReadings.{u4_within, u2_within}
-use Rattle.dex_reader.proofs.CodeReadings.{units_again, as_many}
+use Rattle.dex_reader.proofs.Numbers.{u4_within, u2_within}
+use Rattle.dex_reader.proofs.TryReadings.{as_many}
+use Rattle.dex_reader.proofs.CodeReadings.{units_again}
 use Rattle.std.proofs.lemmas.Option.{same_Some}
 
 -- what holds of each row that stands

@@ -1,16 +1,15 @@
 -- The rows of the id tables that are read stand in their tables, and rows that stand there are read.
-use Rattle.std.proofs.Common.{◌≡◌, ◌≢◌, ℕ, zero, suc, ◌+◌, ◌*◌, ◌<◌, ◌≤◌, true, false, List, [], ◌∷◌, ◌++◌, length, drop, take, get_or, Some, Ok, refl, sym, ap, subst, ◌∙◌, arith, length-append}
+use Rattle.std.proofs.Common.{◌≡◌, ◌≢◌, ℕ, zero, suc, ◌+◌, ◌<◌, ◌≤◌, true, false, List, [], ◌∷◌, ◌++◌, length, drop, take, get_or, Some, Ok, refl, sym, ap, subst, ◌∙◌, arith, length-append}
 use Rattle.std.proofs.lemmas.Bool.{ltb-true, lt-ltb, leb-true, le-leb, eqb-true, ne_eqb}
 use Rattle.std.proofs.lemmas.Bool.Decides.{nat_tests}
 use Rattle.std.proofs.lemmas.List.{length-take, get_or_append_left, get_or_at, get_or-take, get_or_default}
 use Rattle.std.proofs.Math.Seq.{take-append_seam}
 use Rattle.std.proofs.lemmas.List.Quantifiers.{position-Some}
-use Rattle.std.proofs.lemmas.List.Sums.{position_or_len_is, sum_by-cons}
-use Rattle.std.specs.Prelude.{nat_lt, nat_le, nat_eq, sum_by, position, ◌==◌, All}
+use Rattle.std.proofs.lemmas.List.Sums.{position_or_len_is}
+use Rattle.std.specs.Prelude.{nat_lt, nat_eq, sum_by, position, ◌==◌, All}
 use Rattle.std.specs.List.{position_or_len}
 use Rattle.vet_base.specs.Numbers.{u2, u4, uleb}
 use Rattle.vet_base.specs.Script.{run, rows, repeat}
-use Rattle.dex_reader.specs.declared.fault.Table.{Table}
 use Rattle.dex_reader.specs.declared.fault.Table.TheVariants as tables
 use Rattle.dex_reader.specs.declared.dex.ProtoId.{ProtoId}
 use Rattle.dex_reader.specs.declared.dex.FieldId.{FieldId}
@@ -19,33 +18,15 @@ use Rattle.dex_reader.specs.declared.header.Section.{Section}
 use Rattle.dex_reader.specs.declared.place.Place.{Place}
 use Rattle.dex_reader.specs.declared.place.Sizes.{Sizes}
 use Rattle.dex_reader.specs.Parts.{text_at}
-use Rattle.dex_reader.specs.TypeLists.{place, entry_row, entries_at, listed_at, type_list_at}
+use Rattle.dex_reader.specs.TypeLists.{place, type_list_at}
 use Rattle.dex_reader.specs.Tables.{string_row, strings_at, type_row, types_at, proto_row, protos_at, field_row, fields_at, method_row, methods_at}
-use Rattle.dex_reader.specs.Sequences.{Is2, Is4, RowsStand, Follow}
-use Rattle.dex_reader.specs.TablesStand.{IsText, IsName, IsType, IsTypeList, MaybeTypeList, IsProto, IsField, IsMethod}
-use Rattle.dex_reader.proofs.Readings.{there_ok, rows_stand, rows_again, follow_read, follow_again, repeat_read, repeat_again, OneRead, Adds}
+use Rattle.dex_reader.specs.Sequences.{RowsStand}
+use Rattle.dex_reader.specs.TablesStand.{IsText, IsName, IsType, IsProto, IsField, IsMethod}
+use Rattle.dex_reader.proofs.Readings.{there_ok, rows_stand, rows_again, follow_read, follow_again, repeat_read, repeat_again, OneRead}
+use Rattle.dex_reader.proofs.Numbers.{u4_is, u4_behind, u2_is, u2_behind}
+use Rattle.dex_reader.proofs.RunningTotals.{number_adds, rows_from_follow, follow_from_rows}
+use Rattle.dex_reader.proofs.TypeListReadings.{maybe_list_is, maybe_list_again}
 use Rattle.vet_base.proofs.Runs.{bind_ok, test_ok, bind_runs, value_is}
-
--- a number that is there ends where its bytes do
-pub u4_is : (file : List ℕ) (at : ℕ) (x : ℕ × ℕ) → u4 file at ≡ Some x → Is4 file at x.0 × (x.1 ≡ at + 4)
-u4_is file at x e = grind (arith, nat_tests)
-
-pub u2_is : (file : List ℕ) (at : ℕ) (x : ℕ × ℕ) → u2 file at ≡ Some x → Is2 file at x.0 × (x.1 ≡ at + 2)
-u2_is file at x e = grind (arith, nat_tests)
-
--- and lies within the file
-pub u4_within : (file : List ℕ) (at x : ℕ) → Is4 file at x → at + 4 ≤ length file
-u4_within file at x is = grind (arith, nat_tests)
-
-pub u2_within : (file : List ℕ) (at x : ℕ) → Is2 file at x → at + 2 ≤ length file
-u2_within file at x is = grind (arith, nat_tests)
-
--- the same where the offset is said otherwise
-pub u4_behind : (file : List ℕ) (at from : ℕ) (x : ℕ × ℕ) → u4 file from ≡ Some x → from ≡ at → Is4 file at x.0 × (x.1 ≡ at + 4)
-u4_behind file at from x e same = u4_is file at x (rw (← same) e)
-
-pub u2_behind : (file : List ℕ) (at from : ℕ) (x : ℕ × ℕ) → u2 file from ≡ Some x → from ≡ at → Is2 file at x.0 × (x.1 ≡ at + 2)
-u2_behind file at from x e same = u2_is file at x (rw (← same) e)
 
 type_row_is : (file : List ℕ) (sizes : Sizes) (table i at x next : ℕ) → run (type_row file sizes table i at) ≡ Ok (x, next) → IsType file sizes at x × (next ≡ at + 4)
 unfolding type_row
@@ -131,121 +112,6 @@ string_row_again file table at t x adds to is fit =
     let end : to ≡ at + 4 = is.2 in
     let below : t + length x ≤ 33554432 = omega arith in
     rw (id, len, same, end) (bind_runs (text_at file is.0.begin) x _ _ (text_again file is.0.begin x is.0.text) (rw (le-leb (t + length x) 33554432 below) refl))
-
--- a list of types, of which each entry adds one
-Listed : List ℕ → ℕ → ℕ → ℕ → ℕ → ℕ → Type 0
-Listed file types at kind adds to = (Is2 file at kind × (kind < types)) × (adds ≡ 1) × (to ≡ at + 2)
-
-entry_is : (file : List ℕ) (types : ℕ) (table : Table) (row list at t x : ℕ) (s : Place) → t ≤ 4000000 → run (entry_row file types table row list (place at t)) ≡ Ok (x, s)
-    → OneRead (λ a b. a + b) (λ a. a ≤ 4000000) (Listed file types) place at t x s
-unfolding entry_row Listed
-entry_is file types table row list at t x s fit e =
-    let a = there_ok (u2 file at) _ _ _ _ e in
-    let b = test_ok _ _ _ _ a.2 in
-    let c = test_ok _ _ _ _ b.1 in
-    let here = u2_is file at a.0 a.1 in
-    let under : t < 4000000 = ltb-true _ _ c.0 in
-    subst (λ (p : ℕ × Place). OneRead (λ a b. a + b) (λ a. a ≤ 4000000) (Listed file types) place at t p.0 p.1) (value_is _ _ c.1)
-    (record { to = a.0.1; adds = 1; stands = ((here.0, ltb-true _ _ b.0), refl, here.1); is = refl; fits = omega arith })
-
-entry_again : (file : List ℕ) (types : ℕ) (table : Table) (row list at t x adds to : ℕ) → Listed file types at x adds to → t + adds ≤ 4000000
-    → run (entry_row file types table row list (place at t)) ≡ Ok (x, place to (t + adds))
-unfolding entry_row Listed
-entry_again file types table row list at t x adds to is fit =
-    let u : u2 file at ≡ Some (x, at + 2) = is.0.0 in
-    let one : adds ≡ 1 = is.1 in
-    let end : to ≡ at + 2 = is.2 in
-    let under : t < 4000000 = omega arith in
-    rw (u, lt-ltb x types is.0.1, lt-ltb t 4000000 under, one, end) refl
-
--- how numbers are added up below a limit
-pub number_adds : (limit : ℕ) → Adds 0 (λ a b. a + b) (λ a. a ≤ limit)
-number_adds limit = record { regroup = λ a b c. omega arith; right_none = λ a. omega arith; smaller = λ a b h. omega arith }
-
--- rows of one width with a weight each
-pub rows_from_follow : {X : Type 0} (IsAt : ℕ → X → Type 0) (weight : X → ℕ) (width : ℕ) (at : ℕ) (xs : List X) (adds to : ℕ)
-    → Follow 0 (λ a b. a + b) (λ at x adds to. IsAt at x × (adds ≡ weight x) × (to ≡ at + width)) at xs adds to → RowsStand IsAt width at xs × (adds ≡ sum_by weight xs)
-rows_from_follow IsAt weight width at [] adds to stand = (tt, stand.1)
-rows_from_follow {X = X} IsAt weight width at (x ∷ xs) adds to stand =
-    let rest = rows_from_follow IsAt weight width stand.0 xs stand.2 to stand.4 in
-    let next : stand.0 ≡ at + width = stand.3.2 in
-    let one : stand.1 ≡ weight x = stand.3.1 in
-    let more : stand.2 ≡ sum_by weight xs = rest.1 in
-    let sum : adds ≡ stand.1 + stand.2 = stand.5 in
-    let whole : sum_by weight (x ∷ xs) ≡ weight x + sum_by weight xs = sum_by-cons weight x xs in
-    ((stand.3.0, subst (λ (o : ℕ). RowsStand IsAt width o xs) next rest.0), (cc))
-
-pub follow_from_rows : {X : Type 0} (IsAt : ℕ → X → Type 0) (weight : X → ℕ) (width : ℕ) (at : ℕ) (xs : List X)
-    → RowsStand IsAt width at xs → (to : ℕ) × Follow 0 (λ a b. a + b) (λ at x adds to. IsAt at x × (adds ≡ weight x) × (to ≡ at + width)) at xs (sum_by weight xs) to
-follow_from_rows IsAt weight width at [] stand = (at, (refl, refl))
-follow_from_rows IsAt weight width at (x ∷ xs) stand =
-    let rest = follow_from_rows IsAt weight width (at + width) xs stand.1 in
-    (rest.0, (at + width, weight x, sum_by weight xs, (stand.0, refl, refl), rest.1, sum_by-cons weight x xs))
-
-sum_of_ones : (xs : List ℕ) → sum_by (λ _. 1) xs ≡ length xs
-sum_of_ones [] = refl
-sum_of_ones (x ∷ xs) = let rest : sum_by (λ _. 1) xs ≡ length xs = sum_of_ones xs in sum_by-cons (λ (_ : ℕ). 1) x xs ∙ omega (arith, rest)
-
-pub list_is : (file : List ℕ) (types : ℕ) (table : Table) (row list t : ℕ) (xs : List ℕ) (u : ℕ) → t ≤ 4000000 → run (listed_at file types table row list t) ≡ Ok (xs, u)
-    → IsTypeList file types list xs × (u ≡ t + length xs) × (u ≤ 4000000)
-unfolding listed_at entries_at Listed
-list_is file types table row list t xs u fit e =
-    let a = there_ok (u4 file list) _ _ _ _ e in
-    let b = test_ok (nat_le (a.0.1 + 2 * a.0.0) (length file)) _ _ _ a.2 in
-    let c = bind_ok (entries_at file types table row list a.0.0 (place a.0.1 t)) _ _ b.1 in
-    let here = u4_is file list a.0 a.1 in
-    let read = repeat_read 0 (λ a b. a + b) (λ a. a ≤ 4000000) (Listed file types) place (entry_row file types table row list) (number_adds 4000000)
-    (λ q t x s. entry_is file types table row list q t x s) a.0.0 a.0.1 t c.0.0 c.0.1 fit c.1 in
-    let rows = rows_from_follow (λ at kind. Is2 file at kind × (kind < types)) (λ _. 1) 2 a.0.1 c.0.0 read.adds read.to read.stand in
-    let next : a.0.1 ≡ list + 4 = here.1 in
-    let ones : sum_by (λ _. 1) c.0.0 ≡ length c.0.0 = sum_of_ones c.0.0 in
-    let adds : read.adds ≡ sum_by (λ _. 1) c.0.0 = rows.1 in
-    let count : length c.0.0 ≡ a.0.0 = read.count in
-    let size : Is4 file list a.0.0 = here.0 in
-    let total : c.0.1.total ≡ t + read.adds = ap (λ (p : Place). p.total) read.is in
-    let fits : t + read.adds ≤ 4000000 = read.fits in
-    subst (λ (p : List ℕ × ℕ). IsTypeList file types list p.0 × (p.1 ≡ t + length p.0) × (p.1 ≤ 4000000)) (value_is _ _ c.2)
-    (record { size = subst (λ (n : ℕ). Is4 file list n) (sym count) size; stand = subst (λ (o : ℕ). RowsStand (λ at kind. Is2 file at kind × (kind < types)) 2 o c.0.0) next rows.0 }, (total ∙ ap (λ (n : ℕ). t + n) (adds ∙ ones)), omega arith)
-
-rows_within : (file : List ℕ) (types at : ℕ) (xs : List ℕ) → at ≤ length file → RowsStand (λ at kind. Is2 file at kind × (kind < types)) 2 at xs → at + 2 * length xs ≤ length file
-rows_within file types at [] le stand = omega arith
-rows_within file types at (x ∷ xs) le stand =
-    let next : at + 2 ≤ length file = u2_within file at x stand.0.0 in
-    let rest : at + 2 + 2 * length xs ≤ length file = rows_within file types (at + 2) xs next stand.1 in
-    omega (arith, rest)
-
-pub list_again : (file : List ℕ) (types : ℕ) (table : Table) (row list t : ℕ) (xs : List ℕ) → IsTypeList file types list xs → t + length xs ≤ 4000000
-    → run (listed_at file types table row list t) ≡ Ok (xs, t + length xs)
-unfolding listed_at entries_at Listed
-list_again file types table row list t xs is fit =
-    let size : u4 file list ≡ Some (length xs, list + 4) = is.size in
-    let within : list + 4 + 2 * length xs ≤ length file = rows_within file types (list + 4) xs (u4_within file list (length xs) size) is.stand in
-    let follow = follow_from_rows (λ at kind. Is2 file at kind × (kind < types)) (λ _. 1) 2 (list + 4) xs is.stand in
-    let ones : sum_by (λ _. 1) xs ≡ length xs = sum_of_ones xs in
-    let read = repeat_again 0 (λ a b. a + b) (λ a. a ≤ 4000000) (Listed file types) place (entry_row file types table row list) (number_adds 4000000)
-    (λ q t x adds to. entry_again file types table row list q t x adds to) (list + 4) t xs (sum_by (λ _. 1) xs) follow.0 follow.1 (rw ones fit) in
-    rw (size, le-leb (list + 4 + 2 * length xs) (length file) within)
-    (bind_runs (entries_at file types table row list (length xs) (place (list + 4) t)) (xs, place follow.0 (t + sum_by (λ _. 1) xs)) _ _ read (rw ones refl))
-
-pub suc_not_zero : (n : ℕ) → nat_eq (suc n) 0 ≡ false
-suc_not_zero n = grind (arith, nat_tests)
-
--- offset 0 and any other
-pub maybe_list_is : (file : List ℕ) (types : ℕ) (table : Table) (row list t : ℕ) (xs : List ℕ) (u : ℕ) → t ≤ 4000000 → run (type_list_at file types table row list t) ≡ Ok (xs, u)
-    → MaybeTypeList file types list xs × (u ≡ t + length xs) × (u ≤ 4000000)
-unfolding type_list_at
-maybe_list_is file types table row zero t xs u fit e =
-    subst (λ (p : List ℕ × ℕ). MaybeTypeList file types 0 p.0 × (p.1 ≡ t + length p.0) × (p.1 ≤ 4000000)) (value_is ([], t) (xs, u) e) (refl, omega arith, fit)
-maybe_list_is file types table row (suc list) t xs u fit e = list_is file types table row (suc list) t xs u fit (rw (suc_not_zero list) at e)
-
-pub maybe_list_again : (file : List ℕ) (types : ℕ) (table : Table) (row list t : ℕ) (xs : List ℕ) → MaybeTypeList file types list xs → t + length xs ≤ 4000000
-    → run (type_list_at file types table row list t) ≡ Ok (xs, t + length xs)
-unfolding type_list_at
-maybe_list_again file types table row zero t xs is fit =
-    let none : xs ≡ [] = is in
-    let zero-more : t + 0 ≡ t = omega arith in
-    rw (none, zero-more) refl
-maybe_list_again file types table row (suc list) t xs is fit = rw (suc_not_zero list) (list_again file types table row (suc list) t xs is fit)
 
 Prototyped : List ℕ → Sizes → ℕ → ProtoId → ℕ → ℕ → Type 0
 Prototyped file sizes at proto adds to = IsProto file sizes at proto × (adds ≡ length proto.params) × (to ≡ at + 12)
