@@ -30,6 +30,3 @@ pub fn paths_keep_their_laws()
 pub fn paths_stand_in_order()
     ensures { PathOrder }
 {}
-
-#[cfg(test)]
-mod tests;

@@ -7,6 +7,3 @@ mod spelled;
 
 pub use refusal::CertRefusal;
 pub use reporting::report_refusal;
-
-#[cfg(test)]
-mod tests;

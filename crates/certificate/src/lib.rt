@@ -14,6 +14,3 @@ pub use fault::CertFault;
 pub use law::certificates_keep_their_laws;
 pub use read::read_cert;
 pub use write::write_cert;
-
-#[cfg(test)]
-mod tests;

@@ -11,6 +11,3 @@ pub use format::{Format, Pool};
 pub use kind::Kind;
 pub use opcodes::{OPCODES, format_of, kind_of, pairs_of};
 pub use pairs::Pairs;
-
-#[cfg(test)]
-mod tests;

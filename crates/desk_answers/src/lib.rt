@@ -11,6 +11,3 @@ mod text;
 mod words;
 
 pub use answers::{answer_of, answer_to_fault, error_answer, no_memory, store_failed};
-
-#[cfg(test)]
-mod tests;

@@ -7,6 +7,3 @@ mod tcp_door;
 
 pub use host_clock::HostClock;
 pub use tcp_door::TcpDoor;
-
-#[cfg(test)]
-mod tests;

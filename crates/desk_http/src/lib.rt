@@ -14,6 +14,3 @@ pub use asked::{Asked, HttpFault};
 pub use law::requests_have_one_answer;
 pub use reply::{Answer, SendFault, write_reply};
 pub use request::read_request;
-
-#[cfg(test)]
-mod tests;

@@ -15,6 +15,3 @@ pub use door::{Door, DoorFault};
 pub use link::{Link, LinkFault};
 pub use mem_door::MemDoor;
 pub use mem_link::MemLink;
-
-#[cfg(test)]
-mod tests;

@@ -4,6 +4,3 @@
 mod office;
 
 pub use office::Office;
-
-#[cfg(test)]
-mod tests;

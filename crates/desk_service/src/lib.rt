@@ -16,6 +16,3 @@ pub use lists_judge::ListsJudge;
 pub use outside::{Outside, Status};
 pub use run::serve;
 pub use words::database_path;
-
-#[cfg(test)]
-mod tests;

@@ -31,6 +31,3 @@ pub use insn::Insn;
 pub use laws::code_laws;
 pub use names::{Named, Naming};
 pub use next::next_of_line;
-
-#[cfg(test)]
-mod tests;

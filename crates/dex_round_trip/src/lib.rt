@@ -6,6 +6,3 @@ mod law;
 
 pub use back::read_back;
 pub use law::listings_read_again;
-
-#[cfg(test)]
-mod tests;

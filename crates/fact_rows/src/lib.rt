@@ -29,6 +29,3 @@ pub use table::Table;
 pub fn rows_stand_in_order()
     ensures { RowOrder }
 {}
-
-#[cfg(test)]
-mod tests;

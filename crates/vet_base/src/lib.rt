@@ -23,6 +23,3 @@ pub use outside::{FailedCall, FileFault, Files, PutFault, Sink};
 pub use seq::Seq;
 pub use shared::Shared;
 pub use stop::Stop;
-
-#[cfg(test)]
-mod tests;

@@ -18,6 +18,3 @@ pub use answer::Status;
 pub use host::{HostFiles, StandardSink};
 pub use run::vet;
 pub use words::{WordFault, Words, parse_words, words_given};
-
-#[cfg(test)]
-mod tests;

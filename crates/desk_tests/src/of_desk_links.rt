@@ -1,4 +1,4 @@
-use crate::{Clock, Door, DoorFault, FixedClock, Link, LinkFault, MemDoor, MemLink};
+use desk_links::{Clock, Door, DoorFault, FixedClock, Link, LinkFault, MemDoor, MemLink};
 use std::alloc::Global;
 use std::test::Fail;
 use vet_base::Memory;

@@ -1,4 +1,4 @@
-use crate::{Answer, Asked, HttpFault, SendFault, read_request, write_reply};
+use desk_http::{Answer, Asked, HttpFault, SendFault, read_request, write_reply};
 use desk_links::{Link, MemLink};
 use std::alloc::Global;
 use std::process::Abort;

@@ -1,4 +1,4 @@
-use crate::{CertFault, digest_of, read_cert};
+use certificate::{CertFault, digest_of, read_cert};
 use std::alloc::AllocError;
 use std::test::Fail;
 use vet_base::{Seq, Stop};

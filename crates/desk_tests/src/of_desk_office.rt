@@ -1,4 +1,4 @@
-use crate::Office;
+use desk_office::Office;
 use case_rules::{Party, Role};
 use std::alloc::Global;
 use std::test::Fail;

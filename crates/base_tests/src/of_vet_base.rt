@@ -1,4 +1,4 @@
-use crate::{
+use vet_base::{
     FileFault, Files, MemFiles, MemSink, Name, PutFault, Shared, Sink, read_sleb, read_u2, read_u4,
     read_uleb,
 };

@@ -1,4 +1,4 @@
-use crate::{Path, covers, cut, rest};
+use access_path::{Path, covers, cut, rest};
 use std::test::Fail;
 use vet_base::KeyId;
 

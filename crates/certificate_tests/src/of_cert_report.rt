@@ -1,4 +1,4 @@
-use crate::{CertRefusal, report_refusal};
+use cert_report::{CertRefusal, report_refusal};
 use certificate::CertFault;
 use fact_rows::{Activation, Ctx, Node, Row, Site};
 use std::test::Fail;

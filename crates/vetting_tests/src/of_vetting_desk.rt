@@ -1,6 +1,6 @@
 ghost use Rattle.std.specs.Prelude.{None};
 
-use crate::{HostFiles, StandardSink, Status, vet, words_given};
+use vetting_desk::{HostFiles, StandardSink, Status, vet, words_given};
 use std::alloc::Global;
 use std::io::ErrorKind;
 use std::process::Abort;

@@ -1,4 +1,4 @@
-use crate::database_path;
+use desk_service::database_path;
 use std::test::Fail;
 
 /// Lines of words that are no `serve OFFICE N`.

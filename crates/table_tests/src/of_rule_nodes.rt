@@ -1,4 +1,4 @@
-use crate::{at_pc, callee, entry, pushed};
+use rule_nodes::{at_pc, callee, entry, pushed};
 use fact_rows::{Activation, Ctx, Node};
 use std::test::Fail;
 

@@ -1,6 +1,6 @@
 ghost use Rattle.std.specs.Prelude.{◌≡◌, ◌<◌, ◌^◌, [], length, IfOk};
 
-use super::*;
+use dex_code::*;
 use app_machine::Act;
 use dex_reader::{RawCode, RawTry};
 use std::alloc::{AllocError, Global};

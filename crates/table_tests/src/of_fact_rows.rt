@@ -1,4 +1,4 @@
-use crate::{Activation, Ctx, Field, Kind, Node, Parts, Row, Site, Table};
+use fact_rows::{Activation, Ctx, Field, Kind, Node, Parts, Row, Site, Table};
 use access_path::Path;
 use sorted_table::SortedVec;
 use std::mem::size_of;

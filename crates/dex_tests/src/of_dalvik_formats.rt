@@ -1,4 +1,4 @@
-use super::*;
+use dalvik_formats::*;
 use std::test::*;
 
 /// Some rows of the documentation's table, one at each end of a range.

@@ -1,4 +1,4 @@
-use crate::{answer_of, answer_to_fault, error_answer, no_memory, store_failed};
+use desk_answers::{answer_of, answer_to_fault, error_answer, no_memory, store_failed};
 use case_rules::{
     Appeal, Case, Content, Decision, Entry, Line, OutcomeWord, Refusal, Reply, Role, Ruling,
     RulingWord, State,

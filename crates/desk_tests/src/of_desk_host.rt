@@ -1,4 +1,4 @@
-use crate::{HostClock, TcpDoor};
+use desk_host::{HostClock, TcpDoor};
 use desk_links::{Clock, Door, Link};
 use std::io::{Read, Write};
 use std::net::{Ipv4Addr, Net, OpenListener, Shutdown, SocketAddr, TcpListener, TcpStream};

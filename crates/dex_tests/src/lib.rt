@@ -1,0 +1,8 @@
+//! Tests of instructions, of the decoder, and of files that are made and read back. They stand apart from the crates that they test, which would be proved once more with them.
+
+#[cfg(test)]
+mod of_dalvik_formats;
+#[cfg(test)]
+mod of_dex_code;
+#[cfg(test)]
+mod of_dex_round_trip;
