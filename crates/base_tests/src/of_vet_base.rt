@@ -1,9 +1,9 @@
+use std::collections::HashSet;
+use std::test::Fail;
 use vet_base::{
     FileFault, Files, MemFiles, MemSink, Name, PutFault, Shared, Sink, read_sleb, read_u2, read_u4,
     read_uleb,
 };
-use std::collections::HashSet;
-use std::test::Fail;
 
 // The examples of the LEB128 article that the format's documentation follows.
 #[test]

@@ -1,4 +1,6 @@
-//! Tests of the crates of which the desk is made. They stand apart from the crates that they test, which would be proved once more with them.
+//! Tests of the crates that the desk is made of. They stand apart from the crates that they test, which
+//! would be proved once more with them.
+#![tactic(auto)]
 
 #[cfg(test)]
 mod of_desk_answers;

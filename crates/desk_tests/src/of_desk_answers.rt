@@ -1,8 +1,8 @@
-use desk_answers::{answer_of, answer_to_fault, error_answer, no_memory, store_failed};
 use case_rules::{
     Appeal, Case, Content, Decision, Entry, Line, OutcomeWord, Refusal, Reply, Role, Ruling,
     RulingWord, State,
 };
+use desk_answers::{answer_of, answer_to_fault, error_answer, no_memory, store_failed};
 use desk_http::{Answer, HttpFault};
 use std::alloc::Global;
 use std::process::Abort;
@@ -41,21 +41,24 @@ fn a_new_case_is_told_in_35_bytes(rt: HostRuntime) -> Result<(), Fail> {
     Ok(())
 }
 
+/// How far a case is, and what is told of it where it is kept already.
+static KEPT: [(State, &str); 4] = [
+    (State::Queued, "{\"reference\":\"r1\",\"state\":\"queued\"}"),
+    (
+        State::Decided,
+        "{\"reference\":\"r1\",\"state\":\"decided\"}",
+    ),
+    (
+        State::Appealed,
+        "{\"reference\":\"r1\",\"state\":\"appealed\"}",
+    ),
+    (State::Ruled, "{\"reference\":\"r1\",\"state\":\"ruled\"}"),
+];
+
 #[test]
 fn a_kept_case_is_told_with_its_state(rt: HostRuntime) -> Result<(), Fail> {
     let alloc = rt.alloc();
-    for (state, body) in [
-        (State::Queued, "{\"reference\":\"r1\",\"state\":\"queued\"}"),
-        (
-            State::Decided,
-            "{\"reference\":\"r1\",\"state\":\"decided\"}",
-        ),
-        (
-            State::Appealed,
-            "{\"reference\":\"r1\",\"state\":\"appealed\"}",
-        ),
-        (State::Ruled, "{\"reference\":\"r1\",\"state\":\"ruled\"}"),
-    ] {
+    for &(state, body) in KEPT.iter() {
         let reply = Reply::Kept(name(alloc, "r1")?, state);
         expect_both(&rt, alloc, &reply, 200, body)?;
     }
@@ -76,46 +79,52 @@ fn an_appeal_is_told(rt: HostRuntime) -> Result<(), Fail> {
     Ok(())
 }
 
+/// An outcome, and what is told of a case that was decided so.
+static DECIDED: [(OutcomeWord, &str); 4] = [
+    (
+        OutcomeWord::Clear,
+        "{\"developer\":\"ann\",\"outcome\":\"clear\",\"reference\":\"r1\"}",
+    ),
+    (
+        OutcomeWord::Flagged,
+        "{\"developer\":\"ann\",\"outcome\":\"flagged\",\"reference\":\"r1\"}",
+    ),
+    (
+        OutcomeWord::Undecided,
+        "{\"developer\":\"ann\",\"outcome\":\"undecided\",\"reference\":\"r1\"}",
+    ),
+    (
+        OutcomeWord::Refused,
+        "{\"developer\":\"ann\",\"outcome\":\"refused\",\"reference\":\"r1\"}",
+    ),
+];
+
 #[test]
 fn a_decision_is_told_with_its_outcome(rt: HostRuntime) -> Result<(), Fail> {
     let alloc = rt.alloc();
-    for (outcome, body) in [
-        (
-            OutcomeWord::Clear,
-            "{\"developer\":\"ann\",\"outcome\":\"clear\",\"reference\":\"r1\"}",
-        ),
-        (
-            OutcomeWord::Flagged,
-            "{\"developer\":\"ann\",\"outcome\":\"flagged\",\"reference\":\"r1\"}",
-        ),
-        (
-            OutcomeWord::Undecided,
-            "{\"developer\":\"ann\",\"outcome\":\"undecided\",\"reference\":\"r1\"}",
-        ),
-        (
-            OutcomeWord::Refused,
-            "{\"developer\":\"ann\",\"outcome\":\"refused\",\"reference\":\"r1\"}",
-        ),
-    ] {
+    for &(outcome, body) in DECIDED.iter() {
         let reply = Reply::Decided(name(alloc, "ann")?, name(alloc, "r1")?, outcome);
         expect_both(&rt, alloc, &reply, 200, body)?;
     }
     Ok(())
 }
 
+/// The word of a ruling, and what is told of a case that was ruled so.
+static RULED: [(RulingWord, &str); 2] = [
+    (
+        RulingWord::Uphold,
+        "{\"developer\":\"ann\",\"reference\":\"r1\",\"ruling\":\"uphold\"}",
+    ),
+    (
+        RulingWord::Overturn,
+        "{\"developer\":\"ann\",\"reference\":\"r1\",\"ruling\":\"overturn\"}",
+    ),
+];
+
 #[test]
 fn a_ruling_is_told_with_its_word(rt: HostRuntime) -> Result<(), Fail> {
     let alloc = rt.alloc();
-    for (word, body) in [
-        (
-            RulingWord::Uphold,
-            "{\"developer\":\"ann\",\"reference\":\"r1\",\"ruling\":\"uphold\"}",
-        ),
-        (
-            RulingWord::Overturn,
-            "{\"developer\":\"ann\",\"reference\":\"r1\",\"ruling\":\"overturn\"}",
-        ),
-    ] {
+    for &(word, body) in RULED.iter() {
         let reply = Reply::Ruled(name(alloc, "ann")?, name(alloc, "r1")?, word);
         expect_both(&rt, alloc, &reply, 200, body)?;
     }
@@ -175,23 +184,26 @@ fn a_queued_case_is_shown(rt: HostRuntime) -> Result<(), Fail> {
     Ok(())
 }
 
+/// How far the last entry of a case is, and what is shown of the case.
+static SHOWN: [(State, &str); 3] = [
+    (
+        State::Decided,
+        "{\"appeal\":null,\"decided\":20001,\"editions\":2,\"outcome\":\"flagged\",\"reference\":\"r1\",\"ruling\":null,\"state\":\"decided\"}",
+    ),
+    (
+        State::Appealed,
+        "{\"appeal\":20002,\"decided\":20001,\"editions\":2,\"outcome\":\"flagged\",\"reference\":\"r1\",\"ruling\":null,\"state\":\"appealed\"}",
+    ),
+    (
+        State::Ruled,
+        "{\"appeal\":20002,\"decided\":20001,\"editions\":2,\"outcome\":\"flagged\",\"reference\":\"r1\",\"ruling\":\"overturn\",\"state\":\"ruled\"}",
+    ),
+];
+
 #[test]
 fn a_case_is_shown_by_its_last_entry(rt: HostRuntime) -> Result<(), Fail> {
     let alloc = rt.alloc();
-    for (state, body) in [
-        (
-            State::Decided,
-            "{\"appeal\":null,\"decided\":20001,\"editions\":2,\"outcome\":\"flagged\",\"reference\":\"r1\",\"ruling\":null,\"state\":\"decided\"}",
-        ),
-        (
-            State::Appealed,
-            "{\"appeal\":20002,\"decided\":20001,\"editions\":2,\"outcome\":\"flagged\",\"reference\":\"r1\",\"ruling\":null,\"state\":\"appealed\"}",
-        ),
-        (
-            State::Ruled,
-            "{\"appeal\":20002,\"decided\":20001,\"editions\":2,\"outcome\":\"flagged\",\"reference\":\"r1\",\"ruling\":\"overturn\",\"state\":\"ruled\"}",
-        ),
-    ] {
+    for &(state, body) in SHOWN.iter() {
         let mut entries = Vec::new(alloc);
         entries.push(entry(alloc, OutcomeWord::Undecided, 19000, State::Ruled)?)?;
         entries.push(entry(alloc, OutcomeWord::Flagged, 20001, state)?)?;
@@ -257,73 +269,79 @@ fn a_byte_of_a_name_is_the_character_of_that_number(rt: HostRuntime) -> Result<(
     Ok(())
 }
 
+/// A refusal, with its status and what is told of it.
+static REFUSALS: [(Refusal, u16, &str); 15] = [
+    (Refusal::WrongRole, 403, "{\"error\":\"wrong role\"}"),
+    (Refusal::NoCase, 404, "{\"error\":\"no such case\"}"),
+    (
+        Refusal::OtherContent,
+        409,
+        "{\"error\":\"other content under this reference\"}",
+    ),
+    (
+        Refusal::TooManyOpen(1000),
+        409,
+        "{\"error\":\"too many open cases, limit 1000\"}",
+    ),
+    (
+        Refusal::NothingQueued,
+        409,
+        "{\"error\":\"nothing queued\"}",
+    ),
+    (Refusal::NotDecided, 409, "{\"error\":\"not decided\"}"),
+    (
+        Refusal::SameEdition,
+        409,
+        "{\"error\":\"decided under these lists\"}",
+    ),
+    (Refusal::AppealOpen, 409, "{\"error\":\"appeal open\"}"),
+    (
+        Refusal::NoAppealFor(OutcomeWord::Clear),
+        409,
+        "{\"error\":\"no appeal for clear\"}",
+    ),
+    (
+        Refusal::NoAppealFor(OutcomeWord::Refused),
+        409,
+        "{\"error\":\"no appeal for refused\"}",
+    ),
+    (
+        Refusal::AppealedAlready,
+        409,
+        "{\"error\":\"appealed already\"}",
+    ),
+    (
+        Refusal::TooLate(20032),
+        409,
+        "{\"error\":\"too late, last day 20032\"}",
+    ),
+    (Refusal::NoAppeal, 409, "{\"error\":\"no appeal\"}"),
+    (Refusal::RuledAlready, 409, "{\"error\":\"ruled already\"}"),
+    (Refusal::SameReviewer, 403, "{\"error\":\"same reviewer\"}"),
+];
+
 #[test]
 fn each_refusal_has_its_status_and_text(rt: HostRuntime) -> Result<(), Fail> {
     let alloc = rt.alloc();
-    for (refusal, status, body) in [
-        (Refusal::WrongRole, 403, "{\"error\":\"wrong role\"}"),
-        (Refusal::NoCase, 404, "{\"error\":\"no such case\"}"),
-        (
-            Refusal::OtherContent,
-            409,
-            "{\"error\":\"other content under this reference\"}",
-        ),
-        (
-            Refusal::TooManyOpen(1000),
-            409,
-            "{\"error\":\"too many open cases, limit 1000\"}",
-        ),
-        (
-            Refusal::NothingQueued,
-            409,
-            "{\"error\":\"nothing queued\"}",
-        ),
-        (Refusal::NotDecided, 409, "{\"error\":\"not decided\"}"),
-        (
-            Refusal::SameEdition,
-            409,
-            "{\"error\":\"decided under these lists\"}",
-        ),
-        (Refusal::AppealOpen, 409, "{\"error\":\"appeal open\"}"),
-        (
-            Refusal::NoAppealFor(OutcomeWord::Clear),
-            409,
-            "{\"error\":\"no appeal for clear\"}",
-        ),
-        (
-            Refusal::NoAppealFor(OutcomeWord::Refused),
-            409,
-            "{\"error\":\"no appeal for refused\"}",
-        ),
-        (
-            Refusal::AppealedAlready,
-            409,
-            "{\"error\":\"appealed already\"}",
-        ),
-        (
-            Refusal::TooLate(20032),
-            409,
-            "{\"error\":\"too late, last day 20032\"}",
-        ),
-        (Refusal::NoAppeal, 409, "{\"error\":\"no appeal\"}"),
-        (Refusal::RuledAlready, 409, "{\"error\":\"ruled already\"}"),
-        (Refusal::SameReviewer, 403, "{\"error\":\"same reviewer\"}"),
-    ] {
+    for &(refusal, status, body) in REFUSALS.iter() {
         expect_both(&rt, alloc, &Reply::No(refusal), status, body)?;
     }
     Ok(())
 }
 
+/// A fault of a request, with the status and the text of the answer.
+static FAULTS: [(HttpFault, u16, &str); 5] = [
+    (HttpFault::Bad, 400, "{\"error\":\"bad request\"}"),
+    (HttpFault::NoLength, 411, "{\"error\":\"length required\"}"),
+    (HttpFault::TooLong, 413, "{\"error\":\"body too long\"}"),
+    (HttpFault::BigHead, 431, "{\"error\":\"head too long\"}"),
+    (HttpFault::Memory, 507, "{\"error\":\"no memory\"}"),
+];
+
 #[test]
 fn a_fault_of_a_head_is_told(rt: HostRuntime) -> Result<(), Fail> {
     let alloc = rt.alloc();
-    for (fault, status, body) in [
-        (HttpFault::Bad, 400, "{\"error\":\"bad request\"}"),
-        (HttpFault::NoLength, 411, "{\"error\":\"length required\"}"),
-        (HttpFault::TooLong, 413, "{\"error\":\"body too long\"}"),
-        (HttpFault::BigHead, 431, "{\"error\":\"head too long\"}"),
-        (HttpFault::Memory, 507, "{\"error\":\"no memory\"}"),
-    ] {
+    for &(fault, status, body) in FAULTS.iter() {
         let answer = answer_to_fault(alloc, fault)?.ok_or("no answer")?;
         expect(&rt, &answer, status, body);
     }

@@ -1,5 +1,5 @@
-use desk_office::Office;
 use case_rules::{Party, Role};
+use desk_office::Office;
 use std::alloc::Global;
 use std::test::Fail;
 use vet_base::{Memory, Name, Shared};

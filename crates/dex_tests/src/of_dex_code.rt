@@ -1,10 +1,12 @@
 ghost use Rattle.std.specs.Prelude.{◌≡◌, ◌<◌, ◌^◌, [], length, IfOk};
 
-use dex_code::*;
 use app_machine::Act;
+use dex_code::{
+    CodeFault, Counts, Insn, Named, Naming, act_for, catches_of_lines, decode, next_of_line,
+};
 use dex_reader::{RawCode, RawTry};
 use std::alloc::{AllocError, Global};
-use std::test::*;
+use std::test::Fail;
 use vet_base::{Memory, Seq, Shared};
 
 const NONE: Counts = Counts {

@@ -1,10 +1,14 @@
+ghost use Rattle.std.specs.Prelude.{IfOk};
+ghost use Rattle.dex_round_trip.specs.Listings.{CanBeRead};
+
 use dex_maker::{
     ListedClass, ListedCode, ListedField, ListedLine, ListedMethod, Listing, MakeFault, Operand,
     is_makeable, make_dex,
 };
 use dex_reader::read_dex;
+use dex_round_trip::read_back;
 use std::alloc::Global;
-use std::test::*;
+use std::test::Fail;
 use vet_base::{Memory, Name, Seq};
 
 fn name(alloc: Global, text: &str) -> Result<Name, Memory> {
@@ -182,6 +186,48 @@ fn one_string_more_than_two_bytes_count(rt: HostRuntime) -> Result<(), Fail> {
             assert_eq!(rt; table.as_bytes(), b"string_ids".as_slice());
         }
         _ => return Err(Fail::from("too many strings")),
+    }
+    Ok(())
+}
+
+/// `La;`, final and without members.
+fn class_alone(alloc: Global) -> Result<Listing, Memory>
+    ensures { IfOk result (λ listing. CanBeRead listing) }
+{
+    let class = ListedClass {
+        name: Name::from_bytes(alloc, b"La;")?,
+        flags: 17,
+        superclass: None,
+        interfaces: Seq::new(alloc),
+        fields: Seq::new(alloc),
+        methods: Seq::new(alloc),
+    };
+    let classes = vec![in alloc; class]?;
+    Ok(Listing {
+        classes: Seq::from_vec(classes),
+    })
+}
+
+/// By the format its file has one string, one type, which that string describes, and one class, which is of that type.
+#[test]
+fn a_class_alone_is_read_back(rt: HostRuntime) -> Result<(), Fail> {
+    let alloc = rt.alloc();
+    let listing = class_alone(alloc)?;
+    let dex = read_back(alloc, &listing)
+        .ok()
+        .ok_or("the listing is read back")?;
+    assert_eq!(rt; dex.strings.len(), 1);
+    for text in dex.strings.as_slice() {
+        assert_eq!(rt; text.as_bytes(), b"La;".as_slice());
+    }
+    assert_eq!(rt; dex.types.as_slice(), [0].as_slice());
+    assert_eq!(rt; dex.classes.len(), 1);
+    for class in dex.classes.as_slice() {
+        assert_eq!(rt; class.class, 0);
+        assert_eq!(rt; class.flags, 17);
+        assert!(rt; class.superclass.is_none());
+        assert_eq!(rt; class.interfaces.len(), 0);
+        assert_eq!(rt; class.virtuals.len(), 0);
     }
     Ok(())
 }

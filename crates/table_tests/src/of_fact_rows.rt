@@ -1,5 +1,5 @@
-use fact_rows::{Activation, Ctx, Field, Kind, Node, Parts, Row, Site, Table};
 use access_path::Path;
+use fact_rows::{Activation, Ctx, Field, Kind, Node, Parts, Row, Site, Table};
 use sorted_table::SortedVec;
 use std::mem::size_of;
 use std::test::Fail;

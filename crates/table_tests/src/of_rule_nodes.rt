@@ -1,5 +1,5 @@
-use rule_nodes::{at_pc, callee, entry, pushed};
 use fact_rows::{Activation, Ctx, Node};
+use rule_nodes::{at_pc, callee, entry, pushed};
 use std::test::Fail;
 
 #[test]

@@ -1,12 +1,12 @@
 ghost use Rattle.std.specs.Prelude.{None};
 
-use vetting_desk::{HostFiles, StandardSink, Status, vet, words_given};
 use std::alloc::Global;
 use std::io::ErrorKind;
 use std::process::Abort;
 use std::test::Fail;
 use std::{fs, io};
 use vet_base::{FileFault, Files, MemFiles, MemSink, Name, PutFault, Sink};
+use vetting_desk::{HostFiles, StandardSink, Status, vet, words_given};
 
 /// The files of an app with one DEX file, in the order in which they are read.
 const FILES: [&str; 5] = [
