@@ -1,10 +1,6 @@
-//! Tests of opcodes, of the decoder, and of files that are made and read back. They stand apart from the
-//! crates that they test, which would be proved once more with them.
+//! Tests of DEX files that are made and read back. They stand apart from the crates that they test, which
+//! would be proved once more with them.
 #![tactic(auto)]
 
-#[cfg(test)]
-mod of_dalvik_formats;
-#[cfg(test)]
-mod of_dex_code;
 #[cfg(test)]
 mod of_dex_round_trip;
