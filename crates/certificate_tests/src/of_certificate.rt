@@ -4,7 +4,7 @@ use std::test::Fail;
 use vet_base::{Seq, Stop};
 
 /// The certificate of `examples/unlisted_call`, as a program wrote it that was made apart from this one.
-const UNLISTED_CALL: [u8; 273] = [
+static UNLISTED_CALL: [u8; 273] = [
     86, 69, 84, 67, 69, 82, 84, 50, 131, 251, 73, 209, 50, 204, 98, 123, 85, 231, 125, 95, 127,
     141, 171, 49, 182, 3, 177, 148, 220, 9, 152, 248, 249, 116, 6, 204, 101, 2, 191, 63, 15, 0, 0,
     0, 1, 0, 0, 0, 0, 0, 1, 0, 0, 0, 0, 0, 0, 0, 0, 0, 0, 0, 1, 0, 0, 0, 0, 0, 1, 0, 0, 0, 0, 0, 0,
@@ -18,7 +18,7 @@ const UNLISTED_CALL: [u8; 273] = [
 ];
 
 /// A row of each kind from certificates of that program, by their kinds.
-const EACH_KIND: [u8; 658] = [
+static EACH_KIND: [u8; 658] = [
     1, 6, 3, 0, 0, 0, 0, 0, 0, 0, 1, 0, 0, 0, 12, 0, 0, 0, 4, 0, 0, 0, 0, 0, 0, 0, 2, 6, 3, 0, 0,
     0, 0, 0, 0, 0, 1, 0, 0, 0, 12, 0, 0, 0, 4, 0, 0, 0, 3, 0, 0, 0, 0, 0, 1, 0, 0, 6, 3, 0, 0, 0,
     0, 0, 0, 0, 1, 0, 0, 0, 12, 0, 0, 0, 4, 0, 0, 0, 0, 0, 0, 0, 3, 6, 3, 0, 0, 0, 0, 0, 0, 0, 1,
@@ -175,7 +175,7 @@ fn bytes_that_no_row_has_are_told_before_the_end(rt: HostRuntime) -> Result<(), 
 }
 
 /// Made with another program's SHA-256.
-const DIGEST: [u8; 32] = [
+static DIGEST: [u8; 32] = [
     205, 143, 155, 247, 117, 190, 241, 81, 97, 93, 190, 38, 197, 55, 9, 82, 108, 214, 116, 159,
     111, 139, 157, 165, 145, 107, 235, 131, 175, 36, 128, 87,
 ];
