@@ -4,9 +4,9 @@ use Rattle.std.specs.Prelude.{IsTrue, is_some}
 use Rattle.std.proofs.lemmas.Option.{none-some, same_Some}
 use Rattle.vet_base.specs.Outside.{Told}
 use Rattle.desk_office.specs.declared.office.Office.{Office as SaidOffice}
-use Rattle.office_forms.specs.declared.told.FormFault.{FormFault}
-use Rattle.office_forms.specs.Form.{IsForm, FirstFormFault}
-use Rattle.office_forms.specs.Lists.{lists_form}
+use Rattle.form_fields.specs.declared.told.FormFault.{FormFault}
+use Rattle.form_fields.specs.Form.{IsForm, FirstFormFault}
+use Rattle.store_lists.specs.Lists.{lists_form}
 use Rattle.office_forms.specs.Office.{office_form}
 use Rattle.office_forms.specs.OneForm.{OneFormOrFault}
 use Rattle.desk_service.specs.declared.opening.Paper.{Paper}

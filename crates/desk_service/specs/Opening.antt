@@ -7,10 +7,10 @@ use Rattle.vet_base.specs.declared.outside.FailedCall.TheVariants.{Read}
 use Rattle.app_machine.specs.declared.lists.Lists.{Lists as SaidLists}
 use Rattle.desk_office.specs.declared.office.Office.{Office as SaidOffice}
 use Rattle.desk_serving.specs.declared.judge.Desk.{Desk}
-use Rattle.office_forms.specs.declared.told.FormFault.{FormFault}
-use Rattle.office_forms.specs.declared.told.FormFault.TheVariants as forms
-use Rattle.office_forms.specs.Form.{IsForm, FirstFormFault}
-use Rattle.office_forms.specs.Lists.{lists_form}
+use Rattle.form_fields.specs.declared.told.FormFault.{FormFault}
+use Rattle.form_fields.specs.declared.told.FormFault.TheVariants as forms
+use Rattle.form_fields.specs.Form.{IsForm, FirstFormFault}
+use Rattle.store_lists.specs.Lists.{lists_form}
 use Rattle.office_forms.specs.Office.{office_form}
 use Rattle.desk_service.specs.declared.lists_judge.ListsJudge.{ListsJudge}
 use Rattle.desk_service.specs.declared.opening.Paper.{Paper}

@@ -10,20 +10,20 @@ use Rattle.app_machine.specs.declared.papers.Word.{Word}
 use Rattle.app_machine.specs.declared.papers.Manifest.{Manifest}
 use Rattle.app_machine.specs.declared.papers.Layouts.{Layouts}
 use Rattle.app_machine.specs.declared.papers.Declaration.{Declaration}
-use Rattle.office_forms.specs.declared.words.Section.TheVariants as section
-use Rattle.office_forms.specs.declared.words.Key.TheVariants as key
-use Rattle.office_forms.specs.declared.spelling.Spelling.TheVariants as spelling
-use Rattle.office_forms.specs.Spelling.{is_short, is_class, fits}
-use Rattle.office_forms.specs.Once.{with_new, names_once}
-use Rattle.office_forms.specs.Fields.{known, text_at, maybe_text_at, number_at, texts_at, tables_at, table_in}
+use Rattle.form_fields.specs.declared.words.Section.TheVariants as section
+use Rattle.form_fields.specs.declared.words.Key.TheVariants as key
+use Rattle.form_fields.specs.declared.spelling.Spelling.TheVariants as spelling
+use Rattle.form_fields.specs.Spelling.{is_short, is_class, fits}
+use Rattle.form_fields.specs.Once.{with_new, names_once}
+use Rattle.form_fields.specs.Fields.{known, text_at, maybe_text_at, number_at, texts_at, tables_at, table_in}
 use Rattle.office_forms.specs.Manifest.{kind_at, component_row, components_of, classes_once, manifest_form}
 use Rattle.office_forms.specs.Layouts.{Seen, layout_row, layouts_of, layouts_form}
 use Rattle.office_forms.specs.Declaration.{use_row, uses_of, declaration_form}
 use Rattle.office_forms.specs.Sound.{SoundManifest, SoundLayouts, SoundDeclaration}
-use Rattle.office_forms.proofs.Adding.{with_new_few}
-use Rattle.office_forms.proofs.Yields.{Yields, yields_value, yields_then, yields_past, yields_both, yields_walk, yields_walk_all}
-use Rattle.office_forms.proofs.FieldYields.{number_within, tables_few, texts_few}
-use Rattle.office_forms.proofs.Spelled.{Fits, text_fits, maybe_text_fits, texts_fit, all_new}
+use Rattle.form_fields.proofs.Adding.{with_new_few}
+use Rattle.form_fields.proofs.Yields.{Yields, yields_value, yields_then, yields_past, yields_both, yields_walk, yields_walk_all}
+use Rattle.form_fields.proofs.FieldYields.{number_within, tables_few, texts_few}
+use Rattle.form_fields.proofs.Spelled.{Fits, text_fits, maybe_text_fits, texts_fit, all_new}
 
 use_spelled : (d : Data) (u : Unit {0}) → Yields (λ r. IsTrue (is_short r.0.0) × IsTrue (is_short r.0.1)) (use_row d u)
 unfolding use_row fits

@@ -8,19 +8,19 @@ use Rattle.vet_base.specs.Apart.{Apart}
 use Rattle.app_machine.specs.Names.{Name, same_name}
 use Rattle.case_rules.specs.declared.party.Party.{Party}
 use Rattle.desk_office.specs.declared.office.Office.{Office}
-use Rattle.office_forms.specs.declared.fault.Fault.TheVariants.{Twice}
-use Rattle.office_forms.specs.declared.words.Section.TheVariants as section
-use Rattle.office_forms.specs.declared.words.Key.TheVariants as key
-use Rattle.office_forms.specs.declared.spelling.Spelling.TheVariants as spelling
-use Rattle.office_forms.specs.Spelling.{fits}
-use Rattle.office_forms.specs.Places.{place_of}
-use Rattle.office_forms.specs.Once.{once}
-use Rattle.office_forms.specs.Fields.{known, text_at, number_at, tables_at, table_in}
+use Rattle.form_fields.specs.declared.fault.Fault.TheVariants.{Twice}
+use Rattle.form_fields.specs.declared.words.Section.TheVariants as section
+use Rattle.form_fields.specs.declared.words.Key.TheVariants as key
+use Rattle.form_fields.specs.declared.spelling.Spelling.TheVariants as spelling
+use Rattle.form_fields.specs.Spelling.{fits}
+use Rattle.form_fields.specs.Places.{place_of}
+use Rattle.form_fields.specs.Once.{once}
+use Rattle.form_fields.specs.Fields.{known, text_at, number_at, tables_at, table_in}
 use Rattle.office_forms.specs.Office.{role_at, party_row, parties_of, name_once, token_once, party_names_once, party_tokens_once, parties_once, office_form}
 use Rattle.office_forms.specs.Sound.{SoundParty, SoundOffice}
-use Rattle.office_forms.proofs.Yields.{Yields, yields_value, yields_tested, yields_then, yields_past, yields_walk, yields_walk_all}
-use Rattle.office_forms.proofs.FieldYields.{number_within, tables_few}
-use Rattle.office_forms.proofs.Spelled.{Fits, text_fits}
+use Rattle.form_fields.proofs.Yields.{Yields, yields_value, yields_tested, yields_then, yields_past, yields_walk, yields_walk_all}
+use Rattle.form_fields.proofs.FieldYields.{number_within, tables_few}
+use Rattle.form_fields.proofs.Spelled.{Fits, text_fits}
 use Rattle.office_forms.proofs.OnceApart.{Adds, each_apart}
 
 party_sound : (d : Data) (u : Unit {0}) → Yields (λ r. SoundParty r.0) (party_row d u)

@@ -7,8 +7,8 @@ use Rattle.vet_base.specs.Apart.{Apart}
 use Rattle.vet_base.proofs.Members.{in_front, in_back}
 use Rattle.vet_base.proofs.Texts.{same_itself}
 use Rattle.app_machine.specs.Names.{Name, same_name}
-use Rattle.office_forms.specs.Places.{place_of}
-use Rattle.office_forms.proofs.Yields.{Yields, yields_value, yields_then, yields_weaker}
+use Rattle.form_fields.specs.Places.{place_of}
+use Rattle.form_fields.proofs.Yields.{Yields, yields_value, yields_then, yields_weaker}
 
 first_fails : (b : Bool) (o : Option ℕ) → is_none (cond b (Some 0) (option_map suc o)) ≡ true → (b ≡ false) × (is_none o ≡ true)
 first_fails true o e = absurd cc

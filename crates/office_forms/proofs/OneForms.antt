@@ -1,16 +1,16 @@
--- A text is one form or has one first fault, and not both.
+-- What a text is as a form, and its first fault: no two of either, and not both.
 use Rattle.std.proofs.Common.{◌≡◌, ℕ, List, Some, None, Result, Ok, Err, refl, sym, ◌∙◌, ap, subst, inl, inr}
 use Rattle.toml.specs.Data.{Members}
 use Rattle.vet_base.specs.Script.{Script, tests, value_of, AllHold, IsFirst}
 use Rattle.vet_base.proofs.Scripts.{exclusive}
-use Rattle.office_forms.specs.declared.fault.Fault.{Fault}
-use Rattle.office_forms.specs.declared.told.FormFault.{FormFault}
-use Rattle.office_forms.specs.Form.{IsForm, FirstFormFault, unread, fails, shown}
-use Rattle.office_forms.specs.Tree.{Reads, IsNotToml}
+use Rattle.form_fields.specs.declared.fault.Fault.{Fault}
+use Rattle.form_fields.specs.declared.told.FormFault.{FormFault}
+use Rattle.form_fields.specs.Form.{IsForm, FirstFormFault, unread, fails, shown}
+use Rattle.form_fields.specs.Tree.{Reads, IsNotToml}
 use Rattle.office_forms.specs.Manifest.{manifest_form}
 use Rattle.office_forms.specs.Layouts.{layouts_form}
 use Rattle.office_forms.specs.Declaration.{declaration_form}
-use Rattle.office_forms.specs.Lists.{lists_form}
+use Rattle.store_lists.specs.Lists.{lists_form}
 use Rattle.office_forms.specs.Office.{office_form}
 use Rattle.office_forms.specs.OneForm.{OneForm, OneFormOrFault}
 use Rattle.vet_base.proofs.Runs.{one_first}

@@ -4,11 +4,11 @@ use Rattle.toml.specs.Data.{Data, Members}
 use Rattle.vet_base.specs.Script.{Script, Value, ◌>>=◌, walk}
 use Rattle.app_machine.specs.Names.{Name}
 use Rattle.app_machine.specs.declared.papers.Declaration.{Declaration}
-use Rattle.office_forms.specs.declared.fault.Fault.{Fault}
-use Rattle.office_forms.specs.declared.words.Section.TheVariants as section
-use Rattle.office_forms.specs.declared.words.Key.TheVariants as key
-use Rattle.office_forms.specs.declared.spelling.Spelling.TheVariants.{Text}
-use Rattle.office_forms.specs.Fields.{known, text_at, tables_at, table_in}
+use Rattle.form_fields.specs.declared.fault.Fault.{Fault}
+use Rattle.form_fields.specs.declared.words.Section.TheVariants as section
+use Rattle.form_fields.specs.declared.words.Key.TheVariants as key
+use Rattle.form_fields.specs.declared.spelling.Spelling.TheVariants.{Text}
+use Rattle.form_fields.specs.Fields.{known, text_at, tables_at, table_in}
 
 -- a flow: the category of its source and that of its sink
 unfoldable pub use_row : Data → Unit {0} → Script Fault ((Name × Name) × Unit {0})

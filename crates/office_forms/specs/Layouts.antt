@@ -5,12 +5,12 @@ use Rattle.vet_base.specs.Script.{Script, Value, ◌>>=◌, walk}
 use Rattle.app_machine.specs.Names.{Name}
 use Rattle.app_machine.specs.declared.papers.Layouts.{Layouts}
 use Rattle.office_forms.specs.declared.layouts.Found.{Found}
-use Rattle.office_forms.specs.declared.fault.Fault.{Fault}
-use Rattle.office_forms.specs.declared.words.Section.TheVariants as section
-use Rattle.office_forms.specs.declared.words.Key.TheVariants as key
-use Rattle.office_forms.specs.declared.spelling.Spelling.TheVariants.{Text, Class}
-use Rattle.office_forms.specs.Once.{names_once, with_new}
-use Rattle.office_forms.specs.Fields.{known, text_at, texts_at, tables_at, table_in}
+use Rattle.form_fields.specs.declared.fault.Fault.{Fault}
+use Rattle.form_fields.specs.declared.words.Section.TheVariants as section
+use Rattle.form_fields.specs.declared.words.Key.TheVariants as key
+use Rattle.form_fields.specs.declared.spelling.Spelling.TheVariants.{Text, Class}
+use Rattle.form_fields.specs.Once.{names_once, with_new}
+use Rattle.form_fields.specs.Fields.{known, text_at, texts_at, tables_at, table_in}
 
 -- what the layouts so far have: their clicks, each once, and their classes
 pub record Seen : Type 0 where

@@ -8,13 +8,13 @@ use Rattle.app_machine.specs.Names.{Name}
 use Rattle.app_machine.specs.declared.papers.Manifest.{Manifest}
 use Rattle.app_machine.specs.declared.papers.Word.{Word}
 use Rattle.app_machine.specs.declared.papers.Word.TheVariants.{Activity, Service, Receiver, Provider}
-use Rattle.office_forms.specs.declared.fault.Fault.{Fault}
-use Rattle.office_forms.specs.declared.fault.Fault.TheVariants.{Missing, Wrong}
-use Rattle.office_forms.specs.declared.words.Section.TheVariants as section
-use Rattle.office_forms.specs.declared.words.Key.TheVariants as key
-use Rattle.office_forms.specs.declared.spelling.Spelling.TheVariants.{Text, Class}
-use Rattle.office_forms.specs.Once.{once}
-use Rattle.office_forms.specs.Fields.{known, text_at, maybe_text_at, number_at, word_at, tables_at, table_in}
+use Rattle.form_fields.specs.declared.fault.Fault.{Fault}
+use Rattle.form_fields.specs.declared.fault.Fault.TheVariants.{Missing, Wrong}
+use Rattle.form_fields.specs.declared.words.Section.TheVariants as section
+use Rattle.form_fields.specs.declared.words.Key.TheVariants as key
+use Rattle.form_fields.specs.declared.spelling.Spelling.TheVariants.{Text, Class}
+use Rattle.form_fields.specs.Once.{once}
+use Rattle.form_fields.specs.Fields.{known, text_at, maybe_text_at, number_at, word_at, tables_at, table_in}
 
 -- the kind of component that a word names
 unfoldable pub kind_of : Name → Option Word

@@ -8,14 +8,14 @@ use Rattle.case_rules.specs.declared.party.Party.{Party}
 use Rattle.case_rules.specs.declared.party.Role.{Role}
 use Rattle.case_rules.specs.declared.party.Role.TheVariants.{Developer, Reviewer}
 use Rattle.desk_office.specs.declared.office.Office.{Office}
-use Rattle.office_forms.specs.declared.fault.Fault.{Fault}
-use Rattle.office_forms.specs.declared.fault.Fault.TheVariants.{Missing, Wrong, Twice}
-use Rattle.office_forms.specs.declared.words.Section.TheVariants as section
-use Rattle.office_forms.specs.declared.words.Key.TheVariants as key
-use Rattle.office_forms.specs.declared.spelling.Spelling.TheVariants.{Reference, Token}
-use Rattle.office_forms.specs.Places.{place_of}
-use Rattle.office_forms.specs.Once.{once}
-use Rattle.office_forms.specs.Fields.{known, text_at, number_at, word_at, tables_at, table_in}
+use Rattle.form_fields.specs.declared.fault.Fault.{Fault}
+use Rattle.form_fields.specs.declared.fault.Fault.TheVariants.{Missing, Wrong, Twice}
+use Rattle.form_fields.specs.declared.words.Section.TheVariants as section
+use Rattle.form_fields.specs.declared.words.Key.TheVariants as key
+use Rattle.form_fields.specs.declared.spelling.Spelling.TheVariants.{Reference, Token}
+use Rattle.form_fields.specs.Places.{place_of}
+use Rattle.form_fields.specs.Once.{once}
+use Rattle.form_fields.specs.Fields.{known, text_at, number_at, word_at, tables_at, table_in}
 
 -- the role that a word names
 unfoldable pub role_of : Name → Option Role

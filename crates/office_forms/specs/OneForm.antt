@@ -1,14 +1,14 @@
--- A text is one form or has one first fault, and not both.
+-- What a text is as a form, and its first fault: no two of either, and not both.
 use Rattle.std.specs.Prelude.{◌≡◌, ℕ, List}
 use Rattle.toml.specs.Data.{Members}
 use Rattle.vet_base.specs.Script.{Script}
-use Rattle.office_forms.specs.declared.fault.Fault.{Fault}
-use Rattle.office_forms.specs.declared.told.FormFault.{FormFault}
-use Rattle.office_forms.specs.Form.{IsForm, FirstFormFault}
+use Rattle.form_fields.specs.declared.fault.Fault.{Fault}
+use Rattle.form_fields.specs.declared.told.FormFault.{FormFault}
+use Rattle.form_fields.specs.Form.{IsForm, FirstFormFault}
 use Rattle.office_forms.specs.Manifest.{manifest_form}
 use Rattle.office_forms.specs.Layouts.{layouts_form}
 use Rattle.office_forms.specs.Declaration.{declaration_form}
-use Rattle.office_forms.specs.Lists.{lists_form}
+use Rattle.store_lists.specs.Lists.{lists_form}
 use Rattle.office_forms.specs.Office.{office_form}
 
 pub record OneForm {A : Type 0} (form : Members → Script Fault A) (text : List ℕ) : Type 0 where

@@ -1,23 +1,22 @@
 //! The declaration.
 ghost use Rattle.std.specs.Prelude.{◌≡◌, ◌≢◌, IfOk, IfErr, map};
-ghost use Rattle.office_forms.specs.Form.{IsForm, FirstFormFault};
+ghost use Rattle.form_fields.specs.Form.{IsForm, FirstFormFault};
 ghost use Rattle.office_forms.specs.Declaration.{declaration_form, uses_of, use_row};
 ghost use Rattle.office_forms.specs.Sound.{SoundDeclaration};
 ghost use Rattle.toml.specs.View.{table_view, view};
 ghost use Rattle.vet_base.specs.Script.{Gives};
 
-use crate::fields::{table_in, tables_at, text_at};
-use crate::spelling::Spelling;
-use crate::told::told_of;
-use crate::tree::{known, read_tree};
-use crate::{Fault, FormFault, Key, Section};
 use app_machine::Declaration;
+use form_fields::{
+    Fault, FormFault, Key, Section, Spelling, known, read_tree, table_in, tables_at, text_at,
+    told_of,
+};
 use std::alloc::Global;
 use toml::{Table, Value};
 use vet_base::{Name, Seq, Stop};
 
 /// Reads a declaration: at most 4,096 tables `[[use]]`, each with the texts `source` and `sink`.
-#[tactic(auto, using(crate::proofs::Forms::is_form, crate::proofs::Forms::is_fault, crate::proofs::Forms::is_unread, crate::proofs::FormsSound::sound_declaration))]
+#[tactic(auto, using(form_fields::proofs::Forms::is_form, form_fields::proofs::Forms::is_fault, form_fields::proofs::Forms::is_unread, crate::proofs::FormsSound::sound_declaration))]
 pub fn read_declaration(alloc: Global, text: &[u8]) -> Result<Declaration, FormFault>
     ensures ok { IfOk result (λ d. IsForm declaration_form text.now d) }
     ensures sound { IfOk result SoundDeclaration }
@@ -45,7 +44,7 @@ fn declaration_of(alloc: Global, tree: &Table) -> Result<Declaration, Stop<Fault
     })
 }
 
-#[tactic(auto, unfolding(crate::specs::Declaration::uses_of), using(crate::proofs::Walking::begins, crate::proofs::Walking::goes_on, crate::proofs::Walking::fails, crate::proofs::Walking::is_done))]
+#[tactic(auto, unfolding(crate::specs::Declaration::uses_of), using(form_fields::proofs::Walking::begins, form_fields::proofs::Walking::goes_on, form_fields::proofs::Walking::fails, form_fields::proofs::Walking::is_done))]
 fn uses_of(alloc: Global, uses: &[Value]) -> Result<Vec<(Name, Name)>, Stop<Fault>>
     ensures { Gives (λ x. (x.items, tt)) result (uses_of (map view uses.now)) }
 {

@@ -1,26 +1,23 @@
 //! The layouts.
 ghost use Rattle.std.specs.Prelude.{◌≡◌, ◌≢◌, IfOk, IfErr, map};
-ghost use Rattle.office_forms.specs.Form.{IsForm, FirstFormFault};
+ghost use Rattle.form_fields.specs.Form.{IsForm, FirstFormFault};
 ghost use Rattle.office_forms.specs.Layouts.{layouts_form, layouts_of, layout_row, seen_in};
 ghost use Rattle.office_forms.specs.Sound.{SoundLayouts};
 ghost use Rattle.toml.specs.View.{table_view, view};
 ghost use Rattle.vet_base.specs.Script.{Gives};
 
-use crate::fields::{table_in, tables_at, text_at, texts_at};
-use crate::index::Index;
-use crate::once::{names_once, with_new};
-use crate::spelling::Spelling;
-use crate::told::told_of;
-use crate::tree::{known, read_tree};
-use crate::{Fault, FormFault, Key, Section};
 use app_machine::Layouts;
+use form_fields::{
+    Fault, FormFault, Index, Key, Section, Spelling, known, names_once, read_tree, table_in,
+    tables_at, text_at, texts_at, told_of, with_new,
+};
 use std::alloc::Global;
 use toml::{Table, Value};
 use vet_base::{Name, Seq, Stop};
 
 /// Reads layouts: at most 4,096 tables `[[layout]]`, each with a `name` that stands once, the
 /// list `clicks` of method names and the list `classes`, of at most 4,096 texts each.
-#[tactic(auto, using(crate::proofs::Forms::is_form, crate::proofs::Forms::is_fault, crate::proofs::Forms::is_unread, crate::proofs::FormsSound::sound_layouts))]
+#[tactic(auto, using(form_fields::proofs::Forms::is_form, form_fields::proofs::Forms::is_fault, form_fields::proofs::Forms::is_unread, crate::proofs::FormsSound::sound_layouts))]
 pub fn read_layouts(alloc: Global, text: &[u8]) -> Result<Layouts, FormFault>
     ensures ok { IfOk result (λ d. IsForm layouts_form text.now d) }
     ensures sound { IfOk result SoundLayouts }
@@ -57,7 +54,7 @@ struct Found {
     classes: Vec<Name>,
 }
 
-#[tactic(auto, unfolding(crate::specs::Layouts::layouts_of), using(crate::proofs::Walking::begins, crate::proofs::Walking::goes_on, crate::proofs::Walking::fails, crate::proofs::Walking::is_done))]
+#[tactic(auto, unfolding(crate::specs::Layouts::layouts_of), using(form_fields::proofs::Walking::begins, form_fields::proofs::Walking::goes_on, form_fields::proofs::Walking::fails, form_fields::proofs::Walking::is_done))]
 fn layouts_of(alloc: Global, layouts: &[Value]) -> Result<(Vec<Name>, Found), Stop<Fault>>
     ensures { Gives (λ x. (x.0.items, seen_in x.1)) result (layouts_of (map view layouts.now)) }
 {

@@ -1,19 +1,16 @@
 //! The manifest.
 ghost use Rattle.std.specs.Prelude.{◌≡◌, ◌≢◌, IfOk, IfErr, map};
-ghost use Rattle.office_forms.specs.Form.{IsForm, FirstFormFault};
+ghost use Rattle.form_fields.specs.Form.{IsForm, FirstFormFault};
 ghost use Rattle.office_forms.specs.Manifest.{manifest_form, components_of, component_row, kind_at, kind_of, classes_once, components_once, component_once};
 ghost use Rattle.office_forms.specs.Sound.{SoundManifest};
 ghost use Rattle.toml.specs.View.{table_view, view};
 ghost use Rattle.vet_base.specs.Script.{Gives};
 
-use crate::fields::{maybe_text_at, number_at, table_in, tables_at, text_at, word_at};
-use crate::index::Index;
-use crate::once::once;
-use crate::spelling::Spelling;
-use crate::told::told_of;
-use crate::tree::{known, read_tree};
-use crate::{Fault, FormFault, Key, Section};
 use app_machine::{Manifest, Word};
+use form_fields::{
+    Fault, FormFault, Index, Key, Section, Spelling, known, maybe_text_at, number_at, once,
+    read_tree, table_in, tables_at, text_at, told_of, word_at,
+};
 use std::alloc::Global;
 use toml::{Table, Value};
 use vet_base::{Name, Seq, Stop};
@@ -21,7 +18,7 @@ use vet_base::{Name, Seq, Stop};
 /// Reads a manifest: the text `package`, the number `dex_files` from 1 to 16, the class
 /// `application` where there is one, and at most 4,096 tables `[[component]]`, each with a `kind`
 /// (`activity`, `service`, `receiver` or `provider`) and a `class`. No class stands twice.
-#[tactic(auto, using(crate::proofs::Forms::is_form, crate::proofs::Forms::is_fault, crate::proofs::Forms::is_unread))]
+#[tactic(auto, using(form_fields::proofs::Forms::is_form, form_fields::proofs::Forms::is_fault, form_fields::proofs::Forms::is_unread))]
 pub fn read_manifest(alloc: Global, text: &[u8]) -> Result<Manifest, FormFault>
     ensures ok { IfOk result (λ d. IsForm manifest_form text.now d) }
     ensures sound { IfOk result SoundManifest }
@@ -62,7 +59,7 @@ fn manifest_in(alloc: Global, tree: &Table) -> Result<Manifest, Stop<Fault>>
     })
 }
 
-#[tactic(auto, unfolding(crate::specs::Manifest::components_of), using(crate::proofs::Walking::begins, crate::proofs::Walking::goes_on, crate::proofs::Walking::fails, crate::proofs::Walking::is_done))]
+#[tactic(auto, unfolding(crate::specs::Manifest::components_of), using(form_fields::proofs::Walking::begins, form_fields::proofs::Walking::goes_on, form_fields::proofs::Walking::fails, form_fields::proofs::Walking::is_done))]
 fn components_of(alloc: Global, tables: &[Value]) -> Result<Vec<(Word, Name)>, Stop<Fault>>
     ensures { Gives (λ x. (x.items, tt)) result (components_of (map view tables.now)) }
 {

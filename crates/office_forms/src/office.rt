@@ -1,20 +1,17 @@
 //! The office file.
 ghost use Rattle.std.specs.Prelude.{◌≡◌, ◌≢◌, IfOk, IfErr, map};
-ghost use Rattle.office_forms.specs.Form.{IsForm, FirstFormFault};
+ghost use Rattle.form_fields.specs.Form.{IsForm, FirstFormFault};
 ghost use Rattle.office_forms.specs.Office.{office_form, parties_of, party_row, role_at, role_of, parties_once, party_names_once, party_tokens_once, name_once, token_once};
 ghost use Rattle.office_forms.specs.Sound.{SoundOffice};
 ghost use Rattle.toml.specs.View.{table_view, view};
 ghost use Rattle.vet_base.specs.Script.{Gives};
 
-use crate::fields::{number_at, table_in, tables_at, text_at, word_at};
-use crate::index::Index;
-use crate::once::once;
-use crate::spelling::Spelling;
-use crate::told::told_of;
-use crate::tree::{known, read_tree};
-use crate::{Fault, FormFault, Key, Section};
 use case_rules::{Party, Role};
 use desk_office::Office;
+use form_fields::{
+    Fault, FormFault, Index, Key, Section, Spelling, known, number_at, once, read_tree, table_in,
+    tables_at, text_at, told_of, word_at,
+};
 use std::alloc::Global;
 use toml::{Table, Value};
 use vet_base::{Name, Shared, Stop};
@@ -23,7 +20,7 @@ use vet_base::{Name, Shared, Stop};
 /// from 1 to 365, and at most 4,096 tables `[[party]]`, each with a `name` of 1 to 64 of `A-Z`, `a-z`,
 /// `0-9`, `.`, `_` and `-`, a `role` (`developer` or `reviewer`) and a `token` of 8 to 128 visible ASCII
 /// characters. No name stands twice, and no token; a token that does is told by its party's name.
-#[tactic(auto, using(crate::proofs::Forms::is_form, crate::proofs::Forms::is_fault, crate::proofs::Forms::is_unread))]
+#[tactic(auto, using(form_fields::proofs::Forms::is_form, form_fields::proofs::Forms::is_fault, form_fields::proofs::Forms::is_unread))]
 pub fn read_office(alloc: Global, text: &[u8]) -> Result<Office, FormFault>
     ensures ok { IfOk result (λ o. IsForm office_form text.now o) }
     ensures sound { IfOk result SoundOffice }
@@ -58,7 +55,7 @@ fn office_in(alloc: Global, tree: &Table) -> Result<Office, Stop<Fault>>
     })
 }
 
-#[tactic(auto, unfolding(crate::specs::Office::parties_of), using(crate::proofs::Walking::begins, crate::proofs::Walking::goes_on, crate::proofs::Walking::fails, crate::proofs::Walking::is_done))]
+#[tactic(auto, unfolding(crate::specs::Office::parties_of), using(form_fields::proofs::Walking::begins, form_fields::proofs::Walking::goes_on, form_fields::proofs::Walking::fails, form_fields::proofs::Walking::is_done))]
 fn parties_of(alloc: Global, tables: &[Value]) -> Result<Vec<Party>, Stop<Fault>>
     ensures { Gives (λ x. (x.items, tt)) result (parties_of (map view tables.now)) }
 {

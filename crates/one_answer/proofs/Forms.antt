@@ -6,12 +6,12 @@ use Rattle.toml.specs.Data.{Members}
 use Rattle.toml.specs.Parse.{parse_document}
 use Rattle.vet_base.specs.Script.{Script, run}
 use Rattle.vet_base.proofs.Scripts.{all_hold, is_first}
-use Rattle.office_forms.specs.declared.fault.Fault.{Fault}
-use Rattle.office_forms.specs.declared.told.FormFault.{FormFault}
-use Rattle.office_forms.specs.declared.told.FormFault.TheVariants.{NotToml}
-use Rattle.office_forms.specs.Form.{IsForm, FirstFormFault, unread, fails, shown}
+use Rattle.form_fields.specs.declared.fault.Fault.{Fault}
+use Rattle.form_fields.specs.declared.told.FormFault.{FormFault}
+use Rattle.form_fields.specs.declared.told.FormFault.TheVariants.{NotToml}
+use Rattle.form_fields.specs.Form.{IsForm, FirstFormFault, unread, fails, shown}
 use Rattle.office_forms.specs.OneForm.{OneForm, OneFormOrFault}
-use Rattle.office_forms.specs.Tree.{Reads}
+use Rattle.form_fields.specs.Tree.{Reads}
 use Rattle.one_answer.specs.Answers.{FormsHaveOneAnswer}
 use Rattle.one_answer.specs.ExactlyOne.{ExactlyOne}
 

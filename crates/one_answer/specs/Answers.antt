@@ -5,12 +5,12 @@ use Rattle.vet_base.specs.Script.{Script}
 use Rattle.dex_reader.specs.declared.dex.RawCode.{RawCode}
 use Rattle.dex_code.specs.declared.decoder.Counts.{Counts}
 use Rattle.dex_code.specs.Code.{IsCode, FirstFault}
-use Rattle.office_forms.specs.declared.fault.Fault.{Fault}
-use Rattle.office_forms.specs.Form.{IsForm, FirstFormFault}
+use Rattle.form_fields.specs.declared.fault.Fault.{Fault}
+use Rattle.form_fields.specs.Form.{IsForm, FirstFormFault}
 use Rattle.office_forms.specs.Manifest.{manifest_form}
 use Rattle.office_forms.specs.Layouts.{layouts_form}
 use Rattle.office_forms.specs.Declaration.{declaration_form}
-use Rattle.office_forms.specs.Lists.{lists_form}
+use Rattle.store_lists.specs.Lists.{lists_form}
 use Rattle.office_forms.specs.Office.{office_form}
 use Rattle.one_answer.specs.ExactlyOne.{ExactlyOne}
 

@@ -19,13 +19,13 @@ use Rattle.app_machine.specs.declared.lists.Lists.{Lists}
 use Rattle.app_machine.specs.declared.papers.Manifest.{Manifest}
 use Rattle.app_machine.specs.declared.papers.Layouts.{Layouts}
 use Rattle.app_machine.specs.declared.papers.Declaration.{Declaration}
-use Rattle.office_forms.specs.declared.told.FormFault.{FormFault}
-use Rattle.office_forms.specs.declared.told.FormFault.TheVariants as told
-use Rattle.office_forms.specs.Form.{IsForm, FirstFormFault}
+use Rattle.form_fields.specs.declared.told.FormFault.{FormFault}
+use Rattle.form_fields.specs.declared.told.FormFault.TheVariants as told
+use Rattle.form_fields.specs.Form.{IsForm, FirstFormFault}
 use Rattle.office_forms.specs.Manifest.{manifest_form}
 use Rattle.office_forms.specs.Layouts.{layouts_form}
 use Rattle.office_forms.specs.Declaration.{declaration_form}
-use Rattle.office_forms.specs.Lists.{lists_form}
+use Rattle.store_lists.specs.Lists.{lists_form}
 use Rattle.office_forms.specs.Sound.{SoundManifest, SoundLayouts}
 use Rattle.verdict.specs.declared.outcome.Part.TheVariants as part
 use Rattle.verdict.specs.declared.outcome.Reason.TheVariants as reason

@@ -6,8 +6,8 @@ use Rattle.dex_reader.specs.declared.told.DexFault.{DexFault}
 use Rattle.dex_reader.specs.declared.told.DexFault.TheVariants as dex_fault
 use Rattle.app_link.specs.declared.linking.LinkFault.{LinkFault}
 use Rattle.app_link.specs.declared.linking.LinkFault.TheVariants as link_fault
-use Rattle.office_forms.specs.declared.told.FormFault.{FormFault}
-use Rattle.office_forms.specs.declared.told.FormFault.TheVariants as told
+use Rattle.form_fields.specs.declared.told.FormFault.{FormFault}
+use Rattle.form_fields.specs.declared.told.FormFault.TheVariants as told
 use Rattle.verdict.specs.declared.outcome.Part.{Part}
 use Rattle.verdict.specs.declared.outcome.Part.TheVariants as part
 use Rattle.verdict.specs.declared.outcome.Reason.{Reason}

@@ -8,8 +8,8 @@ use Rattle.dex_code.specs.declared.fault.CodeFault.TheVariants as code
 use Rattle.app_machine.specs.Names.{Name}
 use Rattle.dex_reader.specs.declared.told.DexFault.{DexFault}
 use Rattle.dex_reader.specs.declared.told.DexFault.TheVariants as told
-use Rattle.office_forms.specs.declared.told.FormFault.{FormFault}
-use Rattle.office_forms.specs.declared.told.FormFault.TheVariants as forms
+use Rattle.form_fields.specs.declared.told.FormFault.{FormFault}
+use Rattle.form_fields.specs.declared.told.FormFault.TheVariants as forms
 use Rattle.verdict.specs.declared.outcome.Part.{Part}
 use Rattle.verdict.specs.declared.outcome.Part.TheVariants as part
 use Rattle.verdict.specs.declared.outcome.Reason.{Reason}

@@ -2,11 +2,11 @@
 
 ghost use Rattle.std.specs.Prelude.{◌≡◌, IfOk, IfErr};
 ghost use Rattle.app_machine.specs.SoundLists.{SoundLists};
-ghost use Rattle.office_forms.specs.Form.{IsForm};
+ghost use Rattle.form_fields.specs.Form.{IsForm};
 ghost use Rattle.office_forms.specs.Manifest.{manifest_form};
 ghost use Rattle.office_forms.specs.Layouts.{layouts_form};
 ghost use Rattle.office_forms.specs.Declaration.{declaration_form};
-ghost use Rattle.office_forms.specs.Lists.{lists_form};
+ghost use Rattle.store_lists.specs.Lists.{lists_form};
 ghost use Rattle.office_forms.specs.Sound.{SoundManifest, SoundLayouts};
 ghost use Rattle.verdict.specs.Halts.{Halts, HaltsForm};
 ghost use Rattle.verdict.specs.OneVerdict.{RefusesOnly};

@@ -3,7 +3,7 @@ use Rattle.std.proofs.Common.{◌≡◌, ℕ, zero, suc, ◌+◌, ◌≤◌, Boo
 use Rattle.std.specs.Prelude.{nat_le}
 use Rattle.std.proofs.lemmas.Bool.{leb-true}
 use Rattle.vet_base.specs.Script.{Script, Value, Test, ◌>>=◌, run, rows}
-use Rattle.office_forms.specs.Form.{IsForm}
+use Rattle.form_fields.specs.Form.{IsForm}
 use Rattle.office_forms.specs.Manifest.{manifest_form}
 use Rattle.verdict.specs.declared.outcome.Part.{Part}
 use Rattle.verdict.specs.declared.outcome.Part.TheVariants.{Manifest as manifest_part, Layouts, Declaration, Lists, Dex}

@@ -4,8 +4,8 @@ use Rattle.std.specs.Prelude.{IsTrue, is_some}
 use Rattle.vet_base.specs.Outside.{Told, held_by}
 use Rattle.vet_base.specs.Script.{run}
 use Rattle.app_machine.specs.declared.papers.Manifest.{Manifest}
-use Rattle.office_forms.specs.declared.told.FormFault.{FormFault}
-use Rattle.office_forms.specs.Form.{IsForm, FirstFormFault}
+use Rattle.form_fields.specs.declared.told.FormFault.{FormFault}
+use Rattle.form_fields.specs.Form.{IsForm, FirstFormFault}
 use Rattle.office_forms.specs.Manifest.{manifest_form}
 use Rattle.office_forms.specs.OneForm.{OneFormOrFault}
 use Rattle.verdict.specs.declared.outcome.Outcome.TheVariants.{Refused}

@@ -2,8 +2,8 @@
 use Rattle.std.specs.Prelude.{◌≡◌, ℕ, ◌+◌, ◌≤◌, false, nat_le, List, [], ◌∷◌, ◌++◌, length, Option, Some, None, Result, Ok, Err, codes}
 use Rattle.vet_base.specs.Script.{Script, Value, Test, ◌>>=◌, run, rows}
 use Rattle.app_machine.specs.declared.papers.Manifest.{Manifest}
-use Rattle.office_forms.specs.declared.told.FormFault.{FormFault}
-use Rattle.office_forms.specs.Form.{IsForm, FirstFormFault}
+use Rattle.form_fields.specs.declared.told.FormFault.{FormFault}
+use Rattle.form_fields.specs.Form.{IsForm, FirstFormFault}
 use Rattle.office_forms.specs.Manifest.{manifest_form}
 use Rattle.verdict.specs.declared.outcome.Part.{Part}
 use Rattle.verdict.specs.declared.outcome.Part.TheVariants.{Manifest as manifest_part, Layouts, Declaration, Lists, Dex}

@@ -8,8 +8,8 @@ use Rattle.vet_base.specs.declared.outside.FailedCall.TheVariants.{Read}
 use Rattle.vet_base.specs.declared.stop.Stop.{Stop}
 use Rattle.vet_base.specs.declared.stop.Stop.TheVariants as stops
 use Rattle.app_machine.specs.declared.papers.Manifest.{Manifest}
-use Rattle.office_forms.specs.declared.told.FormFault.{FormFault}
-use Rattle.office_forms.specs.Form.{IsForm, FirstFormFault}
+use Rattle.form_fields.specs.declared.told.FormFault.{FormFault}
+use Rattle.form_fields.specs.Form.{IsForm, FirstFormFault}
 use Rattle.office_forms.specs.Manifest.{manifest_form}
 use Rattle.verdict.specs.declared.outcome.Part.TheVariants as parts
 use Rattle.verdict.specs.declared.outcome.Reason.TheVariants.{Form}

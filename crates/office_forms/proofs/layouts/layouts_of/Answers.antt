@@ -1,4 +1,4 @@
-use Rattle.office_forms.proofs.Walking.{is_done}
+use Rattle.form_fields.proofs.Walking.{is_done}
 use Rattle.office_forms.proofs.layouts.layouts_of.Goals as goal
 
 pub returns : goal.returns

@@ -1,0 +1,28 @@
+-- The entries of a table, one after the other, and the least key that its section does not have.
+use Rattle.std.proofs.Common.{◌≡◌, ℕ, Bool, true, false, List, ◌∷◌, refl, ap, sym, ◌∙◌, Some, String, Global, string_bytes}
+use Rattle.toml.specs.Data.{Data, Members, member}
+use Rattle.toml.specs.View.{members_view, view}
+use Rattle.toml.specs.declared.value.Value.{Value}
+use Rattle.toml.proofs.Views.{Entry}
+use Rattle.form_fields.specs.declared.words.Section.{Section}
+use Rattle.form_fields.specs.Fields.{is_known, least_unknown}
+
+first_known : (s : Section) (k : List ℕ) (d : Data) (ms : Members) (b : Bool) → b ≡ is_known s k → b ≡ true
+    → least_unknown s (member k d ms) ≡ least_unknown s ms
+unfolding least_unknown
+first_known s k d ms b is e = rw (sym is ∙ e) refl
+
+first_unknown : (s : Section) (k : List ℕ) (d : Data) (ms : Members) (b : Bool) → b ≡ is_known s k → b ≡ false
+    → least_unknown s (member k d ms) ≡ Some k
+unfolding least_unknown
+first_unknown s k d ms b is e = rw (sym is ∙ e) refl
+
+-- the next key is unknown, and so the least that is
+pub next_unknown : (s : Section) (k : String Global) (v : Value) (es rest : List Entry) (b : Bool) → es ≡ (k, v) ∷ rest
+    → b ≡ is_known s (string_bytes k) → b ≡ false → Some (string_bytes k) ≡ least_unknown s (members_view es)
+next_unknown s k v es rest b at is e = sym (ap (λ x. least_unknown s (members_view x)) at ∙ first_unknown s (string_bytes k) (view v) (members_view rest) b is e)
+
+-- the next key is known: the least unknown is that of the rest
+pub next_known : (s : Section) (k : String Global) (v : Value) (es rest : List Entry) (b : Bool) → es ≡ (k, v) ∷ rest
+    → b ≡ is_known s (string_bytes k) → b ≡ true → least_unknown s (members_view rest) ≡ least_unknown s (members_view es)
+next_known s k v es rest b at is e = sym (ap (λ x. least_unknown s (members_view x)) at ∙ first_known s (string_bytes k) (view v) (members_view rest) b is e)

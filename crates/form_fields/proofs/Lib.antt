@@ -1,0 +1,12 @@
+pub mod Adding
+pub mod Eaching
+pub mod FieldYields
+pub mod Forms
+pub mod Keys
+pub mod Listed
+pub mod Merging
+pub mod Placing
+pub mod Shapes
+pub mod Spelled
+pub mod Walking
+pub mod Yields

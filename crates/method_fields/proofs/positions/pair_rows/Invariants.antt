@@ -1,0 +1,9 @@
+use Rattle.std.proofs.Common.{map}
+use Rattle.toml.specs.View.{view}
+use Rattle.vet_base.specs.Script.{run}
+use Rattle.method_fields.specs.Positions.{pair_row, pair_rows}
+use Rattle.form_fields.proofs.Walking.{Walking}
+use Rattle.method_fields.proofs.positions.pair_rows.Given as goal
+
+abbrev pub invariant-loop-value : goal.invariant-loop-value
+invariant-loop-value l = Walking view l.items l.value-index (pair_row l.section l.key l.count) l.pairs.items tt (run (pair_rows l.section l.key l.count (map view l.items)))

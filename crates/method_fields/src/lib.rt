@@ -1,0 +1,16 @@
+//! What a row of the lists says of a method: its prototype, what tells it from others, positions among its arguments, and its
+//! result.
+#![tactic(auto)]
+
+mod descriptor;
+mod gives;
+mod positions;
+mod signature;
+
+pub use descriptor::proto_of;
+pub use gives::{GivesWord, gives_at};
+pub use positions::{
+    are_two, flag_at, has_key, items_at, listed_at, name_at, named_at, pairs_at, position_at,
+    positions_at,
+};
+pub use signature::{MethodKey, Signature, keys_once, position_count, proto_at};

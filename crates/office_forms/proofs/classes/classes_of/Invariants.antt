@@ -1,9 +1,0 @@
-use Rattle.std.proofs.Common.{map}
-use Rattle.toml.specs.View.{view}
-use Rattle.vet_base.specs.Script.{run}
-use Rattle.office_forms.specs.Classes.{class_row, classes_of}
-use Rattle.office_forms.proofs.Eaching.{Eaching}
-use Rattle.office_forms.proofs.classes.classes_of.Given as goal
-
-abbrev pub invariant-loop-value : goal.invariant-loop-value
-invariant-loop-value l = Eaching view l.tables l.value-index class_row l.classes (run (classes_of (map view l.tables)))

@@ -1,7 +1,0 @@
-use Rattle.vet_base.specs.Script.{run}
-use Rattle.office_forms.specs.Classes.{parent_row, parents_above}
-use Rattle.office_forms.proofs.classes.parents_above.Given as goal
-use Rattle.vet_base.proofs.Eaches.{Eaches}
-
-abbrev pub invariant-loop-parent : goal.invariant-loop-parent
-invariant-loop-parent l = Eaches l.parents l.parent-index (parent_row l.classes) l.above (run (parents_above l.classes l.parents l.name))

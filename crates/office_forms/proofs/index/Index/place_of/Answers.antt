@@ -1,9 +1,0 @@
-use Rattle.std.proofs.Common.{◌≡◌, rules}
-use Rattle.office_forms.specs.Places.{place_of}
-use Rattle.office_forms.proofs.Placing.{is_within}
-use Rattle.office_forms.proofs.index.Index.place_of.Goals as goal
-
-pub returns-clause-within : goal.returns-clause-within
-returns-clause-within g c =
-    let e : c.copied.result ≡ place_of g.K.PartialEq.eq c.args.key.now c.args.self.now = search rules in
-    is_within g.K.PartialEq.eq c.copied.result c.args.key.now c.args.self.now e

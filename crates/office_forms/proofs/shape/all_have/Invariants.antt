@@ -1,5 +1,0 @@
-use Rattle.office_forms.proofs.Shapes.{Sees}
-use Rattle.office_forms.proofs.shape.all_have.Given as goal
-
-abbrev pub invariant-loop-value : goal.invariant-loop-value
-invariant-loop-value l = Sees l.shape l.values l.value-index

@@ -1,0 +1,4 @@
+pub mod Above
+pub mod ListsSound
+pub mod ListsSpelled
+pub mod SinkSound

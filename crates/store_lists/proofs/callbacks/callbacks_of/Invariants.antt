@@ -1,0 +1,9 @@
+use Rattle.std.proofs.Common.{map}
+use Rattle.toml.specs.View.{view}
+use Rattle.vet_base.specs.Script.{run}
+use Rattle.store_lists.specs.Callbacks.{callback_row, callbacks_of}
+use Rattle.form_fields.proofs.Eaching.{Eaching}
+use Rattle.store_lists.proofs.callbacks.callbacks_of.Given as goal
+
+abbrev pub invariant-loop-value : goal.invariant-loop-value
+invariant-loop-value l = Eaching view l.tables l.value-index (callback_row l.categories) l.rows (run (callbacks_of l.categories (map view l.tables)))

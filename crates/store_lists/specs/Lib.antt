@@ -1,0 +1,5 @@
+pub mod Callbacks
+pub mod Classes
+pub mod Lists
+pub mod Methods
+pub mod Spelled

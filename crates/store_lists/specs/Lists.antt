@@ -1,0 +1,79 @@
+-- The lists of the office: the limit of rows, the categories, and what is said of the library.
+use Rattle.std.specs.Prelude.{◌==◌, ◌&&◌, nat_le, Bool, List, [], ◌∷◌, ◌++◌, length, map}
+use Rattle.toml.specs.Data.{Data, Members}
+use Rattle.vet_base.specs.Script.{Script, Value, ◌>>=◌, test, each}
+use Rattle.app_machine.specs.Names.{Name}
+use Rattle.app_machine.specs.declared.lists.Lists.{Lists}
+use Rattle.form_fields.specs.declared.fault.Fault.{Fault}
+use Rattle.form_fields.specs.declared.fault.Fault.TheVariants.{Range}
+use Rattle.form_fields.specs.declared.words.Section.TheVariants as section
+use Rattle.form_fields.specs.declared.words.Key.TheVariants as key
+use Rattle.form_fields.specs.declared.spelling.Spelling.TheVariants as spelling
+use Rattle.store_lists.specs.declared.lists.SharedRows.{SharedRows}
+use Rattle.store_lists.specs.declared.lists.Rows.{Rows}
+use Rattle.form_fields.specs.Once.{names_once, with_new}
+use Rattle.form_fields.specs.Fields.{known, text_at, texts_at, number_at, tables_at, table_in}
+use Rattle.store_lists.specs.Classes.{classes_of, class_name}
+use Rattle.method_fields.specs.Signature.{keys_once}
+use Rattle.store_lists.specs.Methods.{methods_of}
+use Rattle.store_lists.specs.Callbacks.{callbacks_of}
+
+-- one category at least, and none of them twice
+unfoldable pub are_categories : List Name → List Name → Bool
+are_categories names distinct = nat_le 1 (length names) && (length distinct == length names)
+
+-- 1 to 200 categories, no two the same
+unfoldable pub categories_at : Members → Script Fault (List Name)
+categories_at t = do
+  names ← texts_at section.Lists key.Categories spelling.Category 200 t
+  _ ← test (are_categories names (with_new [] names)) (Range section.Lists key.Categories)
+  Value (with_new [] names)
+
+-- a shared object more: its name and its class
+unfoldable pub shared_row : Data → SharedRows → Script Fault SharedRows
+shared_row d rows = do
+  t ← table_in section.Lists key.Shared d
+  _ ← known section.Shared t
+  name ← text_at section.Shared key.Name spelling.Text t
+  class ← text_at section.Shared key.Class spelling.Class t
+  Value (record { rows = rows.rows ++ (name, class) ∷ []; names = rows.names ++ name ∷ [] })
+
+unfoldable pub shared_of : List Data → Script Fault SharedRows
+shared_of tables = each shared_row tables (record { rows = []; names = [] })
+
+-- the rows of the four arrays, and what a method row may name
+unfoldable pub rows_of : List Name → List Data → List Data → List Data → List Data → Script Fault Rows
+rows_of categories class_tables shared_tables method_tables callback_tables = do
+  classes ← classes_of class_tables
+  shared ← shared_of shared_tables
+  methods ← methods_of (record { categories = categories; classes = map class_name classes; shared = shared.names }) method_tables
+  callbacks ← callbacks_of categories callback_tables
+  Value (record {
+    listed = record { categories = categories; classes = map class_name classes; shared = shared.names };
+    classes = classes;
+    shared = shared.rows;
+    methods = methods;
+    callbacks = callbacks;
+  })
+
+-- no class, shared name, method row or callback row stands twice
+unfoldable pub rows_once : Rows → Script Fault (Unit {0})
+rows_once rows = do
+  _ ← names_once rows.listed.classes
+  _ ← names_once rows.listed.shared
+  _ ← keys_once rows.methods.keys
+  _ ← keys_once rows.callbacks.keys
+  Value tt
+
+unfoldable pub lists_form : Members → Script Fault Lists
+lists_form t = do
+  _ ← known section.Lists t
+  most ← number_at section.Lists key.Rows 1 4000000 t
+  categories ← categories_at t
+  classes ← tables_at section.Lists key.Class 65536 t
+  shared ← tables_at section.Lists key.Shared 65536 t
+  methods ← tables_at section.Lists key.Method 65536 t
+  callbacks ← tables_at section.Lists key.Callback 65536 t
+  rows ← rows_of categories classes shared methods callbacks
+  _ ← rows_once rows
+  Value (record { rows = most; categories = rows.listed.categories; classes = rows.classes; shared = rows.shared; methods = rows.methods.rows; callbacks = rows.callbacks.rows })
