@@ -1,23 +1,34 @@
 -- The app before its methods are put in is sound.
-use Rattle.std.proofs.Common.{◌≡◌, ℕ, ◌+◌, ◌<◌, ◌≤◌, List, length, ap, subst, arith}
-use Rattle.std.specs.Prelude.{IsTrue}
+use Rattle.std.proofs.Common.{◌≡◌, ℕ, zero, suc, ◌+◌, ◌<◌, ◌≤◌, List, [], ◌∷◌, length, Some, refl, ◌∙◌, ap, subst, arith}
+use Rattle.std.specs.Prelude.{IsTrue, slice_get}
 use Rattle.app_machine.specs.declared.app.App.{App}
 use Rattle.app_machine.specs.declared.app.Class.{Class}
 use Rattle.app_machine.specs.declared.method.Method.{Method}
+use Rattle.app_machine.specs.declared.component.Kind.TheVariants as kinds
 use Rattle.app_machine.specs.declared.component.Component.{Component}
 use Rattle.vet_base.specs.Members.{In}
 use Rattle.app_machine.specs.Names.{Name}
 use Rattle.app_machine.specs.Events.{IsApplication}
 use Rattle.app_machine.specs.Sound.{SoundApp, SoundMethod}
-use Rattle.app_link.specs.MemberRows.{Fields}
-use Rattle.app_link.specs.Orders.{has_name}
+use Rattle.app_listing.specs.MemberRows.{Fields}
+use Rattle.app_listing.specs.Components.{NoApplication, OnlyFirst}
+use Rattle.app_listing.specs.Orders.{has_name}
 use Rattle.app_link.specs.Keys.{all_keys}
-use Rattle.app_link.specs.Hierarchy.{without_outer, renamed}
+use Rattle.class_hierarchy.specs.Hierarchy.{without_outer, renamed}
 use Rattle.app_link.specs.Frame.{IsFrame}
-use Rattle.app_link.proofs.Frame.{classes_ascend, no_circle, class_of_entry}
+use Rattle.app_link.proofs.FrameClasses.{classes_ascend, no_circle, class_of_entry}
 use Rattle.app_link.proofs.KeyOrder.{instances, are_keys, instances_ascend, few_keys}
-use Rattle.app_link.proofs.Keeps.{first_alone}
 use Rattle.vet_base.proofs.Lists.{length_maps}
+
+none_at : (cs : List Component) (i : ℕ) (c : Component) → slice_get cs i ≡ Some c → c.kind ≡ kinds.Application → NoApplication cs → ⊥
+none_at [] i c e k others = cc
+none_at (d ∷ ds) zero c e k others = let same : d ≡ c = cc in others.0 (ap (λ (x : Component). x.kind) same ∙ k)
+none_at (d ∷ ds) (suc i) c e k others = none_at ds i c e k others.1
+
+pub first_alone : (cs : List Component) (i : ℕ) (c : Component) → slice_get cs i ≡ Some c → c.kind ≡ kinds.Application → OnlyFirst cs → i ≡ 0
+first_alone [] i c e k only = absurd cc
+first_alone (d ∷ ds) zero c e k only = refl
+first_alone (d ∷ ds) (suc i) c e k only = absurd (none_at ds i c e k only)
 
 module _ (entries : List (Name × Class)) (fields : Fields) (app : App) (frame : IsFrame entries fields app) where
   classes_short : length app.classes < 4294967296

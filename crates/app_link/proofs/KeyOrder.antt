@@ -1,5 +1,5 @@
 -- The keys of ordered fields.
-use Rattle.std.proofs.Common.{◌≡◌, suc, ◌+◌, ◌≤◌, Bool, true, false, List, [], ◌∷◌, ◌++◌, map, length, refl, sym, ◌∙◌, ap, arith}
+use Rattle.std.proofs.Common.{◌≡◌, suc, ◌+◌, ◌≤◌, Bool, true, false, List, [], ◌∷◌, ◌++◌, map, length, refl, ap, arith}
 use Rattle.std.specs.Prelude.{flat_map}
 use Rattle.std.specs.List.{AllByRecursion}
 use Rattle.std.specs.List.Sorted.{IsStrictlySortedBy}
@@ -8,12 +8,12 @@ use Rattle.std.specs.declared.cmp.Ordering.TheVariants.{Less}
 use Rattle.app_machine.specs.declared.app.Key.{Key}
 use Rattle.app_machine.specs.declared.app.Key.TheVariants.{Field}
 use Rattle.vet_base.specs.Ascending.{Ascends}
-use Rattle.app_machine.specs.Sound.{AreKeys, name_order, field_order}
-use Rattle.app_link.specs.Texts.{Triple}
-use Rattle.app_link.specs.MemberRows.{Fields}
-use Rattle.app_link.specs.Orders.{triple_order}
+use Rattle.app_machine.specs.Sound.{AreKeys, field_order}
+use Rattle.app_listing.specs.Texts.{Triple}
+use Rattle.app_listing.specs.MemberRows.{Fields}
+use Rattle.app_listing.specs.Orders.{triple_order}
 use Rattle.app_link.specs.Keys.{key_unless, key_if, all_keys}
-use Rattle.vet_base.proofs.Orders.{then_assoc}
+use Rattle.method_code.proofs.FieldOrder.{ascends_as_fields}
 use Rattle.vet_base.proofs.Ascending.{ascends_from_sorted}
 
 abbrev field_unless : Bool → Triple → List Triple
@@ -41,9 +41,6 @@ pub are_keys : (fields : Fields) → AreKeys (all_keys fields) (instances fields
 unfolding all_keys
 are_keys fields = keys_are fields
 
-pub same_order : (a b : Triple) → triple_order a b ≡ field_order a b
-same_order a b = sym (then_assoc (name_order a.0 b.0) (name_order a.1 b.1) (name_order a.2 b.2))
-
 below_all : (x : Triple) (fields : Fields) → AllByRecursion (λ y. triple_order x y ≡ Less) (keys_of fields) → AllByRecursion (λ y. triple_order x y ≡ Less) (instances fields)
 unfolding instances
 below_all x [] all = all
@@ -61,11 +58,6 @@ instances_sorted (e ∷ es) sorted = one e.1 e.0 (below_all e.0 es sorted.0) (in
     one : (b : Bool) (f : Triple) → AllByRecursion (λ y. triple_order f y ≡ Less) (instances es) → IsStrictlySortedBy triple_order (instances es) → IsStrictlySortedBy triple_order (field_unless b f ++ instances es)
     one true f all rest = rest
     one false f all rest = (all, rest)
-
-pub ascends_as_fields : (ts : List Triple) → Ascends triple_order ts → Ascends field_order ts
-ascends_as_fields [] sorted = tt
-ascends_as_fields (x ∷ []) sorted = tt
-ascends_as_fields (x ∷ y ∷ ys) sorted = (sym (same_order x y) ∙ sorted.0, ascends_as_fields (y ∷ ys) sorted.1)
 
 pub instances_ascend : (fields : Fields) → IsStrictlySortedBy triple_order (keys_of fields) → Ascends field_order (instances fields)
 instances_ascend fields sorted = ascends_as_fields (instances fields) (ascends_from_sorted triple_order (instances fields) (instances_sorted fields sorted))

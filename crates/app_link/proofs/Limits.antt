@@ -2,9 +2,9 @@
 use Rattle.std.proofs.Common.{◌≡◌, ℕ, Ok, ◌∙◌}
 use Rattle.std.specs.Prelude.{nat_le}
 use Rattle.vet_base.specs.Script.{Script, Value, Test, run}
-use Rattle.app_link.specs.declared.fault.Fault.{Fault}
-use Rattle.app_link.specs.declared.fault.Fault.TheVariants.{TooMany}
-use Rattle.app_link.specs.declared.fault.Limit.TheVariants as limits
+use Rattle.app_listing.specs.declared.fault.Fault.{Fault}
+use Rattle.app_listing.specs.declared.fault.Fault.TheVariants.{TooMany}
+use Rattle.app_listing.specs.declared.fault.Limit.TheVariants as limits
 use Rattle.app_link.specs.Limits.{within_limits, WithinLimits}
 use Rattle.std.proofs.lemmas.Bool.{leb-true, le-leb}
 use Rattle.vet_base.proofs.Runs.{test_ok, test_passes}

@@ -9,17 +9,17 @@ use Rattle.app_machine.specs.declared.method.Method.{Method}
 use Rattle.app_machine.specs.declared.papers.Manifest.{Manifest}
 use Rattle.app_machine.specs.declared.papers.Layouts.{Layouts}
 use Rattle.app_machine.specs.Names.{Name}
-use Rattle.app_link.specs.Code.{Coding, all_codes}
-use Rattle.app_link.specs.Components.{providers_of}
+use Rattle.method_code.specs.Code.{Coding, all_codes}
+use Rattle.app_listing.specs.Components.{providers_of}
 use Rattle.app_link.specs.Frame.{IsFrame, before_code}
-use Rattle.app_link.specs.Gathered.{Gathered, gathering}
-use Rattle.app_link.specs.Hierarchy.{HasOuters, without_outer, renamed}
+use Rattle.app_listing.specs.Gathered.{Gathered, gathering}
+use Rattle.class_hierarchy.specs.Hierarchy.{HasOuters, without_outer, renamed}
 use Rattle.app_link.specs.IsApp.{IsApp}
 use Rattle.app_link.specs.Limits.{within_limits}
-use Rattle.app_link.specs.Methods.{all_methods}
-use Rattle.app_link.specs.StaticList.{AreStatics}
-use Rattle.app_link.proofs.AreCoded.{coding_stands}
-use Rattle.app_link.proofs.InFiles.{gathering_stands}
+use Rattle.method_code.specs.Methods.{all_methods}
+use Rattle.method_code.specs.StaticList.{AreStatics}
+use Rattle.method_code.proofs.AreCoded.{coding_stands}
+use Rattle.app_listing.proofs.InFiles.{gathering_stands}
 use Rattle.app_link.proofs.Limits.{limits_stand}
 
 within : (dexes : List Dex) (gathered : Gathered) (coding : Coding) (classes methods fields : ℕ) → classes ≡ length gathered.classes → methods ≡ length gathered.methods → fields ≡ length gathered.fields

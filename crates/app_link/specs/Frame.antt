@@ -1,32 +1,16 @@
 -- The app before its statics and methods are put in.
-use Rattle.std.specs.Prelude.{◌≡◌, ◌<◌, List, [], ◌∷◌, map, length, IsTrue}
+use Rattle.std.specs.Prelude.{◌≡◌, ◌<◌, List, [], map, length}
 use Rattle.std.specs.List.Sorted.{IsStrictlySortedBy}
 use Rattle.std.specs.Map.{keys_of}
 use Rattle.app_machine.specs.declared.app.App.{App}
 use Rattle.app_machine.specs.declared.app.Class.{Class}
-use Rattle.app_machine.specs.declared.component.Kind.TheVariants as kinds
-use Rattle.app_machine.specs.declared.component.Component.{Component}
-use Rattle.vet_base.specs.Members.{In}
 use Rattle.app_machine.specs.Names.{Name}
 use Rattle.app_machine.specs.Sound.{name_order}
-use Rattle.app_link.specs.MemberRows.{Fields}
-use Rattle.app_link.specs.Orders.{has_name, triple_order}
+use Rattle.app_listing.specs.MemberRows.{Fields}
+use Rattle.app_listing.specs.Orders.{triple_order}
 use Rattle.app_link.specs.Keys.{all_keys}
-use Rattle.app_link.specs.Hierarchy.{HasOuters, NoCircle, without_outer, renamed}
-
--- none of these is the application
-abbrev pub NoApplication : List Component → Type 0
-NoApplication [] = Unit {0}
-NoApplication (c ∷ cs) = (c.kind ≡ kinds.Application → ⊥) × NoApplication cs
-
-abbrev pub OnlyFirst : List Component → Type 0
-OnlyFirst [] = Unit {0}
-OnlyFirst (c ∷ cs) = NoApplication cs
-
--- each component has a class of the app, and at most the first is the application
-pub record Fit (classes : List (Name × Class)) (cs : List Component) : Type 0 where
-  pub known : (c : Component) → In c cs → IsTrue (has_name classes c.class)
-  pub first : OnlyFirst cs
+use Rattle.app_listing.specs.Components.{Fit}
+use Rattle.class_hierarchy.specs.Hierarchy.{HasOuters, NoCircle, without_outer, renamed}
 
 -- the app has these classes, these fields' keys and no methods yet
 pub record IsFrame (entries : List (Name × Class)) (fields : Fields) (app : App) : Type 0 where

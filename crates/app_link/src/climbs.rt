@@ -1,13 +1,11 @@
 //! How many classes instructions ask for the fields that they name.
 
-use crate::classes::Classes;
-use crate::coded::Coded;
-use crate::order::order_of;
-use crate::texts::type_at;
-use crate::weight::{name_cost, spend};
+use app_listing::{Classes, name_cost, spend, type_at};
 use app_model::Class;
+use class_hierarchy::order_of;
 use dex_code::{Insn, Naming};
 use dex_reader::Dex;
+use method_code::Coded;
 use std::alloc::Global;
 use std::collections::BTreeMap;
 use vet_base::{Memory, Name};

@@ -3,7 +3,7 @@
 ghost use Rattle.std.specs.Prelude.{◌≡◌, ◌++◌, IfOk, OnOk};
 ghost use Rattle.app_link.specs.Keys.{all_keys, key_if, key_unless};
 
-use crate::members::{Fields, Triple};
+use app_listing::{Fields, Triple};
 use app_model::Key;
 use std::alloc::Global;
 use vet_base::{Memory, Seq};

@@ -4,26 +4,21 @@ ghost use Rattle.std.specs.Prelude.{◌≡◌, ◌≢◌, ◌⊎◌, ◌<◌, �
 ghost use Rattle.vet_base.specs.Script.{Gives};
 ghost use Rattle.app_machine.specs.Sound.{SoundApp};
 ghost use Rattle.dex_reader.specs.Sound.{SoundDex};
-ghost use Rattle.app_link.specs.Code.{ShortCodes, all_codes};
-ghost use Rattle.app_link.specs.Described.{Described};
+ghost use Rattle.method_code.specs.Code.{ShortCodes};
 ghost use Rattle.app_link.specs.FirstLinkFault.{FirstLinkFault, StopsAtFirst, limit_word, shown};
 ghost use Rattle.app_link.specs.IsApp.{IsApp};
 ghost use Rattle.app_link.specs.OneAnswer.{OneAnswer, OnlyApp};
 ghost use Rattle.app_link.specs.Limits.{within_limits};
-ghost use Rattle.app_link.specs.SoFar.{SoFar};
-ghost use Rattle.app_link.specs.Tested.{Tested};
 
+use crate::calls_listed::check_calls_listed;
 use crate::climbs::check_climbs;
-use crate::coded::{Coding, codes_of};
-use crate::fault::{Fault, Halt, Limit};
-use crate::finish::{Papers, finished, frame_of};
-use crate::gathered::{Parts, gather};
-use crate::hierarchy::outers_of;
-use crate::members::Methods;
-use crate::weight::check_calls_listed;
+use crate::frame::{Papers, frame_of};
+use app_listing::{Fault, Halt, Limit, Parts, gather};
 use app_model::{App, Layouts, Manifest, MethodRef};
+use class_hierarchy::outers_of;
 use dex_code::{CodeFault, code_laws};
 use dex_reader::Dex;
+use method_code::{codes_of, finished};
 use std::alloc::Global;
 use vet_base::{Name, Stop};
 
@@ -70,20 +65,6 @@ fn check_limits(classes: usize, methods: usize, fields: usize, units: u64) -> Re
     Ok(())
 }
 
-#[tactic(auto, using(crate::proofs::CodedFacts::codes_fine))]
-fn coding_of(alloc: Global, dexes: &[Dex], methods: Methods) -> Result<Coding, Halt>
-    requires codes { ShortCodes dexes.now }
-    requires described { Described methods.entries }
-    ensures value { Gives (λ c. (c.methods.items, c.units)) result (all_codes dexes.now methods.entries) }
-    ensures fine { IfOk result (λ c. SoFar (c.methods.items, c.units)) }
-    ensures tested { IfOk result (λ c. Tested dexes.now c.methods.items) }
-    ensures few { IfOk result (λ c. length c.methods.items ≤ length methods.entries) }
-{
-    code_laws();
-    let coding = codes_of(alloc, dexes, methods)?;
-    Ok(coding)
-}
-
 /// How many classes, methods and fields there are.
 fn counts_of(parts: &Parts) -> (usize, usize, usize)
     ensures classes { result.0 ≡ length parts.now.classes.entries }
@@ -115,7 +96,7 @@ fn linked(alloc: Global, dexes: &[Dex], manifest: &Manifest, layouts: &Layouts) 
         methods,
         components,
     } = parts;
-    let coding = coding_of(alloc, dexes, methods)?;
+    let coding = codes_of(alloc, dexes, methods)?;
     check_limits(class_count, method_count, field_count, coding.units)?;
     check_calls_listed(dexes, &coding.methods)?;
     check_climbs(alloc, dexes, &classes, &coding.methods)?;

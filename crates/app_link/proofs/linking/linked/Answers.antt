@@ -4,12 +4,12 @@ use Rattle.app_link.proofs.FirstFaults.{at_hierarchy, at_code, at_limits}
 use Rattle.app_link.proofs.FrameSound.{frame_sound}
 use Rattle.app_link.proofs.Linked.{is_app}
 use Rattle.app_link.proofs.OneAnswer.{only_app}
-use Rattle.app_link.proofs.SoundMembers.{gathered_described}
-use Rattle.app_link.proofs.Stuck.{no_circle}
+use Rattle.app_listing.proofs.SoundMembers.{gathered_described}
+use Rattle.class_hierarchy.proofs.Stuck.{no_circle}
 use Rattle.app_link.proofs.linking.linked.Goals as goal
 
-pub coding_of-requires-clause-described : goal.coding_of-requires-clause-described
-coding_of-requires-clause-described c = gathered_described c.args.dexes.now c.args.manifest.now (record {
+pub codes_of-requires-clause-described : goal.codes_of-requires-clause-described
+codes_of-requires-clause-described c = gathered_described c.args.dexes.now c.args.manifest.now (record {
   classes = c.in_ok-parts.parts.classes.entries;
   fields = c.in_ok-parts.parts.fields.entries;
   methods = c.in_ok-parts.parts.methods.entries;

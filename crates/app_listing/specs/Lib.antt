@@ -1,0 +1,9 @@
+pub mod Classes
+pub mod Components
+pub mod Described
+pub mod Flags
+pub mod Gathered
+pub mod InFiles
+pub mod MemberRows
+pub mod Orders
+pub mod Texts

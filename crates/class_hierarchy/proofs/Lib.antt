@@ -1,0 +1,12 @@
+pub mod Best
+pub mod Entries
+pub mod Filling
+pub mod Firsts
+pub mod FoldsOn
+pub mod NoneDeeper
+pub mod OfClasses
+pub mod OneHierarchy
+pub mod Rounds
+pub mod Search
+pub mod Settling
+pub mod Stuck

@@ -1,0 +1,4 @@
+pub mod Circle
+pub mod Depths
+pub mod Hierarchy
+pub mod Settled

@@ -1,0 +1,10 @@
+pub mod AreCoded
+pub mod Code
+pub mod Lift
+pub mod Methods
+pub mod Named
+pub mod SoFar
+pub mod StaticList
+pub mod Statics
+pub mod StaticsInOrder
+pub mod Tested
