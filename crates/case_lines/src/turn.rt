@@ -12,6 +12,8 @@ pub struct ToldJudge {
 }
 
 impl Judge for ToldJudge {
+    ghost ready = { λ judge. Unit {0} };
+
     ghost finds = { λ judge content judgement. Unit {0} };
 
     ghost edition = { λ judge. judge.edition };

@@ -17,6 +17,9 @@ pub struct Judged {
 
 /// One who judges apps, always under the same lists.
 pub trait Judge {
+    /// What it takes to be asked.
+    ghost ready: { Self → Type 0 };
+
     /// What the content may come to.
     ghost finds: { Self → Content → Judgement → Type 0 };
 
@@ -28,6 +31,7 @@ pub trait Judge {
 
     /// Judges an app.
     fn judge(&self, alloc: Global, content: &Content) -> Result<Judged, Memory>
+        requires { ready self.now }
         ensures { IfOk result (λ judged. finds self.now content.now (judgement_of judged)) };
 }
 

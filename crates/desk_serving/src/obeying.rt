@@ -66,6 +66,7 @@ fn decided<K: Keeper, J: Judge>(
     reviewer: &Party,
     case: &Case,
 ) -> Result<Reply, KeepFault>
+    requires ready { J.ready desk.now.judge }
     requires takes { (judgement : Judgement) → TakesDecision (decision_by (session_of reviewer.now desk.now.office.appeal_days day (J.edition desk.now.judge)) judgement) case.now }
     requires fits { (judgement : Judgement) (cases : List Case) → K.told keeper.old ≡ Some cases
         → Fits (settled case.now (decision_by (session_of reviewer.now desk.now.office.appeal_days day (J.edition desk.now.judge)) judgement)).0 cases }
@@ -105,6 +106,7 @@ fn obeyed<K: Keeper, J: Judge>(
     party: &Party,
     command: &Command,
 ) -> Result<Reply, KeepFault>
+    requires ready { J.ready desk.now.judge }
     requires docket { TellsDocket (K.told keeper.old) }
     requires formed { IsFormed command.now }
     ensures obeys { IfOk result (λ reply. Obeys (J.finds desk.now.judge) (session_of party.now desk.now.office.appeal_days day (J.edition desk.now.judge)) command.now (K.told keeper.old) (K.told keeper.new) reply) }
@@ -129,6 +131,7 @@ pub fn obey<K: Keeper, J: Judge>(
     party: &Party,
     command: &Command,
 ) -> Result<Reply, KeepFault>
+    requires ready { J.ready desk.now.judge }
     requires docket { TellsDocket (K.told keeper.old) }
     requires formed { IsFormed command.now }
     ensures obeys { IfOk result (λ reply. Obeys (J.finds desk.now.judge) (session_of party.now desk.now.office.appeal_days day (J.edition desk.now.judge)) command.now (K.told keeper.old) (K.told keeper.new) reply) }

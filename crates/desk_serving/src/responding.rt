@@ -63,6 +63,7 @@ fn commanded<K: Keeper, J: Judge>(
     party: &Party,
     command: &Command,
 ) -> Due
+    requires ready { J.ready desk.now.judge }
     requires docket { TellsDocket (K.told keeper.old) }
     requires formed { IsFormed command.now }
     ensures responds { (request : Result Asked HttpFault) → IsCommand desk.now.office request party.now command.now
@@ -90,6 +91,7 @@ fn asked_of<K: Keeper, J: Judge>(
     day: u32,
     asked: &Asked,
 ) -> Due
+    requires ready { J.ready desk.now.judge }
     requires docket { TellsDocket (K.told keeper.old) }
     ensures responds { Responds (J.finds desk.now.judge) (setting_of desk.now.office (J.edition desk.now.judge) day) (K.told keeper.old) (K.told keeper.new) (Ok asked.now) result }
     ensures coded { IsCoded result }
@@ -123,6 +125,7 @@ pub(crate) fn responded<K: Keeper, J: Judge>(
     day: u32,
     request: &Result<Asked, HttpFault>,
 ) -> Due
+    requires ready { J.ready desk.now.judge }
     requires docket { TellsDocket (K.told keeper.old) }
     ensures responds { Responds (J.finds desk.now.judge) (setting_of desk.now.office (J.edition desk.now.judge) day) (K.told keeper.old) (K.told keeper.new) request.now result }
     ensures coded { IsCoded result }

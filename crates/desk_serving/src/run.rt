@@ -20,8 +20,11 @@ fn served_door<K: Keeper, D: Door, C: Clock, J: Judge>(
     clock: &mut C,
     most: u32,
 ) -> Result<u32, DoorFault>
+    // The judge can be asked.
+    requires ready { J.ready desk.now.judge }
+
     // The keeper's cases, where it tells them, are those of a desk.
-    requires { TellsDocket (K.told keeper.old) }
+    requires docket { TellsDocket (K.told keeper.old) }
     ensures runs { Runs (J.finds desk.now.judge) desk.now.office (J.edition desk.now.judge) (C.told clock.old) most
         (outside (K.told keeper.old) (K.fault_count keeper.old) (D.Link.told door.old) (D.Link.fault_count door.old))
         (outside (K.told keeper.new) (K.fault_count keeper.new) (D.Link.told door.new) (D.Link.fault_count door.new)) result }
@@ -53,8 +56,11 @@ pub fn serve_door<K: Keeper, D: Door, C: Clock, J: Judge>(
     clock: &mut C,
     most: u32,
 ) -> Result<u32, DoorFault>
+    // The judge can be asked.
+    requires ready { J.ready desk.now.judge }
+
     // The keeper's cases, where it tells them, are those of a desk.
-    requires { TellsDocket (K.told keeper.old) }
+    requires docket { TellsDocket (K.told keeper.old) }
     ensures runs { Runs (J.finds desk.now.judge) desk.now.office (J.edition desk.now.judge) (C.told clock.old) most
         (outside (K.told keeper.old) (K.fault_count keeper.old) (D.Link.told door.old) (D.Link.fault_count door.old))
         (outside (K.told keeper.new) (K.fault_count keeper.new) (D.Link.told door.new) (D.Link.fault_count door.new)) result }

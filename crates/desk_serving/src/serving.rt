@@ -68,7 +68,8 @@ fn answered<K: Keeper, L: Link, J: Judge>(
     day: u32,
     request: &Result<Asked, HttpFault>,
 ) -> Served
-    requires { TellsDocket (K.told keeper.old) }
+    requires ready { J.ready desk.now.judge }
+    requires docket { TellsDocket (K.told keeper.old) }
     ensures served { ServesRequest (J.finds desk.now.judge) (setting_of desk.now.office (J.edition desk.now.judge) day)
         (outside (K.told keeper.old) (K.fault_count keeper.old) (L.told link.old) (L.fault_count link.old))
         (outside (K.told keeper.new) (K.fault_count keeper.new) (L.told link.new) (L.fault_count link.new)) request.now result }
@@ -103,8 +104,11 @@ pub fn serve_one<K: Keeper, L: Link, C: Clock, J: Judge>(
     link: &mut L,
     clock: &mut C,
 ) -> Served
+    // The judge can be asked.
+    requires ready { J.ready desk.now.judge }
+
     // The keeper's cases, where it tells them, are those of a desk.
-    requires { TellsDocket (K.told keeper.old) }
+    requires docket { TellsDocket (K.told keeper.old) }
     ensures serves { Serves (J.finds desk.now.judge) desk.now.office (J.edition desk.now.judge) (C.told clock.old)
         (outside (K.told keeper.old) (K.fault_count keeper.old) (L.told link.old) (L.fault_count link.old))
         (outside (K.told keeper.new) (K.fault_count keeper.new) (L.told link.new) (L.fault_count link.new)) result }

@@ -44,6 +44,8 @@ fn report_of(outcome: OutcomeWord) -> &'static [u8] {
 }
 
 impl Judge for FirstByte {
+    ghost ready = { λ judge. Unit {0} };
+
     ghost finds = { λ judge content judgement. Unit {0} };
 
     ghost edition = { λ judge. judge.edition };

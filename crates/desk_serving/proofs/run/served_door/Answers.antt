@@ -8,7 +8,7 @@ use Rattle.desk_serving.proofs.run.served_door.Goals as goal
 pub loop-taken-init : goal.loop-taken-init
 loop-taken-init g c = record {
   takes = begins;
-  docket = c.requires;
+  docket = c.requires.docket;
   within = omega arith;
   clock = refl;
   never_falls = omega arith;
