@@ -1,19 +1,22 @@
 -- Which fault is the first, and that an app has none.
-use Rattle.std.proofs.Common.{◌≡◌, ◌≢◌, ◌⊎◌, inl, inr, ℕ, Ok, Err, List, length, sym, subst}
+use Rattle.std.proofs.Common.{◌≡◌, ◌≢◌, ◌⊎◌, inl, inr, ℕ, min, Ok, Err, List, length, sym, subst}
 use Rattle.vet_base.specs.declared.stop.Stop.{Stop}
 use Rattle.vet_base.specs.declared.stop.Stop.TheVariants as stops
-use Rattle.vet_base.specs.Script.{run, Fails}
+use Rattle.vet_base.specs.Script.{Script, run, Fails}
 use Rattle.dex_reader.specs.declared.dex.Dex.{Dex}
 use Rattle.app_machine.specs.declared.papers.Manifest.{Manifest}
 use Rattle.app_machine.specs.declared.papers.Layouts.{Layouts}
 use Rattle.app_link.specs.declared.linking.LinkFault.{LinkFault}
 use Rattle.app_link.specs.declared.linking.LinkFault.TheVariants as told
 use Rattle.app_listing.specs.declared.fault.Fault.{Fault}
-use Rattle.method_code.specs.Code.{Coding, all_codes}
+use Rattle.method_code.specs.declared.coded.Coded.{Coded}
+use Rattle.method_code.specs.Code.{all_codes}
+use Rattle.method_code.specs.Units.{units_in}
 use Rattle.app_link.specs.FirstLinkFault.{FirstFault, of_gathering, of_hierarchy, of_code, of_limits, StopsAtFirst, FirstLinkFault, shown}
 use Rattle.app_listing.specs.Gathered.{Gathered, gathering}
 use Rattle.class_hierarchy.specs.Hierarchy.{NoCircle}
 use Rattle.app_link.specs.Limits.{within_limits}
+use Rattle.app_link.proofs.Limits.{same_limits}
 use Rattle.class_hierarchy.specs.Settled.{StopsAtCircle}
 
 module _ (dexes : List Dex) (manifest : Manifest) where
@@ -30,14 +33,15 @@ module _ (dexes : List Dex) (manifest : Manifest) where
     at_code stops.Memory none fails = tt
     at_code (stops.Fault fault) none fails = of_code gathered gathers none fails
 
-    pub at_limits : (e : Stop Fault) (coding : Coding) (classes methods fields : ℕ) → NoCircle gathered.classes → run (all_codes dexes gathered.methods) ≡ Ok coding
-        → classes ≡ length gathered.classes → methods ≡ length gathered.methods → fields ≡ length gathered.fields → Fails e (run (within_limits classes methods fields coding.1)) → StopsAtFirst dexes manifest e
-    at_limits stops.Memory coding classes methods fields none codes one two three fails = tt
-    at_limits (stops.Fault fault) coding classes methods fields none codes one two three fails =
-        of_limits gathered coding gathers none codes
-        (subst (λ (n : ℕ). run (within_limits n (length gathered.methods) (length gathered.fields) coding.1) ≡ Err fault) one
-        (subst (λ (n : ℕ). run (within_limits classes n (length gathered.fields) coding.1) ≡ Err fault) two
-        (subst (λ (n : ℕ). run (within_limits classes methods n coding.1) ≡ Err fault) three fails)))
+    pub at_limits : (e : Stop Fault) (coded : List Coded) (classes methods fields units : ℕ) → NoCircle gathered.classes → run (all_codes dexes gathered.methods) ≡ Ok coded
+        → classes ≡ length gathered.classes → methods ≡ length gathered.methods → fields ≡ length gathered.fields → units ≡ min (units_in dexes gathered.methods) 18446744073709551615 → Fails e (run (within_limits classes methods fields units)) → StopsAtFirst dexes manifest e
+    at_limits stops.Memory coded classes methods fields units none codes one two three four fails = tt
+    at_limits (stops.Fault fault) coded classes methods fields units none codes one two three four fails =
+        of_limits gathered coded gathers none codes
+        (subst (λ (n : ℕ). run (within_limits n (length gathered.methods) (length gathered.fields) (units_in dexes gathered.methods)) ≡ Err fault) one
+        (subst (λ (n : ℕ). run (within_limits classes n (length gathered.fields) (units_in dexes gathered.methods)) ≡ Err fault) two
+        (subst (λ (n : ℕ). run (within_limits classes methods n (units_in dexes gathered.methods)) ≡ Err fault) three
+        (subst (λ (s : Script Fault (Unit {0})). run s ≡ Err fault) (same_limits classes methods fields units (units_in dexes gathered.methods) four) fails))))
 
 pub told_first : (dexes : List Dex) (manifest : Manifest) (layouts : Layouts) (fault : Fault) (f : LinkFault) → FirstFault dexes manifest fault → (f ≡ told.Memory) ⊎ (f ≡ shown fault) → f ≢ told.Memory → FirstLinkFault dexes manifest layouts f
 told_first dexes manifest layouts fault f first (inl memory) other = absurd (other memory)

@@ -1,6 +1,6 @@
 -- An app that was put together from its parts is the app of the files.
-use Rattle.std.proofs.Common.{◌≡◌, ℕ, Ok, List, [], map, length, sym, ◌∙◌, ap, subst}
-use Rattle.vet_base.specs.Script.{run}
+use Rattle.std.proofs.Common.{◌≡◌, ℕ, min, Ok, List, [], map, length, sym, ◌∙◌, ap, subst}
+use Rattle.vet_base.specs.Script.{Script, run}
 use Rattle.dex_reader.specs.declared.dex.Dex.{Dex}
 use Rattle.dex_code.specs.CodeLaws.{CodeLaws}
 use Rattle.app_machine.specs.declared.app.App.{App}
@@ -9,7 +9,10 @@ use Rattle.app_machine.specs.declared.method.Method.{Method}
 use Rattle.app_machine.specs.declared.papers.Manifest.{Manifest}
 use Rattle.app_machine.specs.declared.papers.Layouts.{Layouts}
 use Rattle.app_machine.specs.Names.{Name}
-use Rattle.method_code.specs.Code.{Coding, all_codes}
+use Rattle.method_code.specs.declared.coded.Coded.{Coded}
+use Rattle.method_code.specs.Code.{all_codes}
+use Rattle.method_code.specs.Units.{units_in}
+use Rattle.app_listing.specs.declared.fault.Fault.{Fault}
 use Rattle.app_listing.specs.Components.{providers_of}
 use Rattle.app_link.specs.Frame.{IsFrame, before_code}
 use Rattle.app_listing.specs.Gathered.{Gathered, gathering}
@@ -20,16 +23,18 @@ use Rattle.method_code.specs.Methods.{all_methods}
 use Rattle.method_code.specs.StaticList.{AreStatics}
 use Rattle.method_code.proofs.AreCoded.{coding_stands}
 use Rattle.app_listing.proofs.InFiles.{gathering_stands}
-use Rattle.app_link.proofs.Limits.{limits_stand}
+use Rattle.app_link.proofs.Limits.{limits_stand, same_limits}
 
-within : (dexes : List Dex) (gathered : Gathered) (coding : Coding) (classes methods fields : ℕ) → classes ≡ length gathered.classes → methods ≡ length gathered.methods → fields ≡ length gathered.fields
-    → run (within_limits classes methods fields coding.1) ≡ Ok tt → run (within_limits (length gathered.classes) (length gathered.methods) (length gathered.fields) coding.1) ≡ Ok tt
-within dexes gathered coding classes methods fields one two three e =
-    subst (λ (n : ℕ). run (within_limits n (length gathered.methods) (length gathered.fields) coding.1) ≡ Ok tt) one
-    (subst (λ (n : ℕ). run (within_limits classes n (length gathered.fields) coding.1) ≡ Ok tt) two
-    (subst (λ (n : ℕ). run (within_limits classes methods n coding.1) ≡ Ok tt) three e))
+within : (dexes : List Dex) (gathered : Gathered) (classes methods fields units : ℕ) → classes ≡ length gathered.classes → methods ≡ length gathered.methods → fields ≡ length gathered.fields → units ≡ min (units_in dexes gathered.methods) 18446744073709551615
+    → run (within_limits classes methods fields units) ≡ Ok tt → run (within_limits (length gathered.classes) (length gathered.methods) (length gathered.fields) (units_in dexes gathered.methods)) ≡ Ok tt
+within dexes gathered classes methods fields units one two three four e =
+    let total : ℕ = units_in dexes gathered.methods in
+    subst (λ (n : ℕ). run (within_limits n (length gathered.methods) (length gathered.fields) total) ≡ Ok tt) one
+    (subst (λ (n : ℕ). run (within_limits classes n (length gathered.fields) total) ≡ Ok tt) two
+    (subst (λ (n : ℕ). run (within_limits classes methods n total) ≡ Ok tt) three
+    (subst (λ (s : Script Fault (Unit {0})). run s ≡ Ok tt) (same_limits classes methods fields units total four) e)))
 
-module _ (laws : CodeLaws) (dexes : List Dex) (manifest : Manifest) (layouts : Layouts) (gathered : Gathered) (coding : Coding) (frame app : App)
+module _ (laws : CodeLaws) (dexes : List Dex) (manifest : Manifest) (layouts : Layouts) (gathered : Gathered) (coded : List Coded) (frame app : App)
     (is : IsFrame gathered.classes gathered.fields frame) (others : app ≡ record frame { statics = app.statics; methods = app.methods }) where
   -- the app before its statics and methods were put in
   before : before_code app ≡ frame
@@ -42,18 +47,18 @@ module _ (laws : CodeLaws) (dexes : List Dex) (manifest : Manifest) (layouts : L
   same_classes : app.classes ≡ frame.classes
   same_classes = ap (λ (a : App). a.classes) others
 
-  pub is_app : (classes methods fields : ℕ) → classes ≡ length gathered.classes → methods ≡ length gathered.methods → fields ≡ length gathered.fields
-      → run (gathering dexes manifest) ≡ Ok gathered → run (all_codes dexes gathered.methods) ≡ Ok coding → run (within_limits classes methods fields coding.1) ≡ Ok tt
+  pub is_app : (classes methods fields units : ℕ) → classes ≡ length gathered.classes → methods ≡ length gathered.methods → fields ≡ length gathered.fields → units ≡ min (units_in dexes gathered.methods) 18446744073709551615
+      → run (gathering dexes manifest) ≡ Ok gathered → run (all_codes dexes gathered.methods) ≡ Ok coded → run (within_limits classes methods fields units) ≡ Ok tt
       → frame.components ≡ gathered.components → frame.clicks ≡ layouts.clicks → frame.providers ≡ providers_of manifest → frame.layout_classes ≡ layouts.classes
-      → AreStatics frame gathered.fields dexes coding.0 app.statics → app.methods ≡ all_methods frame gathered.fields app.statics dexes coding.0
+      → AreStatics frame gathered.fields dexes coded app.statics → app.methods ≡ all_methods frame gathered.fields app.statics dexes coded
       → IsApp dexes manifest layouts app
-  is_app classes methods fields one two three gathers codes limits components clicks providers layout_classes statics lifted = record {
+  is_app classes methods fields units one two three four gathers codes limits components clicks providers layout_classes statics lifted = record {
     gathered = gathered;
     gathers = gathering_stands dexes manifest gathered gathers;
     no_circle = is.no_circle;
-    coding = coding;
-    codes = coding_stands laws dexes gathered.methods coding codes;
-    limits = limits_stand (length gathered.classes) (length gathered.methods) (length gathered.fields) coding.1 (within dexes gathered coding classes methods fields one two three limits);
+    coded = coded;
+    codes = coding_stands laws dexes gathered.methods coded codes;
+    limits = limits_stand (length gathered.classes) (length gathered.methods) (length gathered.fields) (units_in dexes gathered.methods) (within dexes gathered classes methods fields units one two three four limits);
     classes = subst (λ (cs : List Class). map without_outer cs ≡ map renamed gathered.classes) (sym same_classes) is.classes;
     outers = subst HasOuters (sym same_classes) is.outers;
     keys = ap (λ (a : App). a.keys) others ∙ is.keys;
@@ -61,6 +66,6 @@ module _ (laws : CodeLaws) (dexes : List Dex) (manifest : Manifest) (layouts : L
     clicks = ap (λ (a : App). a.clicks) others ∙ clicks;
     providers = ap (λ (a : App). a.providers) others ∙ providers;
     layout_classes = ap (λ (a : App). a.layout_classes) others ∙ layout_classes;
-    statics = subst (λ (a : App). AreStatics a gathered.fields dexes coding.0 app.statics) (sym before) statics;
-    methods = lifted ∙ ap (λ (a : App). all_methods a gathered.fields app.statics dexes coding.0) (sym before);
+    statics = subst (λ (a : App). AreStatics a gathered.fields dexes coded app.statics) (sym before) statics;
+    methods = lifted ∙ ap (λ (a : App). all_methods a gathered.fields app.statics dexes coded) (sym before);
   }

@@ -2,7 +2,7 @@
 use Rattle.std.proofs.Common.{◌≡◌, Result, Ok, Err, List, map, length, refl, sym, ◌∙◌, ap, subst, ◌⊎◌, inl, inr}
 use Rattle.std.specs.List.Sorted.{IsStrictlySortedBy}
 use Rattle.std.specs.Map.{keys_of}
-use Rattle.vet_base.specs.Script.{run}
+use Rattle.vet_base.specs.Script.{Script, run}
 use Rattle.dex_reader.specs.declared.dex.Dex.{Dex}
 use Rattle.dex_code.specs.CodeLaws.{CodeLaws}
 use Rattle.app_machine.specs.declared.app.App.{App}
@@ -17,7 +17,9 @@ use Rattle.app_machine.specs.Names.{Name}
 use Rattle.app_machine.specs.Sound.{name_order}
 use Rattle.app_listing.specs.declared.fault.Fault.{Fault}
 use Rattle.app_listing.specs.declared.fault.Fault.TheVariants.{Circle}
-use Rattle.method_code.specs.Code.{Coding, all_codes}
+use Rattle.method_code.specs.declared.coded.Coded.{Coded}
+use Rattle.method_code.specs.Code.{all_codes}
+use Rattle.method_code.specs.Units.{units_in}
 use Rattle.app_link.specs.declared.linking.LinkFault.{LinkFault}
 use Rattle.app_link.specs.declared.linking.LinkFault.TheVariants.{Memory as want_of_memory}
 use Rattle.app_link.specs.FirstLinkFault.{FirstFault, FirstLinkFault, of_gathering, of_hierarchy, of_code, of_limits, shown}
@@ -41,23 +43,25 @@ use Rattle.app_listing.proofs.Triples.{triple_total}
 use Rattle.vet_base.proofs.Results.{ok_or_err, one_ok, one_err}
 use Rattle.vet_base.proofs.Ascending.{ascending_alike}
 
+-- the tests of the limits of what was gathered
+abbrev limits : List Dex → Gathered → Script Fault (Unit {0})
+limits dexes gathered = within_limits (length gathered.classes) (length gathered.methods) (length gathered.fields) (units_in dexes gathered.methods)
+
 module _ (laws : CodeLaws) (dexes : List Dex) (manifest : Manifest) (layouts : Layouts) (app : App) (is : IsApp dexes manifest layouts app) where
   same : (gathered : Gathered) → run (gathering dexes manifest) ≡ Ok gathered → is.gathered ≡ gathered
   same gathered e = one_ok (run (gathering dexes manifest)) is.gathered gathered (gathering_runs dexes manifest is.gathered is.gathers) e
 
-  codes_of : (gathered : Gathered) → run (gathering dexes manifest) ≡ Ok gathered → run (all_codes dexes gathered.methods) ≡ Ok is.coding
-  codes_of gathered e = subst (λ (g : Gathered). run (all_codes dexes g.methods) ≡ Ok is.coding) (same gathered e) (coding_runs laws dexes is.gathered.methods is.coding is.codes)
+  codes_of : (gathered : Gathered) → run (gathering dexes manifest) ≡ Ok gathered → run (all_codes dexes gathered.methods) ≡ Ok is.coded
+  codes_of gathered e = subst (λ (g : Gathered). run (all_codes dexes g.methods) ≡ Ok is.coded) (same gathered e) (coding_runs laws dexes is.gathered.methods is.coded is.codes)
 
   none : (fault : Fault) → FirstFault dexes manifest fault → ⊥
   none fault (of_gathering e) = ok_or_err (run (gathering dexes manifest)) is.gathered fault (gathering_runs dexes manifest is.gathered is.gathers) e
   none fault (of_hierarchy {name = name} gathered e circle) = is.no_circle.none name (subst (λ (g : Gathered). Above g.classes name name) (sym (same gathered e)) circle.circle)
-  none fault (of_code gathered e circles fails) = ok_or_err (run (all_codes dexes gathered.methods)) is.coding fault (codes_of gathered e) fails
-  none fault (of_limits gathered coding e circles codes fails) =
+  none fault (of_code gathered e circles fails) = ok_or_err (run (all_codes dexes gathered.methods)) is.coded fault (codes_of gathered e) fails
+  none fault (of_limits gathered coded e circles codes fails) =
       let k : is.gathered ≡ gathered = same gathered e in
-      let c : is.coding ≡ coding = one_ok (run (all_codes dexes gathered.methods)) is.coding coding (codes_of gathered e) codes in
-      let one : run (within_limits (length gathered.classes) (length gathered.methods) (length gathered.fields) is.coding.1) ≡ Ok tt = subst (λ (g : Gathered). run (within_limits (length g.classes) (length g.methods) (length g.fields) is.coding.1) ≡ Ok tt) k (limits_run (length is.gathered.classes) (length is.gathered.methods) (length is.gathered.fields) is.coding.1 is.limits) in
-      let two : run (within_limits (length gathered.classes) (length gathered.methods) (length gathered.fields) coding.1) ≡ Ok tt = subst (λ (x : Coding). run (within_limits (length gathered.classes) (length gathered.methods) (length gathered.fields) x.1) ≡ Ok tt) c one in
-      ok_or_err (run (within_limits (length gathered.classes) (length gathered.methods) (length gathered.fields) coding.1)) tt fault two fails
+      let one : run (limits dexes gathered) ≡ Ok tt = subst (λ (g : Gathered). run (limits dexes g) ≡ Ok tt) k (limits_run (length is.gathered.classes) (length is.gathered.methods) (length is.gathered.fields) (units_in dexes is.gathered.methods) is.limits) in
+      ok_or_err (run (limits dexes gathered)) tt fault one fails
 
 module _ (dexes : List Dex) (manifest : Manifest) where
   -- where the hierarchy has a circle, it is not free of them
@@ -65,14 +69,11 @@ module _ (dexes : List Dex) (manifest : Manifest) where
   no_circle one two name a b circle none = none.none name (subst (λ (g : Gathered). Above g.classes name name) (one_ok (run (gathering dexes manifest)) one two a b) circle.circle)
 
   -- the code of files that were gathered is one result
-  codes_as : (one two : Gathered) (r : Result Coding Fault) → run (gathering dexes manifest) ≡ Ok one → run (gathering dexes manifest) ≡ Ok two → run (all_codes dexes one.methods) ≡ r → run (all_codes dexes two.methods) ≡ r
+  codes_as : (one two : Gathered) (r : Result (List Coded) Fault) → run (gathering dexes manifest) ≡ Ok one → run (gathering dexes manifest) ≡ Ok two → run (all_codes dexes one.methods) ≡ r → run (all_codes dexes two.methods) ≡ r
   codes_as one two r a b e = subst (λ (g : Gathered). run (all_codes dexes g.methods) ≡ r) (one_ok (run (gathering dexes manifest)) one two a b) e
 
-  limits_as : (one two : Gathered) (c d : Coding) (r : Result (Unit {0}) Fault) → run (gathering dexes manifest) ≡ Ok one → run (gathering dexes manifest) ≡ Ok two → c ≡ d
-      → run (within_limits (length one.classes) (length one.methods) (length one.fields) c.1) ≡ r → run (within_limits (length two.classes) (length two.methods) (length two.fields) d.1) ≡ r
-  limits_as one two c d r a b same e =
-      let k : run (within_limits (length two.classes) (length two.methods) (length two.fields) c.1) ≡ r = subst (λ (g : Gathered). run (within_limits (length g.classes) (length g.methods) (length g.fields) c.1) ≡ r) (one_ok (run (gathering dexes manifest)) one two a b) e in
-      subst (λ (x : Coding). run (within_limits (length two.classes) (length two.methods) (length two.fields) x.1) ≡ r) same k
+  limits_as : (one two : Gathered) (r : Result (Unit {0}) Fault) → run (gathering dexes manifest) ≡ Ok one → run (gathering dexes manifest) ≡ Ok two → run (limits dexes one) ≡ r → run (limits dexes two) ≡ r
+  limits_as one two r a b e = subst (λ (g : Gathered). run (limits dexes g) ≡ r) (one_ok (run (gathering dexes manifest)) one two a b) e
 
   -- there is one first fault
   pub one_fault : (f g : Fault) → FirstFault dexes manifest f → FirstFault dexes manifest g → f ≡ g
@@ -92,9 +93,7 @@ module _ (dexes : List Dex) (manifest : Manifest) where
   one_fault f g (of_limits one x a none c h) (of_gathering b) = absurd (ok_or_err (run (gathering dexes manifest)) one g a b)
   one_fault f g (of_limits one x a none c h) (of_hierarchy {name = n} two b circle) = absurd (no_circle two one n b a circle none)
   one_fault f g (of_limits one x a none c h) (of_code two b other d) = absurd (ok_or_err (run (all_codes dexes two.methods)) x g (codes_as one two (Ok x) a b c) d)
-  one_fault f g (of_limits one x a none c h) (of_limits two y b other d k) =
-      let same : x ≡ y = one_ok (run (all_codes dexes two.methods)) x y (codes_as one two (Ok x) a b c) d in
-      one_err (run (within_limits (length two.classes) (length two.methods) (length two.fields) y.1)) f g (limits_as one two x y (Err f) a b same h) k
+  one_fault f g (of_limits one x a none c h) (of_limits two y b other d k) = one_err (run (limits dexes two)) f g (limits_as one two (Err f) a b h) k
 
 -- files that are an app have no fault, and no two faults are the first
 pub one_answer : (laws : CodeLaws) (dexes : List Dex) (manifest : Manifest) (layouts : Layouts) → OneAnswer dexes manifest layouts
@@ -140,8 +139,8 @@ module _ (laws : CodeLaws) (dexes : List Dex) (manifest : Manifest) (layouts : L
     same_gathered : one.gathered ≡ two.gathered
     same_gathered = gathered_as a one ∙ sym (gathered_as b two)
 
-    same_coding : one.coding ≡ two.coding
-    same_coding = one_ok (run (all_codes dexes two.gathered.methods)) one.coding two.coding (subst (λ (g : Gathered). run (all_codes dexes g.methods) ≡ Ok one.coding) same_gathered (coding_runs laws dexes one.gathered.methods one.coding one.codes)) (coding_runs laws dexes two.gathered.methods two.coding two.codes)
+    same_coded : one.coded ≡ two.coded
+    same_coded = one_ok (run (all_codes dexes two.gathered.methods)) one.coded two.coded (subst (λ (g : Gathered). run (all_codes dexes g.methods) ≡ Ok one.coded) same_gathered (coding_runs laws dexes one.gathered.methods one.coded one.codes)) (coding_runs laws dexes two.gathered.methods two.coded two.codes)
 
     same_classes : a.classes ≡ b.classes
     same_classes = classes_as a one ∙ sym (classes_as b two)
@@ -155,11 +154,11 @@ module _ (laws : CodeLaws) (dexes : List Dex) (manifest : Manifest) (layouts : L
     same_before : before_code a ≡ before_code b
     same_before = same_app (before_code a) (before_code b) same_classes refl same_keys refl same_components (one.clicks ∙ sym two.clicks) (one.providers ∙ sym two.providers) (one.layout_classes ∙ sym two.layout_classes)
 
-    same_named : statics_named (before_code a) one.gathered.fields dexes one.coding.0 ≡ statics_named (before_code b) two.gathered.fields dexes two.coding.0
+    same_named : statics_named (before_code a) one.gathered.fields dexes one.coded ≡ statics_named (before_code b) two.gathered.fields dexes two.coded
     same_named =
-        let first : statics_named (before_code a) one.gathered.fields dexes one.coding.0 ≡ statics_named (before_code b) one.gathered.fields dexes one.coding.0 = ap (λ (x : App). statics_named x one.gathered.fields dexes one.coding.0) same_before in
-        let second : statics_named (before_code b) one.gathered.fields dexes one.coding.0 ≡ statics_named (before_code b) two.gathered.fields dexes one.coding.0 = ap (λ (g : Gathered). statics_named (before_code b) g.fields dexes one.coding.0) same_gathered in
-        let third : statics_named (before_code b) two.gathered.fields dexes one.coding.0 ≡ statics_named (before_code b) two.gathered.fields dexes two.coding.0 = ap (λ (c : Coding). statics_named (before_code b) two.gathered.fields dexes c.0) same_coding in
+        let first : statics_named (before_code a) one.gathered.fields dexes one.coded ≡ statics_named (before_code b) one.gathered.fields dexes one.coded = ap (λ (x : App). statics_named x one.gathered.fields dexes one.coded) same_before in
+        let second : statics_named (before_code b) one.gathered.fields dexes one.coded ≡ statics_named (before_code b) two.gathered.fields dexes one.coded = ap (λ (g : Gathered). statics_named (before_code b) g.fields dexes one.coded) same_gathered in
+        let third : statics_named (before_code b) two.gathered.fields dexes one.coded ≡ statics_named (before_code b) two.gathered.fields dexes two.coded = ap (λ (c : List Coded). statics_named (before_code b) two.gathered.fields dexes c) same_coded in
         first ∙ (second ∙ third)
 
     same_statics : a.statics ≡ b.statics
@@ -167,10 +166,10 @@ module _ (laws : CodeLaws) (dexes : List Dex) (manifest : Manifest) (layouts : L
 
     same_methods : a.methods ≡ b.methods
     same_methods =
-        let first : all_methods (before_code a) one.gathered.fields a.statics dexes one.coding.0 ≡ all_methods (before_code b) one.gathered.fields a.statics dexes one.coding.0 = ap (λ (x : App). all_methods x one.gathered.fields a.statics dexes one.coding.0) same_before in
-        let second : all_methods (before_code b) one.gathered.fields a.statics dexes one.coding.0 ≡ all_methods (before_code b) two.gathered.fields a.statics dexes one.coding.0 = ap (λ (g : Gathered). all_methods (before_code b) g.fields a.statics dexes one.coding.0) same_gathered in
-        let third : all_methods (before_code b) two.gathered.fields a.statics dexes one.coding.0 ≡ all_methods (before_code b) two.gathered.fields b.statics dexes one.coding.0 = ap (λ (s : List Triple). all_methods (before_code b) two.gathered.fields s dexes one.coding.0) same_statics in
-        let fourth : all_methods (before_code b) two.gathered.fields b.statics dexes one.coding.0 ≡ all_methods (before_code b) two.gathered.fields b.statics dexes two.coding.0 = ap (λ (c : Coding). all_methods (before_code b) two.gathered.fields b.statics dexes c.0) same_coding in
+        let first : all_methods (before_code a) one.gathered.fields a.statics dexes one.coded ≡ all_methods (before_code b) one.gathered.fields a.statics dexes one.coded = ap (λ (x : App). all_methods x one.gathered.fields a.statics dexes one.coded) same_before in
+        let second : all_methods (before_code b) one.gathered.fields a.statics dexes one.coded ≡ all_methods (before_code b) two.gathered.fields a.statics dexes one.coded = ap (λ (g : Gathered). all_methods (before_code b) g.fields a.statics dexes one.coded) same_gathered in
+        let third : all_methods (before_code b) two.gathered.fields a.statics dexes one.coded ≡ all_methods (before_code b) two.gathered.fields b.statics dexes one.coded = ap (λ (s : List Triple). all_methods (before_code b) two.gathered.fields s dexes one.coded) same_statics in
+        let fourth : all_methods (before_code b) two.gathered.fields b.statics dexes one.coded ≡ all_methods (before_code b) two.gathered.fields b.statics dexes two.coded = ap (λ (c : List Coded). all_methods (before_code b) two.gathered.fields b.statics dexes c) same_coded in
         one.methods ∙ (first ∙ (second ∙ (third ∙ (fourth ∙ sym two.methods))))
 
     same_apps : a ≡ b

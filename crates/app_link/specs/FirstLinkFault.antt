@@ -13,7 +13,9 @@ use Rattle.app_listing.specs.declared.fault.Limit.{Limit}
 use Rattle.app_listing.specs.declared.fault.Limit.TheVariants as limits
 use Rattle.app_link.specs.declared.linking.LinkFault.{LinkFault}
 use Rattle.app_link.specs.declared.linking.LinkFault.TheVariants as told
-use Rattle.method_code.specs.Code.{Coding, all_codes}
+use Rattle.method_code.specs.declared.coded.Coded.{Coded}
+use Rattle.method_code.specs.Code.{all_codes}
+use Rattle.method_code.specs.Units.{units_in}
 use Rattle.app_listing.specs.Gathered.{Gathered, gathering}
 use Rattle.class_hierarchy.specs.Hierarchy.{NoCircle, IsLeastCircle}
 use Rattle.app_link.specs.Limits.{within_limits}
@@ -24,8 +26,8 @@ pub data FirstFault (dexes : List Dex) (manifest : Manifest) : Fault → Type 0 
   of_gathering : {fault : Fault} → run (gathering dexes manifest) ≡ Err fault → FirstFault dexes manifest fault
   of_hierarchy : {name : Name} (gathered : Gathered) → run (gathering dexes manifest) ≡ Ok gathered → IsLeastCircle gathered.classes name → FirstFault dexes manifest (Circle name)
   of_code : {fault : Fault} (gathered : Gathered) → run (gathering dexes manifest) ≡ Ok gathered → NoCircle gathered.classes → run (all_codes dexes gathered.methods) ≡ Err fault → FirstFault dexes manifest fault
-  of_limits : {fault : Fault} (gathered : Gathered) (coding : Coding) → run (gathering dexes manifest) ≡ Ok gathered → NoCircle gathered.classes → run (all_codes dexes gathered.methods) ≡ Ok coding
-      → run (within_limits (length gathered.classes) (length gathered.methods) (length gathered.fields) coding.1) ≡ Err fault → FirstFault dexes manifest fault
+  of_limits : {fault : Fault} (gathered : Gathered) (coded : List Coded) → run (gathering dexes manifest) ≡ Ok gathered → NoCircle gathered.classes → run (all_codes dexes gathered.methods) ≡ Ok coded
+      → run (within_limits (length gathered.classes) (length gathered.methods) (length gathered.fields) (units_in dexes gathered.methods)) ≡ Err fault → FirstFault dexes manifest fault
 
 -- memory ran out, or this is the first fault
 abbrev pub StopsAtFirst : List Dex → Manifest → Stop Fault → Type 0

@@ -5,7 +5,8 @@ use Rattle.app_machine.specs.declared.app.App.{App}
 use Rattle.app_machine.specs.declared.papers.Manifest.{Manifest}
 use Rattle.app_machine.specs.declared.papers.Layouts.{Layouts}
 use Rattle.method_code.specs.AreCoded.{AreCoded}
-use Rattle.method_code.specs.Code.{Coding}
+use Rattle.method_code.specs.declared.coded.Coded.{Coded}
+use Rattle.method_code.specs.Units.{units_in}
 use Rattle.app_listing.specs.Components.{providers_of}
 use Rattle.app_link.specs.Frame.{before_code}
 use Rattle.app_listing.specs.Gathered.{Gathered, AreGathered}
@@ -21,10 +22,11 @@ pub record IsApp (dexes : List Dex) (manifest : Manifest) (layouts : Layouts) (a
   pub gathers : AreGathered dexes manifest gathered
   -- no class is above itself
   pub no_circle : NoCircle gathered.classes
-  -- all code is decoded and tested, and there is not too much of anything
-  pub coding : Coding
-  pub codes : AreCoded dexes gathered.methods coding
-  pub limits : WithinLimits (length gathered.classes) (length gathered.methods) (length gathered.fields) coding.1
+  -- all code is decoded and tested
+  pub coded : List Coded
+  pub codes : AreCoded dexes gathered.methods coded
+  -- there is not too much of anything: of classes, methods, fields, and units of all code
+  pub limits : WithinLimits (length gathered.classes) (length gathered.methods) (length gathered.fields) (units_in dexes gathered.methods)
   -- the classes stand by name, and each lists the library classes above it
   pub classes : map without_outer app.classes ≡ map renamed gathered.classes
   pub outers : HasOuters app.classes
@@ -33,5 +35,5 @@ pub record IsApp (dexes : List Dex) (manifest : Manifest) (layouts : Layouts) (a
   pub clicks : app.clicks ≡ layouts.clicks
   pub providers : app.providers ≡ providers_of manifest
   pub layout_classes : app.layout_classes ≡ layouts.classes
-  pub statics : AreStatics (before_code app) gathered.fields dexes coding.0 app.statics
-  pub methods : app.methods ≡ all_methods (before_code app) gathered.fields app.statics dexes coding.0
+  pub statics : AreStatics (before_code app) gathered.fields dexes coded app.statics
+  pub methods : app.methods ≡ all_methods (before_code app) gathered.fields app.statics dexes coded

@@ -1,6 +1,6 @@
 -- The tests of all code hold exactly where each method's code is what its lines say.
-use Rattle.std.proofs.Common.{◌≡◌, ℕ, ◌+◌, min, Bool, true, false, Ok, Option, Some, None, List, [], ◌∷◌, ◌++◌, append_assoc, append-nil, length, eq-eqb, refl, sym, ap, subst, ◌∙◌, arith, inl, inr}
-use Rattle.std.specs.Prelude.{IsTrue, ◌==◌, fold}
+use Rattle.std.proofs.Common.{◌≡◌, Bool, true, false, Ok, Option, Some, None, List, [], ◌∷◌, ◌++◌, append_assoc, append-nil, eq-eqb, refl, sym, ap, subst, ◌∙◌, inl, inr}
+use Rattle.std.specs.Prelude.{IsTrue, ◌==◌}
 use Rattle.std.specs.List.{AllZip, filter}
 use Rattle.vet_base.specs.Script.{Value, ◌>>=◌, test, run, each}
 use Rattle.dex_reader.specs.declared.dex.Dex.{Dex}
@@ -18,10 +18,9 @@ use Rattle.app_listing.specs.declared.fault.Fault.{Fault}
 use Rattle.app_listing.specs.declared.fault.Fault.TheVariants as faults
 use Rattle.app_listing.specs.declared.members.Listed.{Listed}
 use Rattle.app_listing.specs.Texts.{Triple}
-use Rattle.method_code.specs.AreCoded.{IsTestedCode, IsCoded, of_native, of_code, has_body, units_of, AreCoded}
-use Rattle.method_code.specs.Code.{Coding, blamed, counts_of, call_fits, call_row, calls_fit, tested, with_code, native_coded, reference, one_code, code_row, code_at, all_codes, more_units}
+use Rattle.method_code.specs.AreCoded.{IsTestedCode, IsCoded, of_native, of_code, has_body, AreCoded}
+use Rattle.method_code.specs.Code.{blamed, counts_of, call_fits, call_row, calls_fit, tested, with_code, native_coded, reference, one_code, code_row, code_at, all_codes}
 use Rattle.app_listing.specs.MemberRows.{Methods}
-use Rattle.method_code.specs.SoFar.{most_units}
 use Rattle.method_code.proofs.Blamed.{code_runs}
 use Rattle.method_code.proofs.SoundCoded.{tested_facts}
 use Rattle.vet_base.proofs.Runs.{value_is, test_passes, bind_ok, bind_runs}
@@ -44,12 +43,6 @@ tested_runs laws at is_static dex code decoded is =
     (code_runs laws (faults.Code at) code (counts_of dex) decoded is.is)
     (test_passes (taken is_static at.proto == code.ins) (faults.Code at (Register 0)) (calls_fit dex at decoded.lines >>= (λ _. Value decoded)) takes ∙ calls)
 
-sum_stays : (a u s n most : ℕ) → s ≡ min a most → u ≡ n → min (s + n) most ≡ min (a + u) most
-sum_stays a u s n most h k = omega (arith, h, k)
-
-sum_same : (a u s most : ℕ) → s ≡ min a most → u ≡ 0 → s ≡ min (a + u) most
-sum_same a u s most h k = omega (arith, h, k)
-
 module _ (laws : CodeLaws) (dexes : List Dex) where
   -- a listed method is native, has code, or has neither
   data Which (e : Triple × Listed) : Type 0 where
@@ -70,16 +63,16 @@ module _ (laws : CodeLaws) (dexes : List Dex) where
   abbrev code_of : Triple × Listed → RawCode → Decoded → Coded
   code_of e code decoded = with_code (reference e.0 e.1) e.1 e.1.place.dex code decoded
 
-  row_of_native : (e : Triple × Listed) (s : Coding) → e.1.is_native ≡ true → code_row dexes e s ≡ Value (s.0 ++ native_of e ∷ [], s.1)
+  row_of_native : (e : Triple × Listed) (s : List Coded) → e.1.is_native ≡ true → code_row dexes e s ≡ Value (s ++ native_of e ∷ [])
   unfolding code_row
   row_of_native e s is = rw is refl
 
-  row_of_code : (e : Triple × Listed) (s : Coding) (dex : Dex) (code : RawCode) → e.1.is_native ≡ false → code_at dexes e.1.place ≡ Some (dex, code)
-      → code_row dexes e s ≡ (tested (reference e.0 e.1) e.1.is_static dex code >>= (λ d. Value (s.0 ++ code_of e code d ∷ [], more_units s.1 (length code.units))))
+  row_of_code : (e : Triple × Listed) (s : List Coded) (dex : Dex) (code : RawCode) → e.1.is_native ≡ false → code_at dexes e.1.place ≡ Some (dex, code)
+      → code_row dexes e s ≡ (tested (reference e.0 e.1) e.1.is_static dex code >>= (λ d. Value (s ++ code_of e code d ∷ [])))
   unfolding code_row one_code
   row_of_code e s dex code other found = rw (other, found) refl
 
-  row_of_bare : (e : Triple × Listed) (s : Coding) → e.1.is_native ≡ false → code_at dexes e.1.place ≡ None → code_row dexes e s ≡ Value s
+  row_of_bare : (e : Triple × Listed) (s : List Coded) → e.1.is_native ≡ false → code_at dexes e.1.place ≡ None → code_row dexes e s ≡ Value s
   unfolding code_row one_code
   row_of_bare e s other found = rw (other, found) refl
 
@@ -95,84 +88,62 @@ module _ (laws : CodeLaws) (dexes : List Dex) where
   unfolding has_body
   without_bare e es other found = rw (other, found) refl
 
-  native_units : (e : Triple × Listed) → e.1.is_native ≡ true → units_of dexes e ≡ 0
-  unfolding units_of
-  native_units e is = rw is refl
-
-  code_units : (e : Triple × Listed) (dex : Dex) (code : RawCode) → e.1.is_native ≡ false → code_at dexes e.1.place ≡ Some (dex, code) → units_of dexes e ≡ length code.units
-  unfolding units_of
-  code_units e dex code other found = rw (other, found) refl
-
-  bare_units : (e : Triple × Listed) → e.1.is_native ≡ false → code_at dexes e.1.place ≡ None → units_of dexes e ≡ 0
-  unfolding units_of
-  bare_units e other found = rw (other, found) refl
-
   abbrev AreThese : Methods → List Coded → Type 0
   AreThese es cs = AllZip (IsCoded dexes) (filter (has_body dexes) es) cs
 
   -- what the row of one listed method adds
-  record Adds (e : Triple × Listed) (a : ℕ) (s t : Coding) : Type 0 where
+  record Adds (e : Triple × Listed) (s t : List Coded) : Type 0 where
     more : List Coded
-    is : t.0 ≡ s.0 ++ more
+    is : t ≡ s ++ more
     joins : (es : Methods) (cs : List Coded) → AreThese es cs → AreThese (e ∷ es) (more ++ cs)
-    units : t.1 ≡ min (a + units_of dexes e) most_units
 
   one_added : (e : Triple × Listed) (c : Coded) (es : Methods) (cs : List Coded) → filter (has_body dexes) (e ∷ es) ≡ e ∷ filter (has_body dexes) es → IsCoded dexes e c → AreThese es cs → AreThese (e ∷ es) (c ∷ cs)
   one_added e c es cs listed is these = subst (λ (xs : Methods). AllZip (IsCoded dexes) xs (c ∷ cs)) (sym listed) (is, these)
 
-  row_adds : (e : Triple × Listed) (a : ℕ) (s t : Coding) → Which e → s.1 ≡ min a most_units → run (code_row dexes e s) ≡ Ok t → Adds e a s t
-  row_adds e a s t (native is) begun h =
-      let same : (s.0 ++ native_of e ∷ [], s.1) ≡ t = value_is {F = Fault} (s.0 ++ native_of e ∷ [], s.1) t (sym (ap run (row_of_native e s is)) ∙ h) in
+  row_adds : (e : Triple × Listed) (s t : List Coded) → Which e → run (code_row dexes e s) ≡ Ok t → Adds e s t
+  row_adds e s t (native is) h =
+      let same : s ++ native_of e ∷ [] ≡ t = value_is {F = Fault} (s ++ native_of e ∷ []) t (sym (ap run (row_of_native e s is)) ∙ h) in
       record {
         more = native_of e ∷ [];
-        is = ap (λ (c : Coding). c.0) (sym same);
+        is = sym same;
         joins = λ es cs these. one_added e (native_of e) es cs (with_native e es is) (of_native is) these;
-        units = ap (λ (c : Coding). c.1) (sym same) ∙ sum_same a (units_of dexes e) s.1 most_units begun (native_units e is);
       }
-  row_adds e a s t (coded dex code other found) begun h =
-      let read = bind_ok (tested (reference e.0 e.1) e.1.is_static dex code) (λ d. Value (s.0 ++ code_of e code d ∷ [], more_units s.1 (length code.units))) t (sym (ap run (row_of_code e s dex code other found)) ∙ h) in
-      let same : (s.0 ++ code_of e code read.0 ∷ [], more_units s.1 (length code.units)) ≡ t = value_is {F = Fault} (s.0 ++ code_of e code read.0 ∷ [], more_units s.1 (length code.units)) t read.2 in
+  row_adds e s t (coded dex code other found) h =
+      let read = bind_ok (tested (reference e.0 e.1) e.1.is_static dex code) (λ d. Value (s ++ code_of e code d ∷ [])) t (sym (ap run (row_of_code e s dex code other found)) ∙ h) in
+      let same : s ++ code_of e code read.0 ∷ [] ≡ t = value_is {F = Fault} (s ++ code_of e code read.0 ∷ []) t read.2 in
       let is : IsCoded dexes e (code_of e code read.0) = of_code dex code read.0 other found (tested_facts laws (reference e.0 e.1) e.1.is_static dex code read.0 read.1) in
       record {
         more = code_of e code read.0 ∷ [];
-        is = ap (λ (c : Coding). c.0) (sym same);
+        is = sym same;
         joins = λ es cs these. one_added e (code_of e code read.0) es cs (with_coded e es dex code other found) is these;
-        units = ap (λ (c : Coding). c.1) (sym same) ∙ sum_stays a (units_of dexes e) s.1 (length code.units) most_units begun (code_units e dex code other found);
       }
-  row_adds e a s t (bare other found) begun h =
+  row_adds e s t (bare other found) h =
       let same : s ≡ t = value_is {F = Fault} s t (sym (ap run (row_of_bare e s other found)) ∙ h) in
       record {
         more = [];
-        is = ap (λ (c : Coding). c.0) (sym same) ∙ sym (append-nil s.0);
+        is = sym same ∙ sym (append-nil s);
         joins = λ es cs these. subst (λ (xs : Methods). AllZip (IsCoded dexes) xs cs) (sym (without_bare e es other found)) these;
-        units = ap (λ (c : Coding). c.1) (sym same) ∙ sum_same a (units_of dexes e) s.1 most_units begun (bare_units e other found);
       }
 
-  -- the sum of their units and a
-  abbrev total : ℕ → Methods → ℕ
-  total a es = fold (λ (n : ℕ) (e : Triple × Listed). n + units_of dexes e) a es
-
   -- what the rows of the listed methods add
-  record AddsAll (es : Methods) (a : ℕ) (s t : Coding) : Type 0 where
+  record AddsAll (es : Methods) (s t : List Coded) : Type 0 where
     more : List Coded
-    is : t.0 ≡ s.0 ++ more
+    is : t ≡ s ++ more
     these : AreThese es more
-    units : t.1 ≡ min (total a es) most_units
 
-  rows_add : (es : Methods) (a : ℕ) (s t : Coding) → s.1 ≡ min a most_units → run (each (code_row dexes) es s) ≡ Ok t → AddsAll es a s t
+  rows_add : (es : Methods) (s t : List Coded) → run (each (code_row dexes) es s) ≡ Ok t → AddsAll es s t
   unfolding each
-  rows_add [] a s t begun h =
+  rows_add [] s t h =
       let same : s ≡ t = value_is {F = Fault} s t h in
-      record { more = []; is = ap (λ (c : Coding). c.0) (sym same) ∙ sym (append-nil s.0); these = tt; units = ap (λ (c : Coding). c.1) (sym same) ∙ begun }
-  rows_add (e ∷ es) a s t begun h =
+      record { more = []; is = sym same ∙ sym (append-nil s); these = tt }
+  rows_add (e ∷ es) s t h =
       let first = bind_ok (code_row dexes e s) (λ next. each (code_row dexes) es next) t h in
-      let row : Adds e a s first.0 = row_adds e a s first.0 (which e) begun first.1 in
-      let rest : AddsAll es (a + units_of dexes e) first.0 t = rows_add es (a + units_of dexes e) first.0 t row.units first.2 in
+      let row : Adds e s first.0 = row_adds e s first.0 (which e) first.1 in
+      let rest : AddsAll es first.0 t = rows_add es first.0 t first.2 in
       record {
         more = row.more ++ rest.more;
-        is = rest.is ∙ (ap (λ (cs : List Coded). cs ++ rest.more) row.is ∙ append_assoc s.0 row.more rest.more);
+        is = rest.is ∙ (ap (λ (cs : List Coded). cs ++ rest.more) row.is ∙ append_assoc s row.more rest.more);
         these = row.joins es rest.more rest.these;
-        units = rest.units;
       }
 
   native_is : (e : Triple × Listed) (c : Coded) → e.1.is_native ≡ true → IsCoded dexes e c → c ≡ native_of e
@@ -197,71 +168,66 @@ module _ (laws : CodeLaws) (dexes : List Dex) where
       }
 
   -- the row of one listed method passes, and these are left
-  record Begins (e : Triple × Listed) (es : Methods) (a : ℕ) (s : Coding) (cs : List Coded) : Type 0 where
-    next : Coding
+  record Begins (e : Triple × Listed) (es : Methods) (s : List Coded) (cs : List Coded) : Type 0 where
+    next : List Coded
     rest : List Coded
     row : run (code_row dexes e s) ≡ Ok next
-    is : next.0 ++ rest ≡ s.0 ++ cs
+    is : next ++ rest ≡ s ++ cs
     these : AreThese es rest
-    units : next.1 ≡ min (a + units_of dexes e) most_units
 
-  begins : (e : Triple × Listed) (es : Methods) (a : ℕ) (s : Coding) (cs : List Coded) → Which e → s.1 ≡ min a most_units → AreThese (e ∷ es) cs → Begins e es a s cs
-  begins e es a s cs (native is) begun are = by_first cs (subst (λ (xs : Methods). AllZip (IsCoded dexes) xs cs) (with_native e es is) are)
+  begins : (e : Triple × Listed) (es : Methods) (s : List Coded) (cs : List Coded) → Which e → AreThese (e ∷ es) cs → Begins e es s cs
+  begins e es s cs (native is) are = by_first cs (subst (λ (xs : Methods). AllZip (IsCoded dexes) xs cs) (with_native e es is) are)
     where
-      by_first : (ds : List Coded) → AllZip (IsCoded dexes) (e ∷ filter (has_body dexes) es) ds → Begins e es a s ds
+      by_first : (ds : List Coded) → AllZip (IsCoded dexes) (e ∷ filter (has_body dexes) es) ds → Begins e es s ds
       by_first [] these = absurd these
       by_first (d ∷ ds) these = record {
-        next = (s.0 ++ native_of e ∷ [], s.1);
+        next = s ++ native_of e ∷ [];
         rest = ds;
         row = ap run (row_of_native e s is);
-        is = append_assoc s.0 (native_of e ∷ []) ds ∙ ap (λ (c : Coded). s.0 ++ c ∷ ds) (sym (native_is e d is these.0));
+        is = append_assoc s (native_of e ∷ []) ds ∙ ap (λ (c : Coded). s ++ c ∷ ds) (sym (native_is e d is these.0));
         these = these.1;
-        units = sum_same a (units_of dexes e) s.1 most_units begun (native_units e is);
       }
-  begins e es a s cs (coded dex code other found) begun are = by_first cs (subst (λ (xs : Methods). AllZip (IsCoded dexes) xs cs) (with_coded e es dex code other found) are)
+  begins e es s cs (coded dex code other found) are = by_first cs (subst (λ (xs : Methods). AllZip (IsCoded dexes) xs cs) (with_coded e es dex code other found) are)
     where
-      by_first : (ds : List Coded) → AllZip (IsCoded dexes) (e ∷ filter (has_body dexes) es) ds → Begins e es a s ds
+      by_first : (ds : List Coded) → AllZip (IsCoded dexes) (e ∷ filter (has_body dexes) es) ds → Begins e es s ds
       by_first [] these = absurd these
       by_first (d ∷ ds) these =
           let its : HasIts e dex code d = coded_is e dex code d other found these.0 in
-          let next : Coding = (s.0 ++ code_of e code its.decoded ∷ [], more_units s.1 (length code.units)) in
+          let next : List Coded = s ++ code_of e code its.decoded ∷ [] in
           record {
             next = next;
             rest = ds;
-            row = ap run (row_of_code e s dex code other found) ∙ bind_runs (tested (reference e.0 e.1) e.1.is_static dex code) its.decoded (λ d. Value (s.0 ++ code_of e code d ∷ [], more_units s.1 (length code.units))) (Ok next)
+            row = ap run (row_of_code e s dex code other found) ∙ bind_runs (tested (reference e.0 e.1) e.1.is_static dex code) its.decoded (λ d. Value (s ++ code_of e code d ∷ [])) (Ok next)
                 (tested_runs laws (reference e.0 e.1) e.1.is_static dex code its.decoded its.tested_it) refl;
-            is = append_assoc s.0 (code_of e code its.decoded ∷ []) ds ∙ ap (λ (c : Coded). s.0 ++ c ∷ ds) (sym its.is);
+            is = append_assoc s (code_of e code its.decoded ∷ []) ds ∙ ap (λ (c : Coded). s ++ c ∷ ds) (sym its.is);
             these = these.1;
-            units = sum_stays a (units_of dexes e) s.1 (length code.units) most_units begun (code_units e dex code other found);
           }
-  begins e es a s cs (bare other found) begun are = record {
+  begins e es s cs (bare other found) are = record {
     next = s;
     rest = cs;
     row = ap run (row_of_bare e s other found);
     is = refl;
     these = subst (λ (xs : Methods). AllZip (IsCoded dexes) xs cs) (without_bare e es other found) are;
-    units = sum_same a (units_of dexes e) s.1 most_units begun (bare_units e other found);
   }
 
-  rows_run : (es : Methods) (a : ℕ) (s : Coding) (cs : List Coded) → s.1 ≡ min a most_units → AreThese es cs → run (each (code_row dexes) es s) ≡ Ok (s.0 ++ cs, min (total a es) most_units)
+  rows_run : (es : Methods) (s : List Coded) (cs : List Coded) → AreThese es cs → run (each (code_row dexes) es s) ≡ Ok (s ++ cs)
   unfolding each
-  rows_run [] a s [] begun are = ap (λ (ds : List Coded). Ok (ds, s.1)) (sym (append-nil s.0)) ∙ ap (λ (n : ℕ). Ok (s.0 ++ [], n)) begun
-  rows_run [] a s (c ∷ cs) begun are = absurd are
-  rows_run (e ∷ es) a s cs begun are =
-      let first : Begins e es a s cs = begins e es a s cs (which e) begun are in
-      let rest : run (each (code_row dexes) es first.next) ≡ Ok (first.next.0 ++ first.rest, min (total (a + units_of dexes e) es) most_units) = rows_run es (a + units_of dexes e) first.next first.rest first.units first.these in
-      bind_runs (code_row dexes e s) first.next (λ next. each (code_row dexes) es next) (Ok (s.0 ++ cs, min (total a (e ∷ es)) most_units)) first.row
-      (rest ∙ ap (λ (ds : List Coded). Ok (ds, min (total (a + units_of dexes e) es) most_units)) first.is)
+  rows_run [] s [] are = ap (λ (ds : List Coded). Ok ds) (sym (append-nil s))
+  rows_run [] s (c ∷ cs) are = absurd are
+  rows_run (e ∷ es) s cs are =
+      let first : Begins e es s cs = begins e es s cs (which e) are in
+      let rest : run (each (code_row dexes) es first.next) ≡ Ok (first.next ++ first.rest) = rows_run es first.next first.rest first.these in
+      bind_runs (code_row dexes e s) first.next (λ next. each (code_row dexes) es next) (Ok (s ++ cs)) first.row
+      (rest ∙ ap (λ (ds : List Coded). Ok ds) first.is)
 
 -- what the tests lead to is the code
-pub coding_stands : (laws : CodeLaws) (dexes : List Dex) (methods : Methods) (coding : Coding) → run (all_codes dexes methods) ≡ Ok coding → AreCoded dexes methods coding
+pub coding_stands : (laws : CodeLaws) (dexes : List Dex) (methods : Methods) (cs : List Coded) → run (all_codes dexes methods) ≡ Ok cs → AreCoded dexes methods cs
 unfolding all_codes
-coding_stands laws dexes methods coding e =
-    let all : AddsAll laws dexes methods 0 ([], 0) coding = rows_add laws dexes methods 0 ([], 0) coding (omega arith) e in
-    record { each = subst (λ (cs : List Coded). AllZip (IsCoded dexes) (filter (has_body dexes) methods) cs) (sym all.is) all.these; units = all.units }
+coding_stands laws dexes methods cs e =
+    let all : AddsAll laws dexes methods [] cs = rows_add laws dexes methods [] cs e in
+    record { each = subst (λ (ds : List Coded). AllZip (IsCoded dexes) (filter (has_body dexes) methods) ds) (sym all.is) all.these }
 
 -- what is the code passes the tests
-pub coding_runs : (laws : CodeLaws) (dexes : List Dex) (methods : Methods) (coding : Coding) → AreCoded dexes methods coding → run (all_codes dexes methods) ≡ Ok coding
+pub coding_runs : (laws : CodeLaws) (dexes : List Dex) (methods : Methods) (cs : List Coded) → AreCoded dexes methods cs → run (all_codes dexes methods) ≡ Ok cs
 unfolding all_codes
-coding_runs laws dexes methods coding are =
-    rows_run laws dexes methods 0 ([], 0) coding.0 (omega arith) are.each ∙ ap (λ (n : ℕ). Ok (coding.0, n)) (sym are.units)
+coding_runs laws dexes methods cs are = rows_run laws dexes methods [] cs are.each

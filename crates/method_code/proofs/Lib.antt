@@ -2,6 +2,7 @@ pub mod AreCoded
 pub mod Asked
 pub mod Blamed
 pub mod CodedFacts
+pub mod FewLines
 pub mod FieldOrder
 pub mod Gathering
 pub mod Inserted
@@ -17,3 +18,4 @@ pub mod StaticsCount
 pub mod Steps
 pub mod StepsFlow
 pub mod StepsStatics
+pub mod Units

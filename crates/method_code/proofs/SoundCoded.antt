@@ -27,7 +27,7 @@ use Rattle.app_listing.specs.declared.fault.Fault.TheVariants as faults
 use Rattle.app_listing.specs.Texts.{Triple}
 use Rattle.app_listing.specs.MemberRows.{Methods}
 use Rattle.app_listing.specs.Orders.{triple_order}
-use Rattle.method_code.specs.Code.{blamed, counts_of, bodies_of, call_fits, call_row, calls_fit, tested, with_code, native_coded, reference, Coding, one_code, code_row, code_at, all_codes, more_units}
+use Rattle.method_code.specs.Code.{blamed, counts_of, bodies_of, call_fits, call_row, calls_fit, tested, with_code, native_coded, reference, one_code, code_row, code_at, all_codes}
 use Rattle.method_code.specs.AreCoded.{IsTestedCode}
 use Rattle.app_listing.specs.Described.{Described}
 use Rattle.method_code.specs.Tested.{HasCode, IsTested, coded_order, Tested}
@@ -85,9 +85,9 @@ module _ (laws : CodeLaws) where
       by_file (Some d) e = by_class d (slice_get d.classes place.class) e
 
   -- the method that a row adds
-  record Added (dexes : List Dex) (e : Triple × Listed) (s t : Coding) : Type 0 where
+  record Added (dexes : List Dex) (e : Triple × Listed) (s t : List Coded) : Type 0 where
     coded : Coded
-    is : t.0 ≡ s.0 ++ coded ∷ []
+    is : t ≡ s ++ coded ∷ []
     at : coded.at ≡ reference e.0 e.1
     tested_it : IsTested dexes coded
 
@@ -109,26 +109,26 @@ module _ (laws : CodeLaws) where
       } in
       record { of_native = λ e. absurd cc; of_code = λ e. has }
 
-  one_adds : (dexes : List Dex) (e : Triple × Listed) (found : Option (Dex × RawCode)) (s t : Coding) → code_at dexes e.1.place ≡ found → run (one_code (reference e.0 e.1) e.1 found s) ≡ Ok t → (t.0 ≡ s.0) ⊎ Added dexes e s t
+  one_adds : (dexes : List Dex) (e : Triple × Listed) (found : Option (Dex × RawCode)) (s t : List Coded) → code_at dexes e.1.place ≡ found → run (one_code (reference e.0 e.1) e.1 found s) ≡ Ok t → (t ≡ s) ⊎ Added dexes e s t
   unfolding one_code
-  one_adds dexes e None s t there h = inl (ap (λ (c : Coding). c.0) (sym (value_is {F = Fault} s t h)))
+  one_adds dexes e None s t there h = inl (sym (value_is {F = Fault} s t h))
   one_adds dexes e (Some (dex, code)) s t there h =
       let at : MethodRef = reference e.0 e.1 in
-      let read = bind_ok (tested at e.1.is_static dex code) (λ d. Value (s.0 ++ with_code at e.1 e.1.place.dex code d ∷ [], more_units s.1 (length code.units))) t h in
+      let read = bind_ok (tested at e.1.is_static dex code) (λ d. Value (s ++ with_code at e.1 e.1.place.dex code d ∷ [])) t h in
       let c : Coded = with_code at e.1 e.1.place.dex code read.0 in
-      let same : (s.0 ++ c ∷ [], more_units s.1 (length code.units)) ≡ t = value_is {F = Fault} (s.0 ++ c ∷ [], more_units s.1 (length code.units)) t read.2 in
+      let same : (s ++ c ∷ []) ≡ t = value_is {F = Fault} (s ++ c ∷ []) t read.2 in
       let is_so : IsTested dexes c = code_tested dexes at e.1 dex code read.0 (file_at dexes e.1.place dex code there) read.1 in
-      inr (record { coded = c; is = ap (λ (x : Coding). x.0) (sym same); at = refl; tested_it = is_so })
+      inr (record { coded = c; is = sym same; at = refl; tested_it = is_so })
 
-  row_adds : (dexes : List Dex) (e : Triple × Listed) (s t : Coding) → run (code_row dexes e s) ≡ Ok t → (t.0 ≡ s.0) ⊎ Added dexes e s t
+  row_adds : (dexes : List Dex) (e : Triple × Listed) (s t : List Coded) → run (code_row dexes e s) ≡ Ok t → (t ≡ s) ⊎ Added dexes e s t
   unfolding code_row
   row_adds dexes e s t h = by_native e.1.is_native h
     where
-      by_native : (b : Bool) → run (cond b (Value (s.0 ++ native_coded (reference e.0 e.1) e.1 ∷ [], s.1)) (one_code (reference e.0 e.1) e.1 (code_at dexes e.1.place) s)) ≡ Ok t → (t.0 ≡ s.0) ⊎ Added dexes e s t
+      by_native : (b : Bool) → run (cond b (Value (s ++ native_coded (reference e.0 e.1) e.1 ∷ [])) (one_code (reference e.0 e.1) e.1 (code_at dexes e.1.place) s)) ≡ Ok t → (t ≡ s) ⊎ Added dexes e s t
       by_native true h =
           let c : Coded = native_coded (reference e.0 e.1) e.1 in
-          let same : (s.0 ++ c ∷ [], s.1) ≡ t = value_is {F = Fault} (s.0 ++ c ∷ [], s.1) t h in
-          inr (record { coded = c; is = ap (λ (x : Coding). x.0) (sym same); at = refl; tested_it = native_tested dexes (reference e.0 e.1) e.1 })
+          let same : (s ++ c ∷ []) ≡ t = value_is {F = Fault} (s ++ c ∷ []) t h in
+          inr (record { coded = c; is = sym same; at = refl; tested_it = native_tested dexes (reference e.0 e.1) e.1 })
       by_native false h = one_adds dexes e (code_at dexes e.1.place) s t refl h
 
   -- the names by which a method is ordered
@@ -136,9 +136,9 @@ module _ (laws : CodeLaws) where
   shown c = (c.at.class, c.at.name, descriptor_of c.at.proto)
 
   -- the methods that rows add: their names are some of the rows', in their order
-  record Drawn (dexes : List Dex) (entries : Methods) (s t : Coding) : Type 0 where
+  record Drawn (dexes : List Dex) (entries : Methods) (s t : List Coded) : Type 0 where
     more : List Coded
-    is : t.0 ≡ s.0 ++ more
+    is : t ≡ s ++ more
     few : length more ≤ length entries
     all_tested : (c : Coded) → In c more → IsTested dexes c
     above : (x : Triple) → AllByRecursion (λ (y : Triple). triple_order x y ≡ Less) (keys_of entries) → AllByRecursion (λ (y : Triple). triple_order x y ≡ Less) (map shown more)
@@ -150,11 +150,11 @@ module _ (laws : CodeLaws) where
       let one : shown c ≡ (e.0.0, e.0.1, descriptor_of e.1.proto) = ap (λ (m : MethodRef). (m.class, m.name, descriptor_of m.proto)) at in
       one ∙ ap (λ (d : Name). (e.0.0, e.0.1, d)) (sym told)
 
-  drawn_none : (dexes : List Dex) (s t : Coding) → s ≡ t → Drawn dexes [] s t
+  drawn_none : (dexes : List Dex) (s t : List Coded) → s ≡ t → Drawn dexes [] s t
   unfolding IsStrictlySortedBy
-  drawn_none dexes s t same = record { more = []; is = ap (λ (x : Coding). x.0) (sym same) ∙ sym (append-nil s.0); few = omega arith; all_tested = λ c k. absurd k; above = λ x all. tt; sorted = λ h. tt }
+  drawn_none dexes s t same = record { more = []; is = sym same ∙ sym (append-nil s); few = omega arith; all_tested = λ c k. absurd k; above = λ x all. tt; sorted = λ h. tt }
 
-  drawn_on : (dexes : List Dex) (e : Triple × Listed) (es : Methods) (s m t : Coding) → e.0.2 ≡ descriptor_of e.1.proto → (m.0 ≡ s.0) ⊎ Added dexes e s m → Drawn dexes es m t → Drawn dexes (e ∷ es) s t
+  drawn_on : (dexes : List Dex) (e : Triple × Listed) (es : Methods) (s m t : List Coded) → e.0.2 ≡ descriptor_of e.1.proto → (m ≡ s) ⊎ Added dexes e s m → Drawn dexes es m t → Drawn dexes (e ∷ es) s t
   unfolding IsStrictlySortedBy
   drawn_on dexes e es s m t told (inl same) later = record {
     more = later.more;
@@ -168,14 +168,14 @@ module _ (laws : CodeLaws) where
       let name : shown added.coded ≡ e.0 = shown_at e added.coded added.at told in
       record {
         more = added.coded ∷ later.more;
-        is = later.is ∙ (ap (λ (cs : List Coded). cs ++ later.more) added.is ∙ append_assoc s.0 (added.coded ∷ []) later.more);
+        is = later.is ∙ (ap (λ (cs : List Coded). cs ++ later.more) added.is ∙ append_assoc s (added.coded ∷ []) later.more);
         few = let h : length later.more ≤ length es = later.few in omega (arith, h);
         all_tested = λ c k. elim k [ inl same ↦ subst (IsTested dexes) (sym same) added.tested_it | inr j ↦ later.all_tested c j ];
         above = λ x all. (subst (λ (y : Triple). triple_order x y ≡ Less) (sym name) all.0, later.above x all.1);
         sorted = λ h. (subst (λ (x : Triple). AllByRecursion (λ (y : Triple). triple_order x y ≡ Less) (map shown later.more)) (sym name) (later.above e.0 h.0), later.sorted h.1);
       }
 
-  drawn : (dexes : List Dex) (entries : Methods) (s t : Coding) → ((e : Triple × Listed) → In e entries → e.0.2 ≡ descriptor_of e.1.proto) → run (each (code_row dexes) entries s) ≡ Ok t → Drawn dexes entries s t
+  drawn : (dexes : List Dex) (entries : Methods) (s t : List Coded) → ((e : Triple × Listed) → In e entries → e.0.2 ≡ descriptor_of e.1.proto) → run (each (code_row dexes) entries s) ≡ Ok t → Drawn dexes entries s t
   unfolding each
   drawn dexes [] s t told h = drawn_none dexes s t (value_is {F = Fault} s t h)
   drawn dexes (e ∷ es) s t told h =
@@ -188,29 +188,29 @@ module _ (laws : CodeLaws) where
   ascend_shown (x ∷ []) sorted = tt
   ascend_shown (x ∷ y ∷ ys) sorted = (sym (same_order (shown x) (shown y)) ∙ sorted.0.0, ascend_shown (y ∷ ys) sorted.1)
 
-  all_drawn : (dexes : List Dex) (entries : Methods) (coding : Coding) → Described entries → run (all_codes dexes entries) ≡ Ok coding → Drawn dexes entries ([], 0) coding
+  all_drawn : (dexes : List Dex) (entries : Methods) (coding : List Coded) → Described entries → run (all_codes dexes entries) ≡ Ok coding → Drawn dexes entries [] coding
   unfolding all_codes
-  all_drawn dexes entries coding told e = drawn dexes entries ([], 0) coding told.each e
+  all_drawn dexes entries coding told e = drawn dexes entries [] coding told.each e
 
   -- the methods of ordered entries are in order, and tested
-  codes_tested : (dexes : List Dex) (entries : Methods) (coding : Coding) → Described entries → IsStrictlySortedBy triple_order (keys_of entries) → run (all_codes dexes entries) ≡ Ok coding → Tested dexes coding.0
+  codes_tested : (dexes : List Dex) (entries : Methods) (coding : List Coded) → Described entries → IsStrictlySortedBy triple_order (keys_of entries) → run (all_codes dexes entries) ≡ Ok coding → Tested dexes coding
   codes_tested dexes entries coding told sorted e =
       let all = all_drawn dexes entries coding told e in
       let more : Tested dexes all.more = record { order = ascend_shown all.more (all.sorted sorted); each = all.all_tested } in
       subst (Tested dexes) (sym all.is) more
 
   -- there are no more of them than entries
-  codes_few : (dexes : List Dex) (entries : Methods) (coding : Coding) → Described entries → run (all_codes dexes entries) ≡ Ok coding → length coding.0 ≤ length entries
+  codes_few : (dexes : List Dex) (entries : Methods) (coding : List Coded) → Described entries → run (all_codes dexes entries) ≡ Ok coding → length coding ≤ length entries
   codes_few dexes entries coding told e =
       let all = all_drawn dexes entries coding told e in
-      let same : length coding.0 ≡ length all.more = ap length all.is in
+      let same : length coding ≡ length all.more = ap length all.is in
       let h : length all.more ≤ length entries = all.few in
       omega (arith, same, h)
 
   -- the same of entries that are read through a slice
-  pub seen_tested : (dexes : List Dex) (methods items seen : Methods) (coding : Coding) → seen ≡ items → items ≡ methods → Described methods → IsStrictlySortedBy triple_order (keys_of items) → run (all_codes dexes seen) ≡ Ok coding → Tested dexes coding.0
+  pub seen_tested : (dexes : List Dex) (methods items seen : Methods) (coding : List Coded) → seen ≡ items → items ≡ methods → Described methods → IsStrictlySortedBy triple_order (keys_of items) → run (all_codes dexes seen) ≡ Ok coding → Tested dexes coding
   seen_tested dexes methods items seen coding as_read as_listed told sorted e =
       codes_tested dexes items coding (subst Described (sym as_listed) told) sorted (subst (λ (es : Methods). run (all_codes dexes es) ≡ Ok coding) as_read e)
 
-  pub seen_few : (dexes : List Dex) (methods seen : Methods) (coding : Coding) → seen ≡ methods → Described methods → run (all_codes dexes seen) ≡ Ok coding → length coding.0 ≤ length methods
+  pub seen_few : (dexes : List Dex) (methods seen : Methods) (coding : List Coded) → seen ≡ methods → Described methods → run (all_codes dexes seen) ≡ Ok coding → length coding ≤ length methods
   seen_few dexes methods seen coding as_read told e = codes_few dexes methods coding told (subst (λ (es : Methods). run (all_codes dexes es) ≡ Ok coding) as_read e)

@@ -19,7 +19,7 @@ use Rattle.method_code.specs.Methods.{lifted, all_methods, Narrow}
 use Rattle.method_code.specs.SoFar.{SoFar, lines_in}
 use Rattle.method_code.specs.Tested.{IsTested, coded_order, Tested}
 use Rattle.method_code.proofs.FieldOrder.{ascends_as_fields}
-use Rattle.method_code.proofs.StaticsCount.{few_statics, within}
+use Rattle.method_code.proofs.StaticsCount.{few_statics}
 use Rattle.method_code.proofs.SoundMethods.{sound_method}
 
 some_keys : (keys : List Key) (fields : List (Name × Name × Name)) → AreKeys keys fields → 0 < length keys
@@ -74,9 +74,9 @@ module _ (laws : CodeLaws) (app : App) (fields : Fields) (dexes : List Dex) (sta
   unfolding all_methods
   count = ap length made ∙ lifted_length app fields dexes statics coded
 
-  done_sound : (units : ℕ) → SoFar (coded, units) → units ≤ 33554432 → length coded < 4294967296 → Tested dexes coded → Narrow methods → SoundApp done
-  done_sound units so_far few short tested narrow =
-      let lines : lines_in coded ≤ 33554432 = within app fields (lines_in coded) units 18446744073709551615 so_far.few few (omega arith) in
+  done_sound : SoFar coded 33554432 → length coded < 4294967296 → Tested dexes coded → Narrow methods → SoundApp done
+  done_sound so_far short tested narrow =
+      let lines : lines_in coded ≤ 33554432 = so_far.few in
       let most : length statics ≤ lines_in coded = few_statics app fields dexes coded statics are in
       record {
         short = record {
@@ -102,13 +102,13 @@ module _ (laws : CodeLaws) (app : App) (fields : Fields) (dexes : List Dex) (sta
       }
 
 -- the app with lists of statics and methods that were made from those that were read is sound
-pub finished_sound : (laws : CodeLaws) (app : App) (fields : Fields) (dexes : List Dex) (coded read read_again : List Coded) (units : ℕ) (listed named statics : List Triple) (made methods : List Method)
-    → SoundApp app → SoFar (coded, units) → Tested dexes coded → units ≤ 33554432 → length coded < 4294967296
+pub finished_sound : (laws : CodeLaws) (app : App) (fields : Fields) (dexes : List Dex) (coded read read_again : List Coded) (listed named statics : List Triple) (made methods : List Method)
+    → SoundApp app → SoFar coded 33554432 → Tested dexes coded → length coded < 4294967296
     → read ≡ coded → AreStatics app fields dexes read listed → named ≡ listed → statics ≡ listed
     → read_again ≡ coded → made ≡ all_methods app fields named dexes read_again → Narrow made → methods ≡ made
     → SoundApp (record app { statics = statics; methods = methods })
-finished_sound laws app fields dexes coded read read_again units listed named statics made methods sound so_far tested few short is_read are is_named is_put is_read_again are_made narrow are_put =
+finished_sound laws app fields dexes coded read read_again listed named statics made methods sound so_far tested short is_read are is_named is_put is_read_again are_made narrow are_put =
     let all : AreStatics app fields dexes coded statics = subst (AreStatics app fields dexes coded) (sym is_put) (subst (λ (cs : List Coded). AreStatics app fields dexes cs listed) is_read are) in
     let these : named ≡ statics = is_named ∙ sym is_put in
     let whole : methods ≡ all_methods app fields statics dexes coded = are_put ∙ (are_made ∙ (ap (λ (ss : List Triple). all_methods app fields ss dexes read_again) these ∙ ap (all_methods app fields statics dexes) is_read_again)) in
-    done_sound laws app fields dexes statics methods coded sound all whole units so_far few short tested (subst Narrow (sym are_put) narrow)
+    done_sound laws app fields dexes statics methods coded sound all whole so_far short tested (subst Narrow (sym are_put) narrow)

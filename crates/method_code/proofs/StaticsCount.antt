@@ -1,5 +1,5 @@
 -- There are no more statics than lines, and they stand in order.
-use Rattle.std.proofs.Common.{◌≡◌, ℕ, ◌+◌, ◌<◌, ◌≤◌, min, List, [], ◌∷◌, ◌++◌, length, length-append, Option, Some, None, arith}
+use Rattle.std.proofs.Common.{◌≡◌, ℕ, ◌+◌, ◌≤◌, List, [], ◌∷◌, ◌++◌, length, length-append, Option, Some, None, arith}
 use Rattle.std.specs.Prelude.{flat_map, slice_get}
 use Rattle.dex_reader.specs.declared.dex.Dex.{Dex}
 use Rattle.dex_code.specs.Lines.{Line}
@@ -55,15 +55,12 @@ module _ (app : App) (fields : Fields) where
       let lines : length (statics_named app fields dexes cs) ≤ lines_in cs = in_methods dexes cs in
       omega (arith, named, lines)
 
-  pub within : (lines units most : ℕ) → min lines most ≤ units → units ≤ 33554432 → 33554432 < most → lines ≤ 33554432
-  within lines units most h k b = omega (arith, h, k, b)
-
   -- the statics of methods with few units are in order, and few
-  pub statics_in_order : (dexes : List Dex) (cs : List Coded) (units : ℕ) (statics : List Triple) → SoFar (cs, units) → units ≤ 33554432 → AreStatics app fields dexes cs statics → StaticsInOrder statics
-  statics_in_order dexes cs units statics so_far few are =
-      let l : lines_in cs ≤ 33554432 = within (lines_in cs) units 18446744073709551615 so_far.few few (omega arith) in
+  pub statics_in_order : (dexes : List Dex) (cs : List Coded) (statics : List Triple) → SoFar cs 33554432 → AreStatics app fields dexes cs statics → StaticsInOrder statics
+  statics_in_order dexes cs statics so_far are =
+      let l : lines_in cs ≤ 33554432 = so_far.few in
       let s : length statics ≤ lines_in cs = few_statics dexes cs statics are in
       record { order = are.order; short = omega (arith, l, s) }
 
-pub lines_in_order : (cs : List Coded) (units : ℕ) → SoFar (cs, units) → InOrder cs
+pub lines_in_order : (cs : List Coded) (units : ℕ) → SoFar cs units → InOrder cs
 lines_in_order cs units so_far = record { each = so_far.order }

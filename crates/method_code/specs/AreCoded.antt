@@ -1,6 +1,6 @@
 -- The code of the methods, by what holds of each.
-use Rattle.std.specs.Prelude.{◌≡◌, ℕ, min, Bool, true, false, ◌||◌, IsTrue, List, length, Option, Some, None, is_some, if◌then◌else◌}
-use Rattle.std.specs.List.{AllZip, filter, sum_by}
+use Rattle.std.specs.Prelude.{◌≡◌, Bool, true, false, ◌||◌, IsTrue, List, Some, is_some}
+use Rattle.std.specs.List.{AllZip, filter}
 use Rattle.dex_reader.specs.declared.dex.Dex.{Dex}
 use Rattle.dex_reader.specs.declared.dex.RawCode.{RawCode}
 use Rattle.dex_code.specs.declared.decoder.Decoded.{Decoded}
@@ -12,9 +12,8 @@ use Rattle.app_machine.specs.Sound.{taken}
 use Rattle.method_code.specs.declared.coded.Coded.{Coded}
 use Rattle.app_listing.specs.declared.members.Listed.{Listed}
 use Rattle.app_listing.specs.Texts.{Triple}
-use Rattle.method_code.specs.Code.{Coding, code_at, counts_of, call_fits, reference, native_coded, with_code}
+use Rattle.method_code.specs.Code.{code_at, counts_of, call_fits, reference, native_coded, with_code}
 use Rattle.app_listing.specs.MemberRows.{Methods}
-use Rattle.method_code.specs.SoFar.{most_units}
 
 -- these lines and tries are the code; it takes as many registers of arguments as the method's descriptor tells, and each call has as
 -- many as its reference tells
@@ -33,15 +32,6 @@ pub data IsCoded (dexes : List Dex) (entry : Triple × Listed) : Coded → Type 
 unfoldable pub has_body : List Dex → Triple × Listed → Bool
 has_body dexes entry = entry.1.is_native || is_some (code_at dexes entry.1.place)
 
-abbrev pub units_found : Option (Dex × RawCode) → ℕ
-units_found None = 0
-units_found (Some found) = length found.1.units
-
--- how many units the method's code has
-unfoldable pub units_of : List Dex → Triple × Listed → ℕ
-units_of dexes entry = if entry.1.is_native then 0 else units_found (code_at dexes entry.1.place)
-
--- the methods that are native or have code, in the order of the list, and how many units they have, up to the largest count
-pub record AreCoded (dexes : List Dex) (methods : Methods) (coding : Coding) : Type 0 where
-  pub each : AllZip (IsCoded dexes) (filter (has_body dexes) methods) coding.0
-  pub units : coding.1 ≡ min (sum_by (units_of dexes) methods) most_units
+-- the methods that are native or have code, in the order of the list
+pub record AreCoded (dexes : List Dex) (methods : Methods) (coded : List Coded) : Type 0 where
+  pub each : AllZip (IsCoded dexes) (filter (has_body dexes) methods) coded

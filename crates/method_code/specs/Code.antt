@@ -1,6 +1,6 @@
 -- The code of the methods: decoded, with as many arguments as each descriptor takes, and as many registers as each call's
 -- reference takes.
-use Rattle.std.specs.Prelude.{◌≡◌, ◌<◌, ℕ, ◌+◌, ◌==◌, min, Bool, true, false, List, [], ◌∷◌, ◌++◌, length, Option, Some, None, slice_get, if◌then◌else◌}
+use Rattle.std.specs.Prelude.{◌≡◌, ◌<◌, ℕ, ◌==◌, min, Bool, true, false, List, [], ◌∷◌, ◌++◌, length, Option, Some, None, slice_get, if◌then◌else◌}
 use Rattle.vet_base.specs.Script.{Script, Value, Test, ◌>>=◌, test, each}
 use Rattle.dex_reader.specs.declared.dex.Dex.{Dex}
 use Rattle.dex_reader.specs.declared.dex.ClassDef.{ClassDef}
@@ -103,23 +103,16 @@ with_code at listed dex code decoded = record { at = at; is_static = listed.is_s
 abbrev pub native_coded : MethodRef → Listed → Coded
 native_coded at listed = record { at = at; is_static = listed.is_static; is_native = true; registers = 0; ins = 0; dex = 0; decoded = record { lines = []; tries = [] } }
 
--- the sum, in a count that stays at its largest
-abbrev pub more_units : ℕ → ℕ → ℕ
-more_units a b = min (a + b) 18446744073709551615
-
-abbrev pub Coding : Type 0
-Coding = List Coded × ℕ
-
--- one more method with code; its units are counted
-unfoldable pub one_code : MethodRef → Listed → Option (Dex × RawCode) → Coding → Script Fault Coding
-one_code at listed None coding = Value coding
-one_code at listed (Some found) coding = do
+-- one more method with code
+unfoldable pub one_code : MethodRef → Listed → Option (Dex × RawCode) → List Coded → Script Fault (List Coded)
+one_code at listed None coded = Value coded
+one_code at listed (Some found) coded = do
   decoded ← tested at listed.is_static found.0 found.1
-  Value (coding.0 ++ with_code at listed listed.place.dex found.1 decoded ∷ [], more_units coding.1 (length found.1.units))
+  Value (coded ++ with_code at listed listed.place.dex found.1 decoded ∷ [])
 
 -- one more method, native or with code; the bare ones are passed by
-unfoldable pub code_row : List Dex → Triple × Listed → Coding → Script Fault Coding
-code_row dexes entry coding = if entry.1.is_native then Value (coding.0 ++ native_coded (reference entry.0 entry.1) entry.1 ∷ [], coding.1) else one_code (reference entry.0 entry.1) entry.1 (code_at dexes entry.1.place) coding
+unfoldable pub code_row : List Dex → Triple × Listed → List Coded → Script Fault (List Coded)
+code_row dexes entry coded = if entry.1.is_native then Value (coded ++ native_coded (reference entry.0 entry.1) entry.1 ∷ []) else one_code (reference entry.0 entry.1) entry.1 (code_at dexes entry.1.place) coded
 
-unfoldable pub all_codes : List Dex → List (Triple × Listed) → Script Fault Coding
-all_codes dexes methods = each (code_row dexes) methods ([], 0)
+unfoldable pub all_codes : List Dex → List (Triple × Listed) → Script Fault (List Coded)
+all_codes dexes methods = each (code_row dexes) methods []

@@ -8,3 +8,4 @@ pub mod StaticList
 pub mod Statics
 pub mod StaticsInOrder
 pub mod Tested
+pub mod Units

@@ -12,6 +12,7 @@ ghost use Rattle.app_listing.specs.Described.{Described};
 ghost use Rattle.app_listing.specs.Orders.{triple_order};
 ghost use Rattle.method_code.specs.SoFar.{SoFar};
 ghost use Rattle.method_code.specs.Tested.{Tested};
+ghost use Rattle.method_code.specs.Units.{units_in, units_of};
 ghost use Rattle.app_listing.specs.Texts.{method_row, proto_of};
 ghost use Rattle.app_listing.specs.declared.fault.Fault.TheVariants as faults;
 
@@ -41,7 +42,7 @@ pub struct Coded {
     pub decoded: Decoded,
 }
 
-/// Methods in order, and how many units the code of all has.
+/// Methods in order, and how many units the code of all has, in a count that stays at its largest.
 #[derive(Drop)]
 pub struct Coding {
     pub methods: Vec<Coded>,
@@ -223,13 +224,13 @@ fn add_code(
     listed: &Listed,
     dex: &Dex,
     code: &RawCode,
-    mut coding: Coding,
-) -> Result<Coding, Halt>
+    mut coded: Vec<Coded>,
+) -> Result<Vec<Coded>, Halt>
     requires { ShortCode code.now }
-    ensures { Gives (λ c. (c.methods.items, c.units)) result (one_code at listed.now (Some (dex.now, code.now)) (coding.methods.items, coding.units)) }
+    ensures { Gives (λ v. v.items) result (one_code at listed.now (Some (dex.now, code.now)) coded.items) }
 {
     let decoded = test_code(alloc, &at, listed.is_static, dex, code)?;
-    coding.methods.push(Coded {
+    coded.push(Coded {
         at,
         is_static: listed.is_static,
         is_native: false,
@@ -238,8 +239,7 @@ fn add_code(
         dex: listed.place.dex,
         decoded,
     })?;
-    coding.units = coding.units.saturating_add(code.units.len() as u64);
-    Ok(coding)
+    Ok(coded)
 }
 
 /// One more method, where it is native or has code.
@@ -248,15 +248,15 @@ fn add_row(
     alloc: Global,
     dexes: &[Dex],
     entry: &(Triple, Listed),
-    mut coding: Coding,
-) -> Result<Coding, Halt>
+    mut coded: Vec<Coded>,
+) -> Result<Vec<Coded>, Halt>
     requires { ShortCodes dexes.now }
-    ensures { Gives (λ c. (c.methods.items, c.units)) result (code_row dexes.now entry.now (coding.methods.items, coding.units)) }
+    ensures { Gives (λ v. v.items) result (code_row dexes.now entry.now coded.items) }
 {
     let listed = &entry.1;
     let at = reference_of(&entry.0, listed)?;
     if listed.is_native {
-        coding.methods.push(Coded {
+        coded.push(Coded {
             at,
             is_static: listed.is_static,
             is_native: true,
@@ -268,30 +268,50 @@ fn add_row(
                 tries: Shared::new(),
             },
         })?;
-        return Ok(coding);
+        return Ok(coded);
     }
     match find_code(dexes, &listed.place) {
-        Some((dex, code)) => add_code(alloc, at, listed, dex, code, coding),
-        None => Ok(coding),
+        Some((dex, code)) => add_code(alloc, at, listed, dex, code, coded),
+        None => Ok(coded),
     }
 }
 
 #[tactic(auto, unfolding(crate::specs::Code::all_codes), using(vet_base::proofs::Eaches::each_begins, vet_base::proofs::Eaches::each_goes_on, vet_base::proofs::Eaches::each_fails, vet_base::proofs::Eaches::each_is_done))]
-fn add_rows(alloc: Global, dexes: &[Dex], entries: &[(Triple, Listed)]) -> Result<Coding, Halt>
+fn add_rows(alloc: Global, dexes: &[Dex], entries: &[(Triple, Listed)]) -> Result<Vec<Coded>, Halt>
     requires { ShortCodes dexes.now }
-    ensures { Gives (λ c. (c.methods.items, c.units)) result (all_codes dexes.now entries.now) }
+    ensures { Gives (λ v. v.items) result (all_codes dexes.now entries.now) }
 {
-    let mut coding = Coding {
-        methods: Vec::new(alloc),
-        units: 0,
-    };
+    let mut coded = Vec::new(alloc);
     for entry in entries {
-        match add_row(alloc, dexes, entry, coding) {
-            Ok(more) => coding = more,
-            Err(halt) => return Err(halt),
-        }
+        coded = add_row(alloc, dexes, entry, coded)?;
     }
-    Ok(coding)
+    Ok(coded)
+}
+
+/// How many units the code of a method has.
+#[tactic(auto, unfolding(crate::specs::Units::units_of))]
+fn units_at(dexes: &[Dex], entry: &(Triple, Listed)) -> usize
+    ensures { result ≡ units_of dexes.now entry.now }
+{
+    if entry.1.is_native {
+        return 0;
+    }
+    match find_code(dexes, &entry.1.place) {
+        Some((_, code)) => code.units.len(),
+        None => 0,
+    }
+}
+
+/// How many units the code of all methods has, in a count that stays at its largest.
+#[tactic(auto, using(class_hierarchy::proofs::FoldsOn::onto_begins, class_hierarchy::proofs::FoldsOn::onto_goes_on, class_hierarchy::proofs::FoldsOn::onto_is_done, crate::proofs::Units::counted))]
+fn count_units(dexes: &[Dex], entries: &[(Triple, Listed)]) -> u64
+    ensures { result ≡ min (units_in dexes.now entries.now) 18446744073709551615 }
+{
+    let mut units: u64 = 0;
+    for entry in entries {
+        units = units.saturating_add(units_at(dexes, entry) as u64);
+    }
+    units
 }
 
 fn listed(alloc: Global, methods: Methods) -> Result<Vec<(Triple, Listed)>, Memory>
@@ -306,13 +326,17 @@ fn listed(alloc: Global, methods: Methods) -> Result<Vec<(Triple, Listed)>, Memo
 pub fn codes_of(alloc: Global, dexes: &[Dex], methods: Methods) -> Result<Coding, Halt>
     requires codes { ShortCodes dexes.now }
     requires described { Described methods.entries }
-    ensures value { Gives (λ c. (c.methods.items, c.units)) result (all_codes dexes.now methods.entries) }
-    ensures fine { IfOk result (λ c. SoFar (c.methods.items, c.units)) }
+    ensures value { Gives (λ c. c.methods.items) result (all_codes dexes.now methods.entries) }
+    ensures units { IfOk result (λ c. c.units ≡ min (units_in dexes.now methods.entries) 18446744073709551615) }
+    ensures fine { IfOk result (λ c. SoFar c.methods.items (units_in dexes.now methods.entries)) }
     ensures tested { IfOk result (λ c. Tested dexes.now c.methods.items) }
     ensures few { IfOk result (λ c. length c.methods.items ≤ length methods.entries) }
 {
     code_laws();
     let entries = listed(alloc, methods)?;
-    let coding = add_rows(alloc, dexes, &entries)?;
-    Ok(coding)
+    let methods = add_rows(alloc, dexes, &entries)?;
+    Ok(Coding {
+        methods,
+        units: count_units(dexes, &entries),
+    })
 }

@@ -17,7 +17,7 @@ use dex_reader::Dex;
 use std::alloc::Global;
 use vet_base::{Memory, Seq};
 
-/// The app with its statics and methods.
+/// The app with its statics and methods. Want of memory is the only error.
 #[tactic(auto, using(crate::proofs::StaticsCount::statics_in_order, crate::proofs::StaticsCount::lines_in_order))]
 pub fn finished(
     alloc: Global,
@@ -27,9 +27,8 @@ pub fn finished(
     coding: &Coding,
 ) -> Result<App, Memory>
     requires sound { SoundApp app }
-    requires fine { SoFar (coding.now.methods.items, coding.now.units) }
+    requires fine { SoFar coding.now.methods.items 33554432 }
     requires tested { Tested dexes.now coding.now.methods.items }
-    requires few { coding.now.units ≤ 33554432 }
     requires few_methods { length coding.now.methods.items < 2 ^ 32 }
     ensures sound { IfOk result SoundApp }
     ensures statics { IfOk result (λ a. AreStatics app fields.now.entries dexes.now coding.now.methods.items a.statics) }

@@ -2,6 +2,7 @@ use Rattle.std.proofs.Common.{rules}
 use Rattle.app_link.specs.FirstLinkFault.{StopsAtFirst}
 use Rattle.app_link.proofs.FirstFaults.{at_hierarchy, at_code, at_limits}
 use Rattle.app_link.proofs.FrameSound.{frame_sound}
+use Rattle.app_link.proofs.Limits.{few_lines}
 use Rattle.app_link.proofs.Linked.{is_app}
 use Rattle.app_link.proofs.OneAnswer.{only_app}
 use Rattle.app_listing.proofs.SoundMembers.{gathered_described}
@@ -19,14 +20,17 @@ codes_of-requires-clause-described c = gathered_described c.args.dexes.now c.arg
 pub finished-requires-clause-sound : goal.finished-requires-clause-sound
 finished-requires-clause-sound c = frame_sound _ _ c.in_ok-frame.frame c.in_ok-frame.ensures.frame
 
+pub finished-requires-clause-fine : goal.finished-requires-clause-fine
+finished-requires-clause-fine c = few_lines c.in_ok-coding.coding.methods.items c.in_ok-coding.coding.units _ c.in_ok-coding.ensures.units c.in_ok-check_limits.ensures.units c.in_ok-coding.ensures.fine
+
 pub returns-clause-app : goal.returns-clause-app
 returns-clause-app c = is_app c.code_laws.ensures c.args.dexes.now c.args.manifest.now c.args.layouts.now (record {
   classes = c.in_ok-parts.parts.classes.entries;
   fields = c.in_ok-parts.parts.fields.entries;
   methods = c.in_ok-parts.parts.methods.entries;
   components = c.in_ok-parts.parts.components.items;
-}) (c.in_ok-coding.coding.methods.items, c.in_ok-coding.coding.units) c.in_ok-frame.frame c.in_ok-app.app c.in_ok-frame.ensures.frame c.in_ok-app.ensures.others
-    c.counts_of-class_count.result.0 c.counts_of-class_count.result.1 c.counts_of-class_count.result.2 c.counts_of-class_count.ensures.classes c.counts_of-class_count.ensures.methods c.counts_of-class_count.ensures.fields
+}) c.in_ok-coding.coding.methods.items c.in_ok-frame.frame c.in_ok-app.app c.in_ok-frame.ensures.frame c.in_ok-app.ensures.others
+    c.counts_of-class_count.result.0 c.counts_of-class_count.result.1 c.counts_of-class_count.result.2 c.in_ok-coding.coding.units c.counts_of-class_count.ensures.classes c.counts_of-class_count.ensures.methods c.counts_of-class_count.ensures.fields c.in_ok-coding.ensures.units
     c.in_ok-parts.ensures.value c.in_ok-coding.ensures.value c.in_ok-check_limits.ensures.value
     c.in_ok-frame.ensures.components c.in_ok-frame.ensures.clicks c.in_ok-frame.ensures.providers c.in_ok-frame.ensures.layout_classes
     c.in_ok-app.ensures.statics c.in_ok-app.ensures.methods
@@ -66,7 +70,7 @@ returns-in_err-check_limits-clause-fault c =
       fields = c.in_ok-parts.parts.fields.entries;
       methods = c.in_ok-parts.parts.methods.entries;
       components = c.in_ok-parts.parts.components.items;
-    }) c.in_ok-parts.ensures.value c.in_err-check_limits.field-0.0 (c.in_ok-coding.coding.methods.items, c.in_ok-coding.coding.units)
-    c.counts_of-class_count.result.0 c.counts_of-class_count.result.1 c.counts_of-class_count.result.2 (no_circle _ _ c.in_ok-outers.ensures.ok) c.in_ok-coding.ensures.value
-    c.counts_of-class_count.ensures.classes c.counts_of-class_count.ensures.methods c.counts_of-class_count.ensures.fields c.in_err-check_limits.ensures.value in
+    }) c.in_ok-parts.ensures.value c.in_err-check_limits.field-0.0 c.in_ok-coding.coding.methods.items
+    c.counts_of-class_count.result.0 c.counts_of-class_count.result.1 c.counts_of-class_count.result.2 c.in_ok-coding.coding.units (no_circle _ _ c.in_ok-outers.ensures.ok) c.in_ok-coding.ensures.value
+    c.counts_of-class_count.ensures.classes c.counts_of-class_count.ensures.methods c.counts_of-class_count.ensures.fields c.in_ok-coding.ensures.units c.in_err-check_limits.ensures.value in
     search rules

@@ -5,4 +5,4 @@ use Rattle.method_code.specs.Code.{code_row}
 use Rattle.method_code.proofs.coded.add_rows.Given as goal
 
 abbrev pub invariant-loop-entry : goal.invariant-loop-entry
-invariant-loop-entry l = Eaches l.entries l.entry-index (code_row l.dexes) (l.coding.methods.items, l.coding.units) (run (each (code_row l.dexes) l.entries ([], 0)))
+invariant-loop-entry l = Eaches l.entries l.entry-index (code_row l.dexes) l.coded.items (run (each (code_row l.dexes) l.entries []))
