@@ -1,5 +1,5 @@
 -- What the checker says of rows is one thing, and goes by which rows are there alone.
-use Rattle.std.proofs.Common.{◌≡◌, ◌↔◌, ◌⊎◌, ℕ, ◌+◌, ◌<◌, Bool, true, false, List, [], ◌∷◌, ◌++◌, Option, Some, None, get_or, length, take, refl, sym, ap, subst, ◌∙◌, inl, inr}
+use Rattle.std.proofs.Common.{◌≡◌, ◌⊎◌, ℕ, ◌+◌, ◌<◌, Bool, true, false, List, [], ◌∷◌, ◌++◌, Option, Some, None, get_or, length, take, refl, sym, ap, subst, ◌∙◌, inl, inr}
 use Rattle.std.specs.Prelude.{MatchBool}
 use Rattle.std.specs.declared.cmp.Ordering.{Ordering}
 use Rattle.std.specs.declared.cmp.Ordering.TheVariants.{Less, Equal, Greater}
@@ -20,7 +20,7 @@ use Rattle.vet_base.proofs.Members.{in_front, in_back, in_either}
 use Rattle.vet_base.proofs.Orders.{turned}
 use Rattle.app_flow.specs.declared.defect.TableDefect.{TableDefect}
 use Rattle.app_flow.specs.declared.defect.TableDefect.TheVariants.{Stranger, NoStart, NotClosed}
-use Rattle.app_flow.specs.Defect.{SameRows, LacksStart, IsNotClosed, IsTableDefect, IsChecked, OneDefect}
+use Rattle.app_flow.specs.Defect.{SameRows, LacksStart, IsNotClosed, IsChecked, OneDefect}
 use Rattle.app_flow.proofs.Accepting.{each_there}
 
 -- the least row of which something fails is one row

@@ -1,7 +1,10 @@
 //! Certificates: what `certify` writes for an app, and what `recheck` answers to it and to changed ones.
 use crate::folder::{Held, answer_for, path_of};
 use std::alloc::{AllocError, Global};
+use std::marker::Sync;
 use std::rt::Files;
+use std::sync::Wait;
+use std::thread::Threads;
 use std::{fs, io};
 use vet_base::{MemFiles, Memory, Name};
 
@@ -19,7 +22,7 @@ fn want(_memory: Memory) -> AllocError {
 }
 
 /// The folder `D`, and the certificate `C` where there is one. The files fail at this call, if it is not 0.
-fn folder<R: Files + AllocGlobal>(
+fn folder<R: Files + AllocGlobal + Threads + Wait + Sync>(
     rt: &R,
     certificate: Option<Vec<u8>>,
     failing: u64,
@@ -39,8 +42,13 @@ fn folder<R: Files + AllocGlobal>(
 }
 
 /// The status and the text for a command on `D` and `C` over these files.
-fn answer_to(alloc: Global, command: &str, files: &mut MemFiles) -> Result<String, AllocError> {
-    let (status, text) = answer_for(alloc, &[command, "D", "C"], files)?;
+fn answer_to<R: AllocGlobal + Threads + Wait + Sync>(
+    rt: &R,
+    command: &str,
+    files: &mut MemFiles,
+) -> Result<String, AllocError> {
+    let alloc = rt.alloc();
+    let (status, text) = answer_for(rt, &[command, "D", "C"], files)?;
     let text = text.as_str().trim_end();
     format!(in alloc; "{status} {text}")
 }
@@ -131,9 +139,12 @@ fn changed(alloc: Global, whole: &[u8], other: &[u8], change: &str) -> Result<Ve
 }
 
 /// Prints whether `certify` writes just the certificate that another program wrote, and what it answers.
-fn certified<R: Files + Print + AllocGlobal>(rt: &R, whole: &[u8]) -> io::Result<()> {
+fn certified<R: Files + Print + AllocGlobal + Threads + Wait + Sync>(
+    rt: &R,
+    whole: &[u8],
+) -> io::Result<()> {
     let mut files = folder(rt, None, 0)?;
-    let answer = answer_to(rt.alloc(), "certify", &mut files)?;
+    let answer = answer_to(rt, "certify", &mut files)?;
     let same = if certificate_in(&files) == Some(whole) {
         "the same"
     } else {
@@ -143,7 +154,7 @@ fn certified<R: Files + Print + AllocGlobal>(rt: &R, whole: &[u8]) -> io::Result
 }
 
 /// Whether the certificate after the change of a case is answered as is due; where it is not, the case and the answer are printed.
-fn is_due<R: Files + Print + AllocGlobal>(
+fn is_due<R: Files + Print + AllocGlobal + Threads + Wait + Sync>(
     rt: &R,
     whole: &[u8],
     other: &[u8],
@@ -152,7 +163,7 @@ fn is_due<R: Files + Print + AllocGlobal>(
     let alloc = rt.alloc();
     let (change, want) = case.split_once(": ").unwrap_or((case, ""));
     let mut files = folder(rt, Some(changed(alloc, whole, other, change)?), 0)?;
-    let found = answer_to(alloc, "recheck", &mut files)?;
+    let found = answer_to(rt, "recheck", &mut files)?;
     if found.as_str() == want {
         return Ok(true);
     }
@@ -161,7 +172,10 @@ fn is_due<R: Files + Print + AllocGlobal>(
 }
 
 /// Prints how many changed certificates are answered as is due, and those that are not.
-fn rechecked<R: Files + Print + AllocGlobal>(rt: &R, whole: &[u8]) -> io::Result<()> {
+fn rechecked<R: Files + Print + AllocGlobal + Threads + Wait + Sync>(
+    rt: &R,
+    whole: &[u8],
+) -> io::Result<()> {
     let alloc = rt.alloc();
     let other = fs::read(rt, "empty.cert")?;
     let text = fs::read_to_string(rt, "certificate_cases.txt")?;
@@ -175,27 +189,32 @@ fn rechecked<R: Files + Print + AllocGlobal>(rt: &R, whole: &[u8]) -> io::Result
 }
 
 /// Prints what is answered where each call of the files fails in turn, and where a certificate is absent.
-fn failing<R: Files + Print + AllocGlobal>(rt: &R, whole: &[u8]) -> io::Result<()> {
+fn failing<R: Files + Print + AllocGlobal + Threads + Wait + Sync>(
+    rt: &R,
+    whole: &[u8],
+) -> io::Result<()> {
     let alloc = rt.alloc();
     for call in 1..7 {
         let mut files = folder(rt, None, call)?;
-        let certified = answer_to(alloc, "certify", &mut files)?;
+        let certified = answer_to(rt, "certify", &mut files)?;
         let left = if certificate_in(&files).is_some() {
             "a"
         } else {
             "no"
         };
         let mut files = folder(rt, Some(whole.to_vec(alloc)?), call)?;
-        let rechecked = answer_to(alloc, "recheck", &mut files)?;
+        let rechecked = answer_to(rt, "recheck", &mut files)?;
         println!(rt; "call {call} fails: {certified} with {left} certificate, {rechecked}")?;
     }
     let mut files = folder(rt, None, 0)?;
-    let absent = answer_to(alloc, "recheck", &mut files)?;
+    let absent = answer_to(rt, "recheck", &mut files)?;
     println!(rt; "recheck without a certificate: {absent}")
 }
 
 /// Prints what certificates come to.
-pub fn certificates<R: Files + Print + AllocGlobal>(rt: &R) -> io::Result<()> {
+pub fn certificates<R: Files + Print + AllocGlobal + Threads + Wait + Sync>(
+    rt: &R,
+) -> io::Result<()> {
     let whole = fs::read(rt, "other_box.cert")?;
     certified(rt, &whole)?;
     rechecked(rt, &whole)?;

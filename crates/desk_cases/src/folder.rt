@@ -1,7 +1,11 @@
 //! A folder in memory, and the answer to it.
 use std::alloc::{AllocError, Global};
+use std::marker::Sync;
+use std::sync::Wait;
+use std::thread::Threads;
 use vet_base::{MemFiles, MemSink, Memory, Name};
 use vetting_desk::{Status, vet};
+use worker_pool::{Crew, NoGate};
 
 /// Files by name.
 pub type Held = Vec<(Name, Vec<u8>)>;
@@ -34,23 +38,34 @@ pub fn folder_with(
 }
 
 /// The status and the text for these words over these files.
-pub fn answer_for(
-    alloc: Global,
+pub fn answer_for<R: AllocGlobal + Threads + Wait + Sync>(
+    rt: &R,
     words: &[&str],
     files: &mut MemFiles,
 ) -> Result<(u8, String), AllocError> {
+    let alloc = rt.alloc();
+    let crew = Crew {
+        rt,
+        gate: &NoGate,
+        workers: 1,
+        seed: 1,
+    };
     let mut line = Vec::new(alloc);
     for word in words {
         line.push(String::from_str(alloc, word)?)?;
     }
     let mut out = MemSink::new(alloc, Vec::new(alloc));
-    let Status(status) = vet(alloc, &line, files, &mut out, 1);
+    let Status(status) = vet(alloc, &line, files, &mut out, &crew);
     let text = std::str::from_utf8(out.taken()).unwrap_or("?");
     Ok((status, String::from_str(alloc, text)?))
 }
 
 /// The status and the text for `check D 1` over these files.
-pub fn answer_to(alloc: Global, mut files: MemFiles) -> Result<String, AllocError> {
-    let (status, text) = answer_for(alloc, &["check", "D", "1"], &mut files)?;
+pub fn answer_to<R: AllocGlobal + Threads + Wait + Sync>(
+    rt: &R,
+    mut files: MemFiles,
+) -> Result<String, AllocError> {
+    let alloc = rt.alloc();
+    let (status, text) = answer_for(rt, &["check", "D", "1"], &mut files)?;
     format!(in alloc; "{status}\n{text}")
 }

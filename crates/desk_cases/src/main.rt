@@ -10,11 +10,18 @@ mod generated;
 use crate::certificates::certificates;
 use crate::folder::{Held, answer_to, folder_with, path_of};
 use crate::generated::generated;
+use std::marker::Sync;
 use std::rt::Files;
+use std::sync::Wait;
+use std::thread::Threads;
 use std::{fs, io};
 
 /// Reads the cases, which stand each behind a line `## TITLE`, and prints those that are not answered as is due.
-fn cases<R: Files + Print + AllocGlobal>(rt: &R, name: &str, sample: &Held) -> io::Result<()> {
+fn cases<R: Files + Print + AllocGlobal + Threads + Wait + Sync>(
+    rt: &R,
+    name: &str,
+    sample: &Held,
+) -> io::Result<()> {
     let text = fs::read_to_string(rt, name)?;
     let mut due = 0u64;
     for case in text.as_str().split("\n## ").skip(1) {
@@ -34,7 +41,7 @@ fn cases<R: Files + Print + AllocGlobal>(rt: &R, name: &str, sample: &Held) -> i
 /// Behind the title stand parts, each behind a line `> HEAD`. The head `answer` comes before the status and the text
 /// that are due, `NAME` before the text of that file of the folder, `NAME = FILE` gives it the bytes of a file that lies
 /// here, and `NAME = -` says that it is absent.
-fn answers_of<R: Files + AllocGlobal>(
+fn answers_of<R: Files + AllocGlobal + Threads + Wait + Sync>(
     rt: &R,
     case: &str,
     sample: &Held,
@@ -58,11 +65,15 @@ fn answers_of<R: Files + AllocGlobal>(
         }
     }
     let folder = folder_with(alloc, changes, &absent, sample)?;
-    Ok((answer_to(alloc, folder)?, want))
+    Ok((answer_to(rt, folder)?, want))
 }
 
 /// Prints at how many bytes of a DEX file a cut is answered as is due.
-fn cuts<R: Files + Print + AllocGlobal>(rt: &R, name: &str, sample: &Held) -> io::Result<()> {
+fn cuts<R: Files + Print + AllocGlobal + Threads + Wait + Sync>(
+    rt: &R,
+    name: &str,
+    sample: &Held,
+) -> io::Result<()> {
     let alloc = rt.alloc();
     let bytes = fs::read(rt, name)?;
     let few = "rows = 1\ncategories = [\"a\"]\n".as_bytes();
@@ -72,7 +83,7 @@ fn cuts<R: Files + Print + AllocGlobal>(rt: &R, name: &str, sample: &Held) -> io
         let mut changes = Vec::new(alloc);
         changes.push((path_of(alloc, "lists.toml")?, few.to_vec(alloc)?))?;
         changes.push((path_of(alloc, "classes.dex")?, bytes[..n].to_vec(alloc)?))?;
-        let found = answer_to(alloc, folder_with(alloc, changes, &none, sample)?)?;
+        let found = answer_to(rt, folder_with(alloc, changes, &none, sample)?)?;
         let reason = if n < 8 {
             "magic"
         } else if n < 112 {
@@ -91,7 +102,11 @@ fn cuts<R: Files + Print + AllocGlobal>(rt: &R, name: &str, sample: &Held) -> io
 }
 
 /// Prints what is answered to a manifest with so many components.
-fn components<R: Print + AllocGlobal>(rt: &R, count: u32, sample: &Held) -> io::Result<()> {
+fn components<R: Print + AllocGlobal + Threads + Wait + Sync>(
+    rt: &R,
+    count: u32,
+    sample: &Held,
+) -> io::Result<()> {
     let alloc = rt.alloc();
     let mut text = String::from_str(alloc, "package = \"a\"\ndex_files = 1\n")?;
     for i in 0..count {
@@ -105,13 +120,13 @@ fn components<R: Print + AllocGlobal>(rt: &R, count: u32, sample: &Held) -> io::
         text.as_bytes().to_vec(alloc)?,
     ))?;
     let none = path_of(alloc, "")?;
-    let found = answer_to(alloc, folder_with(alloc, changes, &none, sample)?)?;
+    let found = answer_to(rt, folder_with(alloc, changes, &none, sample)?)?;
     let found = found.as_str().trim_end();
     println!(rt; "{count} components: {found}")
 }
 
 /// The folder whose app posts the device id.
-fn sample_of<R: Files + AllocGlobal>(rt: &R) -> io::Result<Held> {
+fn sample_of<R: Files + AllocGlobal + Threads + Wait + Sync>(rt: &R) -> io::Result<Held> {
     let alloc = rt.alloc();
     let mut sample = Vec::new(alloc);
     for name in [

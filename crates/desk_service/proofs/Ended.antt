@@ -16,7 +16,7 @@ use Rattle.desk_serving.specs.Run.{Runs, IsMachineRun, CountsAll}
 use Rattle.desk_service.specs.Judging.{FindsBy}
 use Rattle.desk_service.specs.Safety.{RunsStaySafe}
 use Rattle.desk_serving.specs.declared.judge.Desk.{Desk}
-use Rattle.desk_service.specs.declared.lists_judge.ListsJudge.{ListsJudge}
+use Rattle.desk_service.specs.declared.lists_judge.OfficeLists.{OfficeLists}
 use Rattle.desk_service.specs.declared.opening.Halt.{Halt}
 use Rattle.desk_service.specs.declared.opening.Halt.TheVariants as halts
 use Rattle.desk_service.specs.declared.outside.Status.{Status}
@@ -50,10 +50,10 @@ module _ (asked : Serve) (today : Option ℕ) where
   says_taken old new (Err doors.Memory) (Err e) serves risen says = RunsOut.at_door serves
 
   -- connections were taken
-  pub said_of_desk : (old new : Seen) (desk : Desk ListsJudge) (r : Result ℕ DoorFault)
+  pub said_of_desk : (old new : Seen) (desk : Desk OfficeLists) (r : Result ℕ DoorFault)
       (result : Result (Status × Vec ℕ Global) NoMemory)
       → OpensDesk old.files asked.office (Ok desk)
-      → Leaves {X = Desk ListsJudge} old.files new.files old.file_faults new.file_faults asked.office (Ok desk)
+      → Leaves {X = Desk OfficeLists} old.files new.files old.file_faults new.file_faults asked.office (Ok desk)
       → ServesDesk (opened_of desk) today asked.most old.desk new.desk r
       → (r ≡ Err doors.Failed → HasRisen old.desk.link_faults new.desk.link_faults)
       → SaysAs (TakenSays r) result → Says asked today old new result
@@ -70,7 +70,7 @@ module _ (asked : Serve) (today : Option ℕ) where
   -- no desk could be opened
   pub said_of_halt : (old new : Seen) (halt : Halt) (result : Result (Status × Vec ℕ Global) NoMemory)
       → OpensDesk old.files asked.office (Err halt)
-      → Leaves {X = Desk ListsJudge} old.files new.files old.file_faults new.file_faults asked.office (Err halt)
+      → Leaves {X = Desk OfficeLists} old.files new.files old.file_faults new.file_faults asked.office (Err halt)
       → new.desk ≡ old.desk → SaysAs (HaltSays asked.office halt) result → Says asked today old new result
   said_of_halt old new (halts.Refused paper unfit) (Ok said) opens leaves same says =
       as_said old new 3 said.0.0 (refused_text paper unfit) said.1.items says.0 says.1
@@ -145,7 +145,7 @@ module _ (asked : Serve) (today : Option ℕ) where
         (subst (λ (t : List ℕ). PutsText a b i j due t result) is puts)
 
 -- what taking connections gives
-pub serves_desk : RunsStaySafe → (desk : Desk ListsJudge) (today : Option ℕ) (most : ℕ) (old new : Outside)
+pub serves_desk : RunsStaySafe → (desk : Desk OfficeLists) (today : Option ℕ) (most : ℕ) (old new : Outside)
     (r : Result ℕ DoorFault) → desk.judge.edition ≡ sha256 desk.judge.lists
     → Runs (FindsBy desk.judge.lists) desk.office desk.judge.edition today most old new r
     → IsMachineRun old new → CountsAll most old r → ServesDesk (opened_of desk) today most old new r

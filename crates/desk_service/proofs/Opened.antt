@@ -14,7 +14,7 @@ use Rattle.desk_service.specs.declared.opening.Paper.TheVariants.{Office, Lists}
 use Rattle.std.specs.Prelude.{Vec}
 use Rattle.std.specs.declared.alloc.Global.{Global}
 use Rattle.sha2.specs.Sha256.{sha256}
-use Rattle.desk_service.specs.declared.lists_judge.ListsJudge.{ListsJudge}
+use Rattle.desk_service.specs.declared.lists_judge.OfficeLists.{OfficeLists}
 use Rattle.desk_service.specs.declared.opening.Halt.{Halt}
 use Rattle.desk_service.specs.declared.opening.Halt.TheVariants.{Refused, ReadFault, Memory}
 use Rattle.desk_service.specs.declared.opening.Unfit.{Unfit}
@@ -151,7 +151,7 @@ lists_halt forms told mid folder office (ReadFault which) same says is = tt
 lists_halt forms told mid folder office Memory same says is = tt
 
 pub desk_opens : OneFormOrFault → (told mid : Option Told) (folder : List ℕ) (office : SaidOffice)
-    (lists : Vec ℕ Global) (judge : ListsJudge) → mid ≡ told → OpensOffice told folder (Ok office)
+    (lists : Vec ℕ Global) (judge : OfficeLists) → mid ≡ told → OpensOffice told folder (Ok office)
     → OpensLists mid folder (Ok lists) → judge.lists ≡ lists.items → judge.edition ≡ sha256 lists.items
     → OpensDesk told folder (Ok (record { office = office; judge = judge }))
 desk_opens forms told mid folder office lists judge same says has bytes edition =

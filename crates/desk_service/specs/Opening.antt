@@ -12,7 +12,7 @@ use Rattle.form_fields.specs.declared.told.FormFault.TheVariants as forms
 use Rattle.form_fields.specs.Form.{IsForm, FirstFormFault}
 use Rattle.store_lists.specs.Lists.{lists_form}
 use Rattle.office_forms.specs.Office.{office_form}
-use Rattle.desk_service.specs.declared.lists_judge.ListsJudge.{ListsJudge}
+use Rattle.desk_service.specs.declared.lists_judge.OfficeLists.{OfficeLists}
 use Rattle.desk_service.specs.declared.opening.Paper.{Paper}
 use Rattle.desk_service.specs.declared.opening.Paper.TheVariants.{Office, Lists}
 use Rattle.desk_service.specs.declared.opening.Unfit.{Unfit}
@@ -119,11 +119,11 @@ OpensLists told folder (Err (Refused which unfit)) = (which ≡ Lists) × IsUnfi
 OpensLists told folder (Err (ReadFault which)) = Unit {0}
 OpensLists told folder (Err Memory) = Unit {0}
 
-abbrev pub opened_of : Desk ListsJudge → Opened
+abbrev pub opened_of : Desk OfficeLists → Opened
 opened_of desk = record { office = desk.office; lists = desk.judge.lists }
 
 -- what opening a desk returned
-abbrev pub OpensDesk : Option Told → List ℕ → Result (Desk ListsJudge) Halt → Type 0
+abbrev pub OpensDesk : Option Told → List ℕ → Result (Desk OfficeLists) Halt → Type 0
 OpensDesk told folder (Ok desk) =
     OpensAs told folder (Ok (opened_of desk)) × (desk.judge.edition ≡ sha256 desk.judge.lists)
 OpensDesk told folder (Err (Refused which unfit)) = OpensAs told folder (Err (which, unfit))

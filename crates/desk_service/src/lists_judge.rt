@@ -1,29 +1,38 @@
-//! One who judges apps by the lists of the office.
+//! The lists of the office, and one who judges apps by them.
 ghost use Rattle.std.specs.Prelude.{◌≡◌, ℕ, List, IfOk};
 ghost use Rattle.sha2.specs.Sha256.{sha256};
 ghost use Rattle.case_rules.specs.declared.case.Content.{Content};
 ghost use Rattle.case_rules.specs.Desk.{Judgement};
 ghost use Rattle.desk_serving.specs.Obeying.{judgement_of};
 ghost use Rattle.verdict.specs.Report.{report_text};
-ghost use Rattle.desk_service.specs.Judging.{parts_of, word_of, FindsBy};
+ghost use Rattle.desk_service.specs.Judging.{IsJudged, JudgesApps, parts_of, word_of, FindsBy};
 
 use case_rules::{Content, OutcomeWord};
 use desk_serving::{Judge, Judged};
 use sha2::{Digest, Sha256};
 use std::alloc::Global;
-use verdict::{Outcome, Parts, judge, report};
+use std::marker::Sync;
+use std::sync::Wait;
+use std::thread::Threads;
+use verdict::{Judged as JudgedApp, Outcome, Parts, judge, report};
 use vet_base::{Memory, Seq, Shared};
+use worker_pool::{Crew, Gate};
 
-/// One who judges apps by the lists of the office.
+/// The lists of the office.
 #[derive(Drop)]
-pub struct ListsJudge {
+pub struct OfficeLists {
     /// The bytes of `lists.toml`.
     pub(crate) lists: Shared<u8>,
     /// The SHA-256 of these bytes.
     pub(crate) edition: [u8; 32],
-    /// Any number that a stranger cannot guess. It says where rows are stored while an app is judged; no answer depends
-    /// on it.
-    pub(crate) seed: u64,
+}
+
+/// One who judges apps by the lists of the office.
+#[derive(Drop)]
+pub struct ListsJudge<F> {
+    pub(crate) lists: OfficeLists,
+    /// What the parts of an app come to.
+    pub(crate) by: F,
 }
 
 /// The edition of lists: the SHA-256 of their bytes (FIPS 180-4).
@@ -35,19 +44,15 @@ fn edition_of(lists: &[u8]) -> [u8; 32]
     hasher.finalize()
 }
 
-impl ListsJudge {
-    /// One who judges by the lists of these bytes.
-    pub fn new(alloc: Global, lists: Vec<u8>, seed: u64) -> Result<ListsJudge, Memory>
+impl OfficeLists {
+    /// The lists of these bytes.
+    pub fn new(alloc: Global, lists: Vec<u8>) -> Result<OfficeLists, Memory>
         ensures lists { IfOk result (λ j. j.lists ≡ lists.items) }
         ensures edition { IfOk result (λ j. j.edition ≡ sha256 lists.items) }
     {
         let edition = edition_of(&lists);
         let lists = Shared::from_vec(alloc, lists)?;
-        Ok(ListsJudge {
-            lists,
-            edition,
-            seed,
-        })
+        Ok(OfficeLists { lists, edition })
     }
 }
 
@@ -104,20 +109,44 @@ fn told_of(alloc: Global, outcome: &Outcome) -> Result<Judged, Memory>
     })
 }
 
-impl Judge for ListsJudge {
-    ghost finds = { λ j. FindsBy j.lists };
+/// What the parts of an app come to.
+pub(crate) fn judged<T: Threads + Wait + Sync, G: Gate>(
+    alloc: Global,
+    parts: &Parts,
+    crew: &Crew<'_, T, G>,
+) -> Result<JudgedApp, Memory>
+    ensures { IfOk result (IsJudged parts.now) }
+{
+    judge(alloc, parts, crew)
+}
 
-    ghost edition = { λ j. j.edition };
+fn judged_by<F: Fn(&Parts) -> Result<JudgedApp, Memory>>(
+    by: &F,
+    parts: &Parts,
+) -> Result<JudgedApp, Memory>
+    requires { JudgesApps F.Fn by.now }
+    ensures { IfOk result (IsJudged parts.now) }
+{
+    by(parts)
+}
+
+impl<F: Fn(&Parts) -> Result<JudgedApp, Memory>> Judge for ListsJudge<F> {
+    ghost ready = { λ j. JudgesApps F.Fn j.by };
+
+    ghost finds = { λ j. FindsBy j.lists.lists };
+
+    ghost edition = { λ j. j.lists.edition };
 
     fn edition(&self) -> &[u8; 32] {
-        &self.edition
+        &self.lists.edition
     }
 
     fn judge(&self, alloc: Global, content: &Content) -> Result<Judged, Memory>
-        ensures { IfOk result (λ judged. FindsBy self.now.lists content.now (judgement_of judged)) }
+        requires { JudgesApps F.Fn self.now.by }
+        ensures { IfOk result (λ judged. FindsBy self.now.lists.lists content.now (judgement_of judged)) }
     {
-        let parts = parts_of(alloc, &self.lists, content)?;
-        let judged = judge(alloc, &parts, self.seed)?;
+        let parts = parts_of(alloc, &self.lists.lists, content)?;
+        let judged = judged_by(&self.by, &parts)?;
         let told = told_of(alloc, &judged.outcome)?;
         Ok(told)
     }

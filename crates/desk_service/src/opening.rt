@@ -2,7 +2,7 @@
 ghost use Rattle.std.specs.Prelude.{◌≡◌, string_bytes, IfOk};
 ghost use Rattle.desk_service.specs.Opening.{paper_name, paper_path, ReadsPaper, Leaves, HaltsForm, OpensOffice, OpensLists, OpensDesk};
 
-use crate::lists_judge::ListsJudge;
+use crate::lists_judge::OfficeLists;
 use desk_office::Office;
 use desk_serving::Desk;
 use office_forms::{FormFault, one_form_or_fault, read_lists, read_office};
@@ -138,14 +138,13 @@ pub(crate) fn desk_in<F: Files>(
     alloc: Global,
     files: &mut F,
     folder: &str,
-    seed: u64,
-) -> Result<Desk<ListsJudge>, Halt>
+) -> Result<Desk<OfficeLists>, Halt>
     ensures opens { OpensDesk (F.told files.old) folder.now result }
     ensures leaves { Leaves (F.told files.old) (F.told files.new) (F.fault_count files.old) (F.fault_count files.new) folder.now result }
 {
     one_form_or_fault();
     let office = office_in(alloc, files, folder)?;
     let lists = lists_in(alloc, files, folder)?;
-    let judge = ListsJudge::new(alloc, lists, seed)?;
+    let judge = OfficeLists::new(alloc, lists)?;
     Ok(Desk { office, judge })
 }

@@ -11,7 +11,11 @@ use crate::words::{Asked, asked_in};
 use case_keeper::Keeper;
 use desk_links::{Clock, Door};
 use std::alloc::Global;
+use std::marker::Sync;
+use std::sync::Wait;
+use std::thread::Threads;
 use vet_base::{Files, Memory, PutFault, Sink};
+use worker_pool::{Crew, Gate};
 
 fn printed<O: Sink>(alloc: Global, out: &mut O, status: Status, text: &[u8]) -> Status
     ensures { PutsText (O.taken out.old) (O.taken out.new) (O.fault_count out.old) (O.fault_count out.new) status text.now result }
@@ -24,12 +28,20 @@ fn printed<O: Sink>(alloc: Global, out: &mut O, status: Status, text: &[u8]) -> 
 }
 
 /// Serves as the words ask, and prints what it came to.
-fn run<F: Files, O: Sink, K: Keeper, D: Door, C: Clock>(
+fn run<F, O, K, D, C, T, G>(
     alloc: Global,
     asked: &Asked,
     outside: &mut Outside<F, O, K, D, C>,
-    seed: u64,
+    crew: &Crew<'_, T, G>,
 ) -> Status
+where
+    F: Files,
+    O: Sink,
+    K: Keeper,
+    D: Door,
+    C: Clock,
+    T: Threads + Wait + Sync,
+    G: Gate,
     requires { TellsDocket (K.told outside.old.keeper) }
     ensures ends { Ends (asked_words asked.now) (C.told outside.old.clock)
         (seen (F.told outside.old.files) (F.fault_count outside.old.files) (O.taken outside.old.out) (O.fault_count outside.old.out)
@@ -38,7 +50,7 @@ fn run<F: Files, O: Sink, K: Keeper, D: Door, C: Clock>(
         (K.told outside.new.keeper) (K.fault_count outside.new.keeper) (D.Link.told outside.new.door) (D.Link.fault_count outside.new.door)) result.0 }
     ensures docket { TellsDocket (K.told outside.new.keeper) }
 {
-    match said(alloc, asked, outside, seed) {
+    match said(alloc, asked, outside, crew) {
         Ok((status, text)) => printed(alloc, &mut outside.out, status, &text),
         Err(Memory) => Status(7),
     }
@@ -66,14 +78,22 @@ fn run<F: Files, O: Sink, K: Keeper, D: Door, C: Clock>(
 /// machine brings a value of a listed source to a listed sink unless the app's declaration names that pair, or comes to what
 /// is not modelled.
 ///
-/// The seed, any number that a stranger cannot guess, says where rows are stored while an app is judged. No answer depends
-/// on it.
-pub fn serve<F: Files, O: Sink, K: Keeper, D: Door, C: Clock>(
+/// The crew finds what follows in an app, with as many workers as the office says. No answer depends on it, or on how its
+/// workers take turns.
+pub fn serve<F, O, K, D, C, T, G>(
     alloc: Global,
     words: &[String],
     outside: &mut Outside<F, O, K, D, C>,
-    seed: u64,
+    crew: &Crew<'_, T, G>,
 ) -> Option<Status>
+where
+    F: Files,
+    O: Sink,
+    K: Keeper,
+    D: Door,
+    C: Clock,
+    T: Threads + Wait + Sync,
+    G: Gate,
     // The keeper's cases, where it tells them, are those of a desk.
     requires { TellsDocket (K.told outside.old.keeper) }
 
@@ -87,5 +107,5 @@ pub fn serve<F: Files, O: Sink, K: Keeper, D: Door, C: Clock>(
     ensures docket { TellsDocket (K.told outside.new.keeper) }
 {
     let asked = asked_in(words)?;
-    Some(run(alloc, &asked, outside, seed))
+    Some(run(alloc, &asked, outside, crew))
 }

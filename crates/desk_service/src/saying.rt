@@ -1,16 +1,17 @@
 //! What a run comes to before it prints.
-ghost use Rattle.std.specs.Prelude.{◌≡◌, Err};
+ghost use Rattle.std.specs.Prelude.{◌≡◌, Err, IfOk};
 ghost use Rattle.sha2.specs.Sha256.{sha256};
 ghost use Rattle.vet_base.specs.Outside.{HasRisen};
 ghost use Rattle.desk_serving.specs.Obeying.{TellsDocket};
 ghost use Rattle.desk_serving.specs.Serving.{outside as desk_outside};
+ghost use Rattle.desk_service.specs.Judging.{IsJudged};
 ghost use Rattle.desk_service.specs.Opening.{opened_of};
 ghost use Rattle.desk_service.specs.Saying.{HaltSays, TakenSays, SaysAs, Says};
 ghost use Rattle.desk_service.specs.Serving.{seen, ServesDesk};
 ghost use Rattle.desk_service.specs.Words.{asked_words};
 
 use crate::laws::a_clear_decision_is_of_a_safe_app;
-use crate::lists_judge::ListsJudge;
+use crate::lists_judge::{ListsJudge, OfficeLists, judged};
 use crate::opening::{Halt, desk_in, path_of};
 use crate::outside::{Outside, Status};
 use crate::texts::{door_fault, read_fault, refused, served};
@@ -19,7 +20,12 @@ use case_keeper::Keeper;
 use desk_links::{Clock, Door, DoorFault};
 use desk_serving::{Desk, serve_door};
 use std::alloc::Global;
+use std::marker::Sync;
+use std::sync::Wait;
+use std::thread::Threads;
+use verdict::{Judged as JudgedApp, Parts};
 use vet_base::{Files, Memory, Sink};
+use worker_pool::{Crew, Gate};
 
 /// The status and the text where no desk could be opened.
 fn halted(alloc: Global, office: &str, halt: &Halt) -> Result<(Status, Vec<u8>), Memory>
@@ -47,15 +53,24 @@ fn closed(alloc: Global, taken: Result<u32, DoorFault>) -> Result<(Status, Vec<u
 }
 
 /// Takes connections at a desk.
-fn taken<F: Files, O: Sink, K: Keeper, D: Door, C: Clock>(
+fn taken<F, O, K, D, C, T, G>(
     alloc: Global,
-    desk: &Desk<ListsJudge>,
+    desk: Desk<OfficeLists>,
+    crew: &Crew<'_, T, G>,
     outside: &mut Outside<F, O, K, D, C>,
     most: u32,
 ) -> Result<u32, DoorFault>
+where
+    F: Files,
+    O: Sink,
+    K: Keeper,
+    D: Door,
+    C: Clock,
+    T: Threads + Wait + Sync,
+    G: Gate,
     requires docket { TellsDocket (K.told outside.old.keeper) }
-    requires edition { desk.now.judge.edition ≡ sha256 desk.now.judge.lists }
-    ensures serves { ServesDesk (opened_of desk.now) (C.told outside.old.clock) most
+    requires edition { desk.judge.edition ≡ sha256 desk.judge.lists }
+    ensures serves { ServesDesk (opened_of desk) (C.told outside.old.clock) most
         (desk_outside (K.told outside.old.keeper) (K.fault_count outside.old.keeper) (D.Link.told outside.old.door) (D.Link.fault_count outside.old.door))
         (desk_outside (K.told outside.new.keeper) (K.fault_count outside.new.keeper) (D.Link.told outside.new.door) (D.Link.fault_count outside.new.door)) result }
     ensures docket { TellsDocket (K.told outside.new.keeper) }
@@ -64,9 +79,20 @@ fn taken<F: Files, O: Sink, K: Keeper, D: Door, C: Clock>(
     ensures out { outside.new.out ≡ outside.old.out }
 {
     a_clear_decision_is_of_a_safe_app();
+    let crew = crew.of(desk.office.workers);
+    let by = |parts: &Parts| -> Result<JudgedApp, Memory>
+        ensures { IfOk result (IsJudged parts.now) }
+    { judged(alloc, parts, &crew) };
+    let desk = Desk {
+        office: desk.office,
+        judge: ListsJudge {
+            lists: desk.judge,
+            by,
+        },
+    };
     serve_door(
         alloc,
-        desk,
+        &desk,
         &mut outside.keeper,
         &mut outside.door,
         &mut outside.clock,
@@ -75,12 +101,20 @@ fn taken<F: Files, O: Sink, K: Keeper, D: Door, C: Clock>(
 }
 
 /// What a run comes to before it prints: its status and its text.
-pub(crate) fn said<F: Files, O: Sink, K: Keeper, D: Door, C: Clock>(
+pub(crate) fn said<F, O, K, D, C, T, G>(
     alloc: Global,
     asked: &Asked,
     outside: &mut Outside<F, O, K, D, C>,
-    seed: u64,
+    crew: &Crew<'_, T, G>,
 ) -> Result<(Status, Vec<u8>), Memory>
+where
+    F: Files,
+    O: Sink,
+    K: Keeper,
+    D: Door,
+    C: Clock,
+    T: Threads + Wait + Sync,
+    G: Gate,
     requires { TellsDocket (K.told outside.old.keeper) }
     ensures says { Says (asked_words asked.now) (C.told outside.old.clock)
         (seen (F.told outside.old.files) (F.fault_count outside.old.files) (O.taken outside.old.out) (O.fault_count outside.old.out)
@@ -90,8 +124,8 @@ pub(crate) fn said<F: Files, O: Sink, K: Keeper, D: Door, C: Clock>(
     ensures docket { TellsDocket (K.told outside.new.keeper) }
     ensures out { outside.new.out ≡ outside.old.out }
 {
-    match desk_in(alloc, &mut outside.files, asked.office, seed) {
-        Ok(desk) => closed(alloc, taken(alloc, &desk, outside, asked.most)),
+    match desk_in(alloc, &mut outside.files, asked.office) {
+        Ok(desk) => closed(alloc, taken(alloc, desk, crew, outside, asked.most)),
         Err(halt) => halted(alloc, asked.office, &halt),
     }
 }

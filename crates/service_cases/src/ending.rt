@@ -5,7 +5,11 @@ use case_keeper::MemKeeper;
 use desk_links::{FixedClock, MemDoor};
 use desk_service::{Outside, Status, serve};
 use std::alloc::{AllocError, Global};
+use std::marker::Sync;
+use std::sync::Wait;
+use std::thread::Threads;
 use vet_base::{MemFiles, MemSink, Memory, Name};
+use worker_pool::{Crew, NoGate};
 
 /// Want of memory as the system tells it.
 fn want(_memory: Memory) -> AllocError {
@@ -62,7 +66,17 @@ fn told(alloc: Global, status: Option<Status>, printed: &[u8]) -> Result<Vec<u8>
 }
 
 /// How a run ends.
-pub fn end_of(alloc: Global, run: &Run) -> Result<Vec<u8>, AllocError> {
+pub fn end_of<R: Threads + Wait + Sync + AllocGlobal>(
+    rt: &R,
+    run: &Run,
+) -> Result<Vec<u8>, AllocError> {
+    let alloc = rt.alloc();
+    let crew = Crew {
+        rt,
+        gate: &NoGate,
+        workers: 1,
+        seed: 1,
+    };
     let mut outside = Outside {
         files: folder(alloc, run)?,
         out: MemSink::new(alloc, run.sink.to_vec(alloc)?),
@@ -70,6 +84,6 @@ pub fn end_of(alloc: Global, run: &Run) -> Result<Vec<u8>, AllocError> {
         door: door(alloc, run)?,
         clock: FixedClock::new(100),
     };
-    let status = serve(alloc, &run.words, &mut outside, 1);
+    let status = serve(alloc, &run.words, &mut outside, &crew);
     told(alloc, status, outside.out.taken())
 }

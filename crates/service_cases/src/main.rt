@@ -7,13 +7,20 @@ mod run;
 use crate::ending::end_of;
 use crate::run::{Run, new_run, set};
 use serving_lines::{bytes_of, shown};
+use std::marker::Sync;
 use std::rt::Files;
+use std::sync::Wait;
+use std::thread::Threads;
 use std::{fs, io};
 
 /// Whether a run ends as is due; another end is printed, with the title.
-fn is_due<R: Print + AllocGlobal>(rt: &R, run: &Run, due: &str) -> io::Result<bool> {
+fn is_due<R: Print + AllocGlobal + Threads + Wait + Sync>(
+    rt: &R,
+    run: &Run,
+    due: &str,
+) -> io::Result<bool> {
     let alloc = rt.alloc();
-    let found = end_of(alloc, run)?;
+    let found = end_of(rt, run)?;
     let is_due = found.as_slice() == bytes_of(alloc, due)?.as_slice();
     if !is_due {
         let title = run.title.as_str();
@@ -25,7 +32,10 @@ fn is_due<R: Print + AllocGlobal>(rt: &R, run: &Run, due: &str) -> io::Result<bo
 
 /// How many runs of a file end as is due. Lines say what the next run is, as `set` tells; behind `< ` stands the end
 /// that is due: the status and what is printed, or `no serve`.
-fn due_in_file<R: Files + Print + AllocGlobal>(rt: &R, name: &str) -> io::Result<u64> {
+fn due_in_file<R: Files + Print + AllocGlobal + Threads + Wait + Sync>(
+    rt: &R,
+    name: &str,
+) -> io::Result<u64> {
     let text = fs::read_to_string(rt, name)?;
     let mut run = new_run(rt.alloc());
     let mut due = 0u64;

@@ -1,14 +1,17 @@
-//! Tables of a small app, whole and spoilt, and what the checker says of each.
+//! Tables of a small app, whole and spoilt, and what the checker says of each. With the word `times` it prints instead how
+//! long one solver and several workers take for the app whose files lie here.
 #![tactic(auto)]
 
 mod app;
 mod saying;
 mod spoiling;
+mod timing;
 
 use crate::app::{app_of, lists_of};
 use crate::spoiling::tables;
+use crate::timing::times;
 use std::rt::Files;
-use std::{fs, io};
+use std::{env, fs, io};
 
 /// The bytes of the files that lie here.
 #[derive(Drop)]
@@ -37,5 +40,9 @@ fn main(rt: HostRuntime) -> io::Result<()> {
     let Some(lists) = lists_of(alloc, &held.lists) else {
         return println!(rt; "no lists");
     };
-    tables(&rt, &app, &lists)
+    let mut words = env::args(&rt)?.skip(1);
+    match words.next() {
+        Some(word) if word.as_str() == "times" => times(&rt, &app, &lists),
+        _ => tables(&rt, &app, &lists),
+    }
 }

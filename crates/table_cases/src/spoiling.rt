@@ -15,7 +15,7 @@ use std::io;
 use taint_solver::{Solved, solve};
 use vet_base::Memory;
 
-fn want(_memory: Memory) -> AllocError {
+pub fn want(_memory: Memory) -> AllocError {
     AllocError
 }
 

@@ -24,7 +24,11 @@ use fact_rows::Row;
 use flow_proof::every_good_table_covers_every_run;
 use outcomes::{causes_of, causes_too_large, findings_of, nothing_is_left_out};
 use std::alloc::Global;
+use std::marker::Sync;
+use std::sync::Wait;
+use std::thread::Threads;
 use vet_base::{Memory, Seq, Stop};
+use worker_pool::{Crew, Gate};
 
 fn outcome_with(causes: Vec<Cause>, findings: Vec<Finding>) -> Outcome
     ensures { result ≡ outcome_of causes.items findings.items }
@@ -80,7 +84,12 @@ fn judged_by(alloc: Global, app: &App, papers: &Papers, flow: Flow) -> Result<Ju
 }
 
 /// What an app comes to.
-fn judged_app(alloc: Global, app: &App, papers: &Papers, seed: u64) -> Result<Judged, Memory>
+fn judged_app<T: Threads + Wait + Sync, G: Gate>(
+    alloc: Global,
+    app: &App,
+    papers: &Papers,
+    crew: &Crew<'_, T, G>,
+) -> Result<Judged, Memory>
     requires sound { SoundApp app.now }
     requires lists { SoundLists papers.now.lists }
     ensures value { IfOk result (λ j. ComesTo app.now papers.now.lists papers.now.declaration j) }
@@ -89,13 +98,17 @@ fn judged_app(alloc: Global, app: &App, papers: &Papers, seed: u64) -> Result<Ju
 {
     nothing_is_left_out();
     every_good_table_covers_every_run();
-    let flow = flow_of(alloc, app, &papers.lists, seed)?;
+    let flow = flow_of(alloc, app, &papers.lists, crew)?;
     let judged = judged_by(alloc, app, papers, flow)?;
     Ok(judged)
 }
 
 #[tactic(auto, using(crate::proofs::Outcomes::judgement_on, crate::proofs::Outcomes::tells_of_parts))]
-fn judged_parts(alloc: Global, parts: &Parts, seed: u64) -> Result<Judged, Halt>
+fn judged_parts<T: Threads + Wait + Sync, G: Gate>(
+    alloc: Global,
+    parts: &Parts,
+    crew: &Crew<'_, T, G>,
+) -> Result<Judged, Halt>
     ensures value { IfOk result (λ j. Judgement parts.now j) }
     ensures one { IfOk result (λ j. OnlyJudgement parts.now j) }
     ensures told { IfOk result (λ j. IsFollowed j.outcome → TellsOfApp parts.now j.outcome) }
@@ -104,7 +117,10 @@ fn judged_parts(alloc: Global, parts: &Parts, seed: u64) -> Result<Judged, Halt>
 {
     lower_laws();
     let linked = linked_parts(alloc, parts)?;
-    Ok(judged_app(alloc, &linked.app, &linked.papers, seed)?)
+    match judged_app(alloc, &linked.app, &linked.papers, crew) {
+        Ok(judged) => Ok(judged),
+        Err(Memory) => Err(Stop::Memory),
+    }
 }
 
 /// What the parts of an app come to.
@@ -120,9 +136,13 @@ fn judged_parts(alloc: Global, parts: &Parts, seed: u64) -> Result<Judged, Halt>
 /// by the names of source and sink and then by place. A place goes by class, name and descriptor of the method, and
 /// address. Of an app that is too large only that, its providers and its layouts' classes are told, and there is no table; nor
 /// is there one where the parts are refused. Else the table is there, with all rows that follow and no others. Nothing of this
-/// depends on the seed, which says where rows are stored meanwhile.
+/// depends on the crew that finds what follows.
 #[tactic(auto, using(crate::proofs::Outcomes::refused_with, crate::proofs::Outcomes::no_followed_refusal, crate::proofs::Outcomes::clear_is_safe))]
-pub fn judge(alloc: Global, parts: &Parts, seed: u64) -> Result<Judged, Memory>
+pub fn judge<T: Threads + Wait + Sync, G: Gate>(
+    alloc: Global,
+    parts: &Parts,
+    crew: &Crew<'_, T, G>,
+) -> Result<Judged, Memory>
     ensures value { IfOk result (λ j. Judgement parts.now j) }
 
     // The parts come to nothing else.
@@ -135,7 +155,7 @@ pub fn judge(alloc: Global, parts: &Parts, seed: u64) -> Result<Judged, Memory>
     // The table, where there is one, ascends and has few rows, which name only what there is.
     ensures table { IfOk result (λ j. IfSome j.table IsTable) }
 {
-    match judged_parts(alloc, parts, seed) {
+    match judged_parts(alloc, parts, crew) {
         Ok(judged) => Ok(judged),
         Err(Stop::Memory) => Err(Memory),
         Err(Stop::Fault(refusal)) => Ok(Judged {

@@ -4,11 +4,15 @@
 
 use std::alloc::Global;
 use std::env::Env;
+use std::marker::Sync;
 use std::process::ExitCode;
 use std::random::RandomSource;
 use std::rt::Files;
+use std::sync::Wait;
+use std::thread::Threads;
 use std::{env, io};
 use vetting_desk::{HostFiles, StandardSink, Status, vet, words_given};
+use worker_pool::{Crew, NoGate};
 
 /// The words behind the program's name.
 fn words_of(rt: &(impl Env + AllocGlobal), alloc: Global) -> io::Result<Vec<String>> {
@@ -38,20 +42,29 @@ pub fn seed_of(rt: &impl RandomSource) -> u64 {
 }
 
 /// Judges as the words ask, over the system's files and its standard output: the exit status.
-pub fn vetted<R: Files + Print + AllocGlobal + Copy + Drop>(
+pub fn vetted<R: Files + Print + AllocGlobal + Threads + Wait + Sync + Copy + Drop>(
     rt: R,
     words: &[String],
     seed: u64,
 ) -> u8 {
     let mut files = HostFiles::new(rt);
     let mut out = StandardSink::new(rt);
-    let Status(status) = vet(rt.alloc(), words, &mut files, &mut out, seed);
+    let crew = Crew {
+        rt: &rt,
+        gate: &NoGate,
+        workers: 1,
+        seed,
+    };
+    let Status(status) = vet(rt.alloc(), words, &mut files, &mut out, &crew);
     status
 }
 
 /// Runs the words that the system gives over its files, prints the answer to the standard output, and gives the status
 /// of the top call as the exit status.
-pub fn run<R: Files + Env + RandomSource + Print + AllocGlobal + Copy + Drop>(rt: R) -> ExitCode {
+pub fn run<R>(rt: R) -> ExitCode
+where
+    R: Files + Env + RandomSource + Print + AllocGlobal + Threads + Wait + Sync + Copy + Drop,
+{
     match words_from(&rt) {
         Ok(words) => ExitCode::from(vetted(rt, &words, seed_of(&rt))),
         Err(status) => ExitCode::from(status),

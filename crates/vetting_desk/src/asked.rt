@@ -13,14 +13,22 @@ use crate::certificates::{certificate_of, digest_of, same_digest};
 use cert_report::CertRefusal;
 use certificate::{Cert, CertFault, certificates_keep_their_laws, read_cert};
 use std::alloc::Global;
+use std::marker::Sync;
+use std::sync::Wait;
+use std::thread::Threads;
 use verdict::{Judged, Outcome, Parts, Rechecked, TableDefect, judge, judge_table};
 use vet_base::{Memory, Seq, Stop};
+use worker_pool::{Crew, Gate};
 
 /// What parts come to.
-pub fn checked(alloc: Global, parts: &Parts, seed: u64) -> Result<Answer, Memory>
+pub fn checked<T: Threads + Wait + Sync, G: Gate>(
+    alloc: Global,
+    parts: &Parts,
+    crew: &Crew<'_, T, G>,
+) -> Result<Answer, Memory>
     ensures { IfOk result (λ a. FindsOfParts (Unit {0}) Checks parts.now (due_of a)) }
 {
-    let judged = judge(alloc, parts, seed)?;
+    let judged = judge(alloc, parts, crew)?;
     Ok(Answer::Vetted(judged.outcome))
 }
 
@@ -47,11 +55,16 @@ fn with_certificate(
 }
 
 /// What parts come to, with the certificate of their table for the file at this path.
-pub fn certified(alloc: Global, parts: &Parts, path: &str, seed: u64) -> Result<Answer, Memory>
+pub fn certified<T: Threads + Wait + Sync, G: Gate>(
+    alloc: Global,
+    parts: &Parts,
+    path: &str,
+    crew: &Crew<'_, T, G>,
+) -> Result<Answer, Memory>
     requires { AreShort parts.now }
     ensures { IfOk result (λ a. FindsOfParts (Unit {0}) (Certifies path.now) parts.now (due_of a)) }
 {
-    let judged = judge(alloc, parts, seed)?;
+    let judged = judge(alloc, parts, crew)?;
     let answer = with_certificate(alloc, parts, path, judged)?;
     Ok(answer)
 }

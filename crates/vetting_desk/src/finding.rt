@@ -14,8 +14,12 @@ use crate::making::made;
 use crate::words::{Command, command_in};
 use office_forms::one_form_or_fault;
 use std::alloc::Global;
+use std::marker::Sync;
+use std::sync::Wait;
+use std::thread::Threads;
 use verdict::{Outcome, Parts};
 use vet_base::{FileFault, Files, Memory};
+use worker_pool::{Crew, Gate};
 
 /// A certificate has at most so many bytes.
 const CERTIFICATE_LIMIT: u64 = 536_870_912;
@@ -51,37 +55,37 @@ fn halted(halt: Halt) -> Found
 }
 
 /// What `check` finds in a folder.
-fn found_by_check<F: Files>(
+fn found_by_check<F: Files, T: Threads + Wait + Sync, G: Gate>(
     alloc: Global,
     dir: &str,
     workers: u8,
     files: &mut F,
-    seed: u64,
+    crew: &Crew<'_, T, G>,
 ) -> Found
     ensures { IsFound (Some (Check dir.now workers)) (F.told files.old) (F.told files.new)
         (F.fault_count files.old) (F.fault_count files.new) result }
 {
     one_form_or_fault();
     match parts_in(alloc, files, dir) {
-        Ok(parts) => said(checked(alloc, &parts, seed)),
+        Ok(parts) => said(checked(alloc, &parts, &crew.of(workers))),
         Err(halt) => halted(halt),
     }
 }
 
 /// What `certify` finds in a folder.
-fn found_by_certify<F: Files>(
+fn found_by_certify<F: Files, T: Threads + Wait + Sync, G: Gate>(
     alloc: Global,
     dir: &str,
     path: &str,
     files: &mut F,
-    seed: u64,
+    crew: &Crew<'_, T, G>,
 ) -> Found
     ensures { IsFound (Some (Certify dir.now path.now)) (F.told files.old) (F.told files.new)
         (F.fault_count files.old) (F.fault_count files.new) result }
 {
     one_form_or_fault();
     match parts_in(alloc, files, dir) {
-        Ok(parts) => said(certified(alloc, &parts, path, seed)),
+        Ok(parts) => said(certified(alloc, &parts, path, crew)),
         Err(halt) => halted(halt),
     }
 }
@@ -137,27 +141,38 @@ fn found_by_recheck<F: Files>(
 }
 
 /// What `make` finds. It reads no file.
-fn found_by_make(alloc: Global, app_seed: u32, size: u32, workers: u8, seed: u64) -> Found
+fn found_by_make<T: Threads + Wait + Sync, G: Gate>(
+    alloc: Global,
+    app_seed: u32,
+    size: u32,
+    workers: u8,
+    crew: &Crew<'_, T, G>,
+) -> Found
     requires app_seed { app_seed < 2147483648 }
     requires some { 1 ≤ size }
     requires most { size ≤ 2000 }
     ensures { (told : Option Told) (count : ℕ) → IsFound (Some (Make app_seed size workers)) told told count count result }
 {
-    said(made(alloc, app_seed, size, workers, seed))
+    said(made(alloc, app_seed, size, workers, crew))
 }
 
 /// What the words find.
-pub fn found_in<F: Files>(alloc: Global, words: &[String], files: &mut F, seed: u64) -> Found
+pub fn found_in<F: Files, T: Threads + Wait + Sync, G: Gate>(
+    alloc: Global,
+    words: &[String],
+    files: &mut F,
+    crew: &Crew<'_, T, G>,
+) -> Found
     ensures { IsFound (parse (map string_bytes words.now)) (F.told files.old) (F.told files.new)
         (F.fault_count files.old) (F.fault_count files.new) result }
 {
     match command_in(words) {
         None => Found::Said(Answer::Usage),
-        Some(Command::Check(dir, workers)) => found_by_check(alloc, dir, workers, files, seed),
-        Some(Command::Certify(dir, path)) => found_by_certify(alloc, dir, path, files, seed),
-        Some(Command::Recheck(dir, path)) => found_by_recheck(alloc, dir, path, files, seed),
+        Some(Command::Check(dir, workers)) => found_by_check(alloc, dir, workers, files, crew),
+        Some(Command::Certify(dir, path)) => found_by_certify(alloc, dir, path, files, crew),
+        Some(Command::Recheck(dir, path)) => found_by_recheck(alloc, dir, path, files, crew.seed),
         Some(Command::Make(app_seed, size, workers)) => {
-            found_by_make(alloc, app_seed, size, workers, seed)
+            found_by_make(alloc, app_seed, size, workers, crew)
         }
     }
 }

@@ -12,8 +12,12 @@ ghost use Rattle.vetting_desk.specs.Made.{made_parts};
 use crate::answer::Answer;
 use made_apps::{declaration_text, layouts_text, lists_text, made_dex, manifest_text};
 use std::alloc::Global;
+use std::marker::Sync;
+use std::sync::Wait;
+use std::thread::Threads;
 use verdict::{Judged, Outcome, Parts, judge};
 use vet_base::{Memory, Seq};
+use worker_pool::{Crew, Gate};
 
 fn listed(alloc: Global, text: &[u8]) -> Result<Seq<u8>, Memory>
     ensures { IfOk result (λ s. s ≡ text.now) }
@@ -61,12 +65,12 @@ fn made_as(size: u32, judged: Judged) -> Answer
 }
 
 /// What the app comes to that is drawn from a seed, with so many drawn methods.
-pub fn made(
+pub fn made<T: Threads + Wait + Sync, G: Gate>(
     alloc: Global,
     app_seed: u32,
     size: u32,
     workers: u8,
-    seed: u64,
+    crew: &Crew<'_, T, G>,
 ) -> Result<Answer, Memory>
     requires app_seed { app_seed < 2147483648 }
     requires some { 1 ≤ size }
@@ -74,6 +78,6 @@ pub fn made(
     ensures { IfOk result (λ a. (told : Option Told) → FindsDue (Some (Make app_seed size workers)) told (due_of a)) }
 {
     let parts = made_parts(alloc, app_seed, size)?;
-    let judged = judge(alloc, &parts, seed)?;
+    let judged = judge(alloc, &parts, &crew.of(workers))?;
     Ok(made_as(size, judged))
 }

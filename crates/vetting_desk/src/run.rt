@@ -11,7 +11,11 @@ ghost use Rattle.vetting_desk.specs.Top.{PutsText, WritesDue, status_of_write, F
 use crate::answer::{Answer, Status, read_fault, status_saying, text_saying};
 use crate::finding::{Found, found_in};
 use std::alloc::Global;
+use std::marker::Sync;
+use std::sync::Wait;
+use std::thread::Threads;
 use vet_base::{FileFault, Files, Memory, PutFault, Sink};
+use worker_pool::{Crew, Gate};
 
 /// The status and the text that say what was found.
 fn saying(alloc: Global, found: &Found) -> Result<(Status, Vec<u8>), Memory>
@@ -103,19 +107,19 @@ fn finished<F: Files, O: Sink>(alloc: Global, files: &mut F, out: &mut O, found:
 }
 
 /// Finds what the words and the files come to, writes the file that is due, if any, and prints the answer.
-fn run<F: Files, O: Sink>(
+fn run<F: Files, O: Sink, T: Threads + Wait + Sync, G: Gate>(
     alloc: Global,
     words: &[String],
     files: &mut F,
     out: &mut O,
-    seed: u64,
+    crew: &Crew<'_, T, G>,
 ) -> Status
     ensures { Ends (TheDue (parse (map string_bytes words.now)) (record { files = F.told files.old; printed = O.taken out.old }))
         (parse (map string_bytes words.now))
         (outside (F.told files.old) (F.fault_count files.old) (O.taken out.old) (O.fault_count out.old))
         (outside (F.told files.new) (F.fault_count files.new) (O.taken out.new) (O.fault_count out.new)) result.0 }
 {
-    let found = found_in(alloc, words, files, seed);
+    let found = found_in(alloc, words, files, crew);
     finished(alloc, files, out, &found)
 }
 
@@ -145,14 +149,14 @@ fn run<F: Files, O: Sink>(
 /// - 9: the certificate is refused: its bytes are none, or it is about other files, or its table is no table of the app
 ///   that holds all that follows. A line that says which is printed.
 ///
-/// The seed, any number that a stranger cannot guess, says where rows are stored while an app is judged. No answer depends
-/// on it.
-pub fn vet<F: Files, O: Sink>(
+/// The crew finds what follows in an app: `check` and `make` with WORKERS workers, from 1 to 16, `certify` with as many as it
+/// has. No answer depends on it, or on how its workers take turns.
+pub fn vet<F: Files, O: Sink, T: Threads + Wait + Sync, G: Gate>(
     alloc: Global,
     words: &[String],
     files: &mut F,
     out: &mut O,
-    seed: u64,
+    crew: &Crew<'_, T, G>,
 ) -> Status
     // The status, the printed text and the files are those that are due to the words, unless a read or the put failed in
     // this very call, or memory ran out.
@@ -175,5 +179,5 @@ pub fn vet<F: Files, O: Sink>(
         (outside (F.told files.old) (F.fault_count files.old) (O.taken out.old) (O.fault_count out.old))
         (outside (F.told files.new) (F.fault_count files.new) (O.taken out.new) (O.fault_count out.new)) result.0 }
 {
-    run(alloc, words, files, out, seed)
+    run(alloc, words, files, out, crew)
 }

@@ -2,11 +2,11 @@ ghost use Rattle.std.specs.Prelude.{None};
 
 use std::alloc::Global;
 use std::io::ErrorKind;
-use std::process::Abort;
 use std::test::Fail;
 use std::{fs, io};
 use vet_base::{FileFault, Files, MemFiles, MemSink, Name, PutFault, Sink};
 use vetting_desk::{HostFiles, StandardSink, Status, vet, words_given};
+use worker_pool::{Crew, NoGate};
 
 /// The files of an app with one DEX file, in the order in which they are read.
 const FILES: [&str; 5] = [
@@ -43,19 +43,30 @@ fn folder(
     Ok(MemFiles::new(held, failing))
 }
 
+/// One worker.
+fn crew(rt: &HostRuntime) -> Crew<'_, HostRuntime, NoGate> {
+    Crew {
+        rt,
+        gate: &NoGate,
+        workers: 1,
+        seed: 1,
+    }
+}
+
 /// The status and the text for these words over these files, where the sink fails at these calls.
 fn answer(
-    alloc: Global,
+    rt: &HostRuntime,
     words: &[&str],
     mut files: MemFiles,
     failing: Vec<u64>,
 ) -> Result<(u8, Vec<u8>), Fail> {
+    let alloc = rt.alloc();
     let mut line = Vec::new(alloc);
     for word in words {
         line.push(String::from_str(alloc, word)?)?;
     }
     let mut out = MemSink::new(alloc, failing);
-    let Status(status) = vet(alloc, &line, &mut files, &mut out, 1);
+    let Status(status) = vet(alloc, &line, &mut files, &mut out, &crew(rt));
     Ok((status, out.taken().to_vec(alloc)?))
 }
 
@@ -107,7 +118,7 @@ fn words_that_are_no_command(rt: HostRuntime) -> Result<(), Fail> {
     let alloc = rt.alloc();
     for (i, words) in NO_COMMANDS.iter().enumerate() {
         let files = folder(alloc, "", None, Vec::new(alloc))?;
-        let (status, text) = answer(alloc, words, files, Vec::new(alloc))?;
+        let (status, text) = answer(&rt, words, files, Vec::new(alloc))?;
         assert_eq!(rt; status, 4, "at {i}");
         assert_eq!(rt; text.as_slice(), USAGE.as_bytes(), "at {i}");
     }
@@ -115,22 +126,17 @@ fn words_that_are_no_command(rt: HostRuntime) -> Result<(), Fail> {
         let name = name_of_length(alloc, count)?;
         let files = folder(alloc, "", None, Vec::new(alloc))?;
         let words = ["check", name.as_str(), "16"];
-        let (status, _) = answer(alloc, words.as_slice(), files, Vec::new(alloc))?;
+        let (status, _) = answer(&rt, words.as_slice(), files, Vec::new(alloc))?;
         assert_eq!(rt; status, want, "at {count}");
     }
     Ok(())
 }
 
 /// That this folder is answered by this status and this line.
-fn expect(
-    rt: &impl Abort,
-    alloc: Global,
-    files: MemFiles,
-    want: u8,
-    line: &str,
-) -> Result<(), Fail> {
+fn expect(rt: &HostRuntime, files: MemFiles, want: u8, line: &str) -> Result<(), Fail> {
+    let alloc = rt.alloc();
     let words = ["check", "D", "1"];
-    let (status, text) = answer(alloc, words.as_slice(), files, Vec::new(alloc))?;
+    let (status, text) = answer(rt, words.as_slice(), files, Vec::new(alloc))?;
     assert_eq!(rt; text.as_slice(), line.as_bytes(), "{line}");
     assert_eq!(rt; status, want, "{line}");
     Ok(())
@@ -142,13 +148,13 @@ fn files_that_are_absent_too_long_or_fail(rt: HostRuntime) -> Result<(), Fail> {
     for (i, name) in FILES.iter().enumerate() {
         let line = format!(in alloc; "refused {name}: absent\n")?;
         let gone = folder(alloc, name, None, Vec::new(alloc))?;
-        expect(&rt, alloc, gone, 3, line.as_str())?;
+        expect(&rt, gone, 3, line.as_str())?;
         let line = format!(in alloc; "refused {name}: longer than 16777216\n")?;
         let long = folder(alloc, name, Some(16_777_217), Vec::new(alloc))?;
-        expect(&rt, alloc, long, 3, line.as_str())?;
+        expect(&rt, long, 3, line.as_str())?;
         let line = format!(in alloc; "read fault D/{name}\n")?;
         let failing = folder(alloc, "", None, vec![in alloc; i as u64 + 1]?)?;
-        expect(&rt, alloc, failing, 5, line.as_str())?;
+        expect(&rt, failing, 5, line.as_str())?;
     }
     Ok(())
 }
@@ -158,7 +164,7 @@ fn a_sink_that_fails(rt: HostRuntime) -> Result<(), Fail> {
     let alloc = rt.alloc();
     let files = folder(alloc, "", None, Vec::new(alloc))?;
     let words = ["check", "D", "1"];
-    let (status, text) = answer(alloc, words.as_slice(), files, vec![in alloc; 1]?)?;
+    let (status, text) = answer(&rt, words.as_slice(), files, vec![in alloc; 1]?)?;
     assert_eq!(rt; text.as_slice(), [].as_slice());
     assert_eq!(rt; status, 6);
     Ok(())
@@ -169,7 +175,7 @@ fn a_sink_that_fails_after_a_read_that_failed(rt: HostRuntime) -> Result<(), Fai
     let alloc = rt.alloc();
     let files = folder(alloc, "", None, vec![in alloc; 2]?)?;
     let words = ["check", "D", "1"];
-    let (status, text) = answer(alloc, words.as_slice(), files, vec![in alloc; 1]?)?;
+    let (status, text) = answer(&rt, words.as_slice(), files, vec![in alloc; 1]?)?;
     assert_eq!(rt; text.as_slice(), [].as_slice());
     assert_eq!(rt; status, 6);
     Ok(())
@@ -178,11 +184,12 @@ fn a_sink_that_fails_after_a_read_that_failed(rt: HostRuntime) -> Result<(), Fai
 /// The status and the text for a command on the folder `D` of empty files and a certificate `k/C` of these bytes, where there
 /// is one, with how many files there are then.
 fn with_certificate(
-    alloc: Global,
+    rt: &HostRuntime,
     command: &str,
     certificate: Option<&[u8]>,
     failing: Vec<u64>,
 ) -> Result<(u8, Vec<u8>, usize), Fail> {
+    let alloc = rt.alloc();
     let mut held = Vec::new(alloc);
     for file in FILES {
         let path = format!(in alloc; "D/{file}")?;
@@ -204,14 +211,14 @@ fn with_certificate(
         line.push(String::from_str(alloc, word)?)?;
     }
     let mut out = MemSink::new(alloc, Vec::new(alloc));
-    let Status(status) = vet(alloc, &line, &mut files, &mut out, 1);
+    let Status(status) = vet(alloc, &line, &mut files, &mut out, &crew(rt));
     Ok((status, out.taken().to_vec(alloc)?, files.files().len()))
 }
 
 #[test]
 fn a_refused_app_gets_no_certificate(rt: HostRuntime) -> Result<(), Fail> {
     let alloc = rt.alloc();
-    let (status, text, files) = with_certificate(alloc, "certify", None, Vec::new(alloc))?;
+    let (status, text, files) = with_certificate(&rt, "certify", None, Vec::new(alloc))?;
     assert_eq!(rt;
         text.as_slice(),
         b"refused lists.toml: missing rows\n".as_slice()
@@ -224,14 +231,14 @@ fn a_refused_app_gets_no_certificate(rt: HostRuntime) -> Result<(), Fail> {
 #[test]
 fn a_certificate_is_read_before_the_app_is_judged(rt: HostRuntime) -> Result<(), Fail> {
     let alloc = rt.alloc();
-    let (status, text, _) = with_certificate(alloc, "recheck", None, Vec::new(alloc))?;
+    let (status, text, _) = with_certificate(&rt, "recheck", None, Vec::new(alloc))?;
     assert_eq!(rt; text.as_slice(), b"refused C: absent\n".as_slice());
     assert_eq!(rt; status, 3);
     let none = Some(b"".as_slice());
-    let (status, text, _) = with_certificate(alloc, "recheck", none, Vec::new(alloc))?;
+    let (status, text, _) = with_certificate(&rt, "recheck", none, Vec::new(alloc))?;
     assert_eq!(rt; text.as_slice(), b"certificate refused: magic\n".as_slice());
     assert_eq!(rt; status, 9);
-    let (status, text, _) = with_certificate(alloc, "recheck", none, vec![in alloc; 6]?)?;
+    let (status, text, _) = with_certificate(&rt, "recheck", none, vec![in alloc; 6]?)?;
     assert_eq!(rt; text.as_slice(), b"read fault k/C\n".as_slice());
     assert_eq!(rt; status, 5);
     Ok(())
@@ -264,12 +271,12 @@ impl Sink for CountingSink {
 
 /// That these words over this folder end with this status, and that this text is printed in one put.
 fn expect_one_put(
-    rt: &impl Abort,
-    alloc: Global,
+    rt: &HostRuntime,
     words: &[&str],
     mut files: MemFiles,
     want: (u8, &str),
 ) -> Result<(), Fail> {
+    let alloc = rt.alloc();
     let mut line = Vec::new(alloc);
     for word in words {
         line.push(String::from_str(alloc, word)?)?;
@@ -278,7 +285,7 @@ fn expect_one_put(
         puts: 0,
         first: Vec::new(alloc),
     };
-    let Status(status) = vet(alloc, &line, &mut files, &mut out, 1);
+    let Status(status) = vet(alloc, &line, &mut files, &mut out, &crew(rt));
     assert_eq!(rt; status, want.0);
     assert_eq!(rt; out.puts, 1);
     assert_eq!(rt; out.first.as_slice(), want.1.as_bytes());
@@ -290,13 +297,13 @@ fn each_text_is_printed_in_one_put(rt: HostRuntime) -> Result<(), Fail> {
     let alloc = rt.alloc();
     let check = ["check", "D", "1"];
     let whole = folder(alloc, "", None, Vec::new(alloc))?;
-    expect_one_put(&rt, alloc, &[], whole, (4, USAGE))?;
+    expect_one_put(&rt, &[], whole, (4, USAGE))?;
     let gone = folder(alloc, "lists.toml", None, Vec::new(alloc))?;
     let refused = (3, "refused lists.toml: absent\n");
-    expect_one_put(&rt, alloc, check.as_slice(), gone, refused)?;
+    expect_one_put(&rt, check.as_slice(), gone, refused)?;
     let failing = folder(alloc, "", None, vec![in alloc; 2]?)?;
     let fault = (5, "read fault D/layouts.toml\n");
-    expect_one_put(&rt, alloc, check.as_slice(), failing, fault)
+    expect_one_put(&rt, check.as_slice(), failing, fault)
 }
 
 #[test]

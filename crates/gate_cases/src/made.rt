@@ -1,0 +1,100 @@
+//! Generated apps, by several numbers of workers.
+
+use crate::folder::{answer_for, push_file, want};
+use crate::meeting::Counting;
+use made_apps::{declaration_text, layouts_text, lists_text, made_dex, manifest_text};
+use std::alloc::{AllocError, Global};
+use std::io;
+use std::marker::Sync;
+use std::sync::Wait;
+use std::thread::Threads;
+use vet_base::MemFiles;
+use worker_pool::Crew;
+
+/// Prints what `make 7 100 W` answers for 1, 2 and 16 workers, and how many rows they posted.
+pub fn made<R: Print + AllocGlobal + Threads + Wait + Sync>(rt: &R) -> io::Result<()> {
+    let alloc = rt.alloc();
+    for workers in ["1", "2", "16"] {
+        let gate = Counting::new();
+        let crew = Crew {
+            rt,
+            gate: &gate,
+            workers: 1,
+            seed: 1,
+        };
+        let mut files = MemFiles::new(Vec::new(alloc), Vec::new(alloc));
+        let words = ["make", "7", "100", workers];
+        let (status, text) = answer_for(alloc, &words, &mut files, &crew)?;
+        let text = text.as_str().trim_end();
+        let posted = gate.posted();
+        println!(rt; "make 7 100 {workers}: {status}\n{text}\nposted {posted}")?;
+    }
+    Ok(())
+}
+
+/// The folder of the app that is drawn from a seed.
+fn drawn(alloc: Global, seed: u32, size: u32) -> Result<MemFiles, AllocError> {
+    let mut held = Vec::new(alloc);
+    let forms = [
+        ("manifest.toml", manifest_text()),
+        ("layouts.toml", layouts_text()),
+        ("declaration.toml", declaration_text()),
+        ("lists.toml", lists_text()),
+    ];
+    for (name, text) in forms {
+        push_file(alloc, &mut held, name, text.to_vec(alloc)?)?;
+    }
+    let bytes = made_dex(alloc, seed, size).map_err(want)?;
+    push_file(alloc, &mut held, "classes.dex", bytes)?;
+    Ok(MemFiles::new(held, Vec::new(alloc)))
+}
+
+/// The certificate that so many workers give the app that is drawn from a seed.
+fn certificate_by<R: AllocGlobal + Threads + Wait + Sync>(
+    rt: &R,
+    seed: u32,
+    workers: u8,
+) -> Result<Vec<u8>, AllocError> {
+    let alloc = rt.alloc();
+    let gate = Counting::new();
+    let crew = Crew {
+        rt,
+        gate: &gate,
+        workers,
+        seed: u64::from(workers),
+    };
+    let mut files = drawn(alloc, seed, 1 + seed % 12)?;
+    answer_for(alloc, &["certify", "D", "C"], &mut files, &crew)?;
+    for (name, bytes) in files.files() {
+        if name.as_bytes() == b"C".as_slice() {
+            return bytes.to_vec(alloc);
+        }
+    }
+    Ok(Vec::new(alloc))
+}
+
+/// Whether 2, 3 and 16 workers give the app that is drawn from a seed the certificate that one gives.
+fn are_alike<R: AllocGlobal + Threads + Wait + Sync>(
+    rt: &R,
+    seed: u32,
+) -> Result<bool, AllocError> {
+    let one = certificate_by(rt, seed, 1)?;
+    for workers in [2u8, 3, 16] {
+        if certificate_by(rt, seed, workers)?.as_slice() != one.as_slice() {
+            return Ok(false);
+        }
+    }
+    Ok(!one.is_empty())
+}
+
+/// Prints how many of the apps that are drawn from the seeds up to a number have one certificate for 1, 2, 3 and 16
+/// workers.
+pub fn alike<R: Print + AllocGlobal + Threads + Wait + Sync>(rt: &R, most: u32) -> io::Result<()> {
+    let mut same = 0u32;
+    for seed in 0..most {
+        if are_alike(rt, seed)? {
+            same += 1;
+        }
+    }
+    println!(rt; "{same} of {most} generated apps have one certificate for 1, 2, 3 and 16 workers")
+}

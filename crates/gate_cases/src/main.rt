@@ -1,0 +1,52 @@
+//! An app is judged, certified and decided by several workers: that the work is spread over threads, that each worker
+//! posts what it finds, and that what comes of it is the same for each number of workers.
+#![tactic(auto)]
+
+mod desk;
+mod folder;
+mod made;
+mod meeting;
+
+use crate::desk::decided;
+use crate::folder::{answer_for, parts_here, sample_here};
+use crate::made::{alike, made};
+use crate::meeting::Meeting;
+use std::io;
+use std::marker::Sync;
+use std::rt::Files;
+use std::sync::Wait;
+use std::thread::Threads;
+use verdict::judge;
+use worker_pool::Crew;
+
+/// Two workers with that gate.
+fn two<'a, R>(rt: &'a R, gate: &'a Meeting) -> Crew<'a, R, Meeting> {
+    Crew {
+        rt,
+        gate,
+        workers: 2,
+        seed: 1,
+    }
+}
+
+/// Judges the app that lies here by two workers, by itself, for `check` and for a decision of a desk: whether they met.
+fn meetings<R: Files + Print + AllocGlobal + Threads + Wait + Sync>(rt: &R) -> io::Result<()> {
+    let alloc = rt.alloc();
+    let parts = parts_here(rt)?;
+    let gate = Meeting::new();
+    let judged = judge(alloc, &parts, &two(rt, &gate)).is_ok();
+    println!(rt; "judge: {judged}, {}", gate.told())?;
+    let gate = Meeting::new();
+    let mut files = sample_here(rt)?;
+    let (status, _) = answer_for(alloc, &["check", "D", "2"], &mut files, &two(rt, &gate))?;
+    println!(rt; "check D 2: {status}, {}", gate.told())?;
+    let gate = Meeting::new();
+    let replies = decided(rt, &two(rt, &gate))?;
+    println!(rt; "serve D 3: {replies}, {}", gate.told())
+}
+
+fn main(rt: HostRuntime) -> io::Result<()> {
+    meetings(&rt)?;
+    made(&rt)?;
+    alike(&rt, 200)
+}
