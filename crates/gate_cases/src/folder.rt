@@ -11,12 +11,11 @@ use vet_base::{MemFiles, MemSink, Memory, Name, Seq};
 use vetting_desk::{Status, vet};
 use worker_pool::{Crew, Gate};
 
-/// The files of an app with one DEX file, but for the lists.
-const FILES: [&str; 5] = [
+/// The files of an app with one DEX file.
+const FILES: [&str; 4] = [
     "manifest.toml",
     "layouts.toml",
     "declaration.toml",
-    "lists.toml",
     "classes.dex",
 ];
 
@@ -38,14 +37,22 @@ pub fn push_file(
     Ok(())
 }
 
-/// The folder `D` with the app that lies here.
-pub fn sample_here<R: Files + AllocGlobal>(rt: &R) -> io::Result<MemFiles> {
+/// The folder `D` with the app that lies here, under its lists with this line in place of `rows = 200000`.
+pub fn sample_with<R: Files + AllocGlobal>(rt: &R, rows: &str) -> io::Result<MemFiles> {
     let alloc = rt.alloc();
     let mut held = Vec::new(alloc);
+    let lists = fs::read_to_string(rt, "lists.toml")?;
+    let lists = lists.as_str().replace(alloc, "rows = 200000", rows)?;
+    push_file(alloc, &mut held, "lists.toml", lists.into_bytes())?;
     for name in FILES {
         push_file(alloc, &mut held, name, fs::read(rt, name)?)?;
     }
     Ok(MemFiles::new(held, Vec::new(alloc)))
+}
+
+/// The folder `D` with the app that lies here.
+pub fn sample_here<R: Files + AllocGlobal>(rt: &R) -> io::Result<MemFiles> {
+    sample_with(rt, "rows = 200000")
 }
 
 /// The parts of the app that lies here.

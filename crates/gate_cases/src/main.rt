@@ -1,14 +1,17 @@
 //! An app is judged, certified and decided by several workers: that the work is spread over threads, that each worker
-//! posts what it finds, and that what comes of it is the same for each number of workers.
+//! posts what it finds, and that what comes of it is the same for each number of workers, also where a limit is passed, a
+//! worker is held or there are more workers than rows.
 #![tactic(auto)]
 
 mod desk;
 mod folder;
+mod hard;
 mod made;
 mod meeting;
 
 use crate::desk::decided;
 use crate::folder::{answer_for, parts_here, sample_here};
+use crate::hard::{crowded, held, limited};
 use crate::made::{alike, made};
 use crate::meeting::Meeting;
 use std::io;
@@ -47,6 +50,9 @@ fn meetings<R: Files + Print + AllocGlobal + Threads + Wait + Sync>(rt: &R) -> i
 
 fn main(rt: HostRuntime) -> io::Result<()> {
     meetings(&rt)?;
+    limited(&rt)?;
+    held(&rt)?;
+    crowded(&rt)?;
     made(&rt)?;
     alike(&rt, 200)
 }

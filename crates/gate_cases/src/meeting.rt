@@ -75,6 +75,46 @@ impl Gate for Meeting {
     }
 }
 
+/// For so many turns nothing may be handed in before the first worker goes on.
+const STILL: u64 = 200_000;
+
+/// Holds the first worker, whenever it has a ticket, until the others have handed nothing in for some time.
+#[derive(Drop)]
+pub struct Holding {
+    leaves: AtomicU64,
+}
+
+impl Holding {
+    pub fn new() -> Holding {
+        Holding {
+            leaves: AtomicU64::new(0),
+        }
+    }
+}
+
+impl Gate for Holding {
+    fn enter(&self, worker: u8) {
+        if worker != 1 {
+            return;
+        }
+        let mut seen = self.leaves.load(Ordering::SeqCst);
+        let mut still = 0u64;
+        for _ in 0..TURNS {
+            let leaves = self.leaves.load(Ordering::SeqCst);
+            still = if leaves == seen { still + 1 } else { 0 };
+            if still >= STILL {
+                return;
+            }
+            seen = leaves;
+            spin_loop();
+        }
+    }
+
+    fn leave(&self, _worker: u8, _posted: u64) {
+        self.leaves.fetch_add(1, Ordering::SeqCst);
+    }
+}
+
 /// Adds up how many new rows were posted.
 #[derive(Drop)]
 pub struct Counting {
