@@ -3,6 +3,7 @@ pub mod Asked
 pub mod Blamed
 pub mod CodedFacts
 pub mod FewLines
+pub mod FewRegisters
 pub mod FieldOrder
 pub mod Gathering
 pub mod Inserted

@@ -26,9 +26,6 @@ use dex_reader::{Body, ClassDef, Dex, RawCode};
 use std::alloc::Global;
 use vet_base::{Memory, Name, Seq, Shared, Stop};
 
-/// A call has at most so many registers, so a method with more parameters is never called rightly: the link does not list them.
-const PARAMETERS: usize = 255;
-
 /// A method of the app whose code is decoded, or a native one, which has no lines.
 #[derive(Debug, Drop)]
 pub struct Coded {
@@ -117,16 +114,17 @@ fn takes(is_static: bool, proto: &Proto, count: usize) -> bool
     }
 }
 
-/// Whether the instruction is no call, or has the registers that its reference takes.
-#[tactic(auto, unfolding(crate::specs::Code::call_fits))]
+/// Whether the instruction is no call, or has the registers that its reference takes. The parameters are listed only where
+/// there are as many registers.
+#[tactic(auto, unfolding(crate::specs::Code::call_fits), using(crate::proofs::FewRegisters::too_few))]
 fn fits_call(alloc: Global, dex: &Dex, insn: &Insn) -> Result<bool, Memory>
     ensures { IfOk result (λ b. b ≡ call_fits dex.now insn.now) }
 {
     match insn.naming() {
         Naming::Method(i) => {
             let is_static = matches!(insn.call_kind(), CallKind::Static);
-            if parameter_count(dex, i) > PARAMETERS {
-                return Err(Memory);
+            if parameter_count(dex, i) > insn.argument_count() {
+                return Ok(false);
             }
             let proto = proto_at(alloc, dex, method_row_at(dex, i).proto)?;
             Ok(takes(is_static, &proto, insn.argument_count()))
