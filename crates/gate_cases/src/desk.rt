@@ -1,6 +1,6 @@
 //! A desk that decides a case by the workers of its office.
 
-use crate::folder::{push_file, want};
+use crate::folder::{line_of, push_here, told, want};
 use crate::meeting::Meeting;
 use case_keeper::MemKeeper;
 use desk_links::{FixedClock, MemDoor};
@@ -13,6 +13,25 @@ use std::{fs, io};
 use vet_base::{MemFiles, MemSink};
 use worker_pool::Crew;
 
+/// The office that lies here.
+fn office_here<R: Files + AllocGlobal>(rt: &R) -> io::Result<MemFiles> {
+    let alloc = rt.alloc();
+    let mut held = Vec::new(alloc);
+    push_here(rt, &mut held, "office.toml")?;
+    push_here(rt, &mut held, "lists.toml")?;
+    Ok(MemFiles::new(held, Vec::new(alloc)))
+}
+
+/// A door with the three connections that lie here.
+fn door_here<R: Files + AllocGlobal>(rt: &R) -> io::Result<MemDoor> {
+    let alloc = rt.alloc();
+    let mut inputs = Vec::new(alloc);
+    for name in ["submission.http", "decision.http", "state.http"] {
+        inputs.push(fs::read(rt, name)?)?;
+    }
+    Ok(MemDoor::new(alloc, inputs, Vec::new(alloc), 4096, Vec::new(alloc)).map_err(want)?)
+}
+
 /// Submits the app that lies here to the desk of the office that lies here, has it decided and asks for its state: the
 /// line that the desk prints.
 pub fn decided<R: Files + AllocGlobal + Threads + Wait + Sync>(
@@ -20,26 +39,16 @@ pub fn decided<R: Files + AllocGlobal + Threads + Wait + Sync>(
     crew: &Crew<'_, R, Meeting>,
 ) -> io::Result<String> {
     let alloc = rt.alloc();
-    let mut held = Vec::new(alloc);
-    for name in ["office.toml", "lists.toml"] {
-        push_file(alloc, &mut held, name, fs::read(rt, name)?)?;
-    }
-    let mut inputs = Vec::new(alloc);
-    for name in ["submission.http", "decision.http", "state.http"] {
-        inputs.push(fs::read(rt, name)?)?;
-    }
+    let line = line_of(alloc, &["serve", "D", "3"])?;
+    let files = office_here(rt)?;
+    let door = door_here(rt)?;
     let mut outside = Outside {
-        files: MemFiles::new(held, Vec::new(alloc)),
+        files,
         out: MemSink::new(alloc, Vec::new(alloc)),
         keeper: MemKeeper::new(alloc),
-        door: MemDoor::new(alloc, inputs, Vec::new(alloc), 4096, Vec::new(alloc)).map_err(want)?,
+        door,
         clock: FixedClock::new(100),
     };
-    let mut words = Vec::new(alloc);
-    for word in ["serve", "D", "3"] {
-        words.push(String::from_str(alloc, word)?)?;
-    }
-    let _ = serve(alloc, &words, &mut outside, crew);
-    let text = std::str::from_utf8(outside.out.taken()).unwrap_or("?");
-    Ok(String::from_str(alloc, text.trim_end())?)
+    let _ = serve(alloc, &line, &mut outside, crew);
+    Ok(told(alloc, outside.out.taken())?)
 }

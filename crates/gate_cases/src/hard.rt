@@ -22,7 +22,6 @@ pub fn limited<R: Files + Print + AllocGlobal + Threads + Wait + Sync>(rt: &R) -
         };
         let mut files = sample_with(rt, "rows = 10")?;
         let (status, text) = answer_for(alloc, &["check", "D", workers], &mut files, &crew)?;
-        let text = text.as_str().trim_end();
         println!(rt; "10 rows, check D {workers}: {status}\n{text}")?;
     }
     Ok(())
@@ -41,7 +40,6 @@ pub fn held<R: Files + Print + AllocGlobal + Threads + Wait + Sync>(rt: &R) -> i
         };
         let mut files = sample_here(rt)?;
         let (status, text) = answer_for(alloc, &["check", "D", workers], &mut files, &crew)?;
-        let text = text.as_str().trim_end();
         println!(rt; "the first is held, check D {workers}: {status}\n{text}")?;
     }
     Ok(())
@@ -58,6 +56,5 @@ pub fn crowded<R: Print + AllocGlobal + Threads + Wait + Sync>(rt: &R) -> io::Re
     };
     let mut files = MemFiles::new(Vec::new(alloc), Vec::new(alloc));
     let (status, text) = answer_for(alloc, &["make", "7", "1", "16"], &mut files, &crew)?;
-    let text = text.as_str().trim_end();
     println!(rt; "make 7 1 16: {status}\n{text}")
 }

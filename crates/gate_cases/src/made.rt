@@ -8,8 +8,8 @@ use std::io;
 use std::marker::Sync;
 use std::sync::Wait;
 use std::thread::Threads;
-use vet_base::MemFiles;
-use worker_pool::Crew;
+use vet_base::{MemFiles, Name};
+use worker_pool::{Crew, NoGate};
 
 /// Prints what `make 7 100 W` answers for 1, 2 and 16 workers, and how many rows they posted.
 pub fn made<R: Print + AllocGlobal + Threads + Wait + Sync>(rt: &R) -> io::Result<()> {
@@ -25,15 +25,14 @@ pub fn made<R: Print + AllocGlobal + Threads + Wait + Sync>(rt: &R) -> io::Resul
         let mut files = MemFiles::new(Vec::new(alloc), Vec::new(alloc));
         let words = ["make", "7", "100", workers];
         let (status, text) = answer_for(alloc, &words, &mut files, &crew)?;
-        let text = text.as_str().trim_end();
         let posted = gate.posted();
         println!(rt; "make 7 100 {workers}: {status}\n{text}\nposted {posted}")?;
     }
     Ok(())
 }
 
-/// The folder of the app that is drawn from a seed.
-fn drawn(alloc: Global, seed: u32, size: u32) -> Result<MemFiles, AllocError> {
+/// The forms of drawn apps, in the folder `D`.
+fn forms(alloc: Global) -> Result<Vec<(Name, Vec<u8>)>, AllocError> {
     let mut held = Vec::new(alloc);
     let forms = [
         ("manifest.toml", manifest_text()),
@@ -44,9 +43,41 @@ fn drawn(alloc: Global, seed: u32, size: u32) -> Result<MemFiles, AllocError> {
     for (name, text) in forms {
         push_file(alloc, &mut held, name, text.to_vec(alloc)?)?;
     }
+    Ok(held)
+}
+
+/// The folder of the app that is drawn from a seed.
+fn drawn(alloc: Global, seed: u32, size: u32) -> Result<MemFiles, AllocError> {
+    let mut held = forms(alloc)?;
     let bytes = made_dex(alloc, seed, size).map_err(want)?;
     push_file(alloc, &mut held, "classes.dex", bytes)?;
     Ok(MemFiles::new(held, Vec::new(alloc)))
+}
+
+/// The file `C`, which a certificate was written to; empty where there is none.
+fn certificate_in(alloc: Global, files: &MemFiles) -> Result<Vec<u8>, AllocError> {
+    for (name, bytes) in files.files() {
+        if name.as_bytes() == b"C".as_slice() {
+            return bytes.to_vec(alloc);
+        }
+    }
+    Ok(Vec::new(alloc))
+}
+
+/// Certifies the app of the folder `D`, by so many workers.
+fn certify<R: AllocGlobal + Threads + Wait + Sync>(
+    rt: &R,
+    files: &mut MemFiles,
+    workers: u8,
+) -> Result<u8, AllocError> {
+    let crew = Crew {
+        rt,
+        gate: &NoGate,
+        workers,
+        seed: u64::from(workers),
+    };
+    let (status, _) = answer_for(rt.alloc(), &["certify", "D", "C"], files, &crew)?;
+    Ok(status)
 }
 
 /// The certificate that so many workers give the app that is drawn from a seed.
@@ -55,22 +86,9 @@ fn certificate_by<R: AllocGlobal + Threads + Wait + Sync>(
     seed: u32,
     workers: u8,
 ) -> Result<Vec<u8>, AllocError> {
-    let alloc = rt.alloc();
-    let gate = Counting::new();
-    let crew = Crew {
-        rt,
-        gate: &gate,
-        workers,
-        seed: u64::from(workers),
-    };
-    let mut files = drawn(alloc, seed, 1 + seed % 12)?;
-    answer_for(alloc, &["certify", "D", "C"], &mut files, &crew)?;
-    for (name, bytes) in files.files() {
-        if name.as_bytes() == b"C".as_slice() {
-            return bytes.to_vec(alloc);
-        }
-    }
-    Ok(Vec::new(alloc))
+    let mut files = drawn(rt.alloc(), seed, 1 + seed % 12)?;
+    certify(rt, &mut files, workers)?;
+    certificate_in(rt.alloc(), &files)
 }
 
 /// Whether 2, 3 and 16 workers give the app that is drawn from a seed the certificate that one gives.
