@@ -1,4 +1,5 @@
 //! Generated apps, by several numbers of workers.
+ghost use Rattle.std.specs.Prelude.{◌<◌, ◌≤◌};
 
 use crate::folder::{answer_for, push_file, want};
 use crate::meeting::Counting;
@@ -47,7 +48,11 @@ fn forms(alloc: Global) -> Result<Vec<(Name, Vec<u8>)>, AllocError> {
 }
 
 /// The folder of the app that is drawn from a seed.
-fn drawn(alloc: Global, seed: u32, size: u32) -> Result<MemFiles, AllocError> {
+fn drawn(alloc: Global, seed: u32, size: u32) -> Result<MemFiles, AllocError>
+    requires seed { seed < 2147483648 }
+    requires some { 1 ≤ size }
+    requires most { size ≤ 2000 }
+{
     let mut held = forms(alloc)?;
     let bytes = made_dex(alloc, seed, size).map_err(want)?;
     push_file(alloc, &mut held, "classes.dex", bytes)?;
@@ -85,17 +90,18 @@ fn certificate_by<R: AllocGlobal + Threads + Wait + Sync>(
     rt: &R,
     seed: u32,
     workers: u8,
-) -> Result<Vec<u8>, AllocError> {
+) -> Result<Vec<u8>, AllocError>
+    requires { seed < 2147483648 }
+{
     let mut files = drawn(rt.alloc(), seed, 1 + seed % 12)?;
     certify(rt, &mut files, workers)?;
     certificate_in(rt.alloc(), &files)
 }
 
 /// Whether 2, 3 and 16 workers give the app that is drawn from a seed the certificate that one gives.
-fn are_alike<R: AllocGlobal + Threads + Wait + Sync>(
-    rt: &R,
-    seed: u32,
-) -> Result<bool, AllocError> {
+fn are_alike<R: AllocGlobal + Threads + Wait + Sync>(rt: &R, seed: u32) -> Result<bool, AllocError>
+    requires { seed < 2147483648 }
+{
     let one = certificate_by(rt, seed, 1)?;
     for workers in [2u8, 3, 16] {
         if certificate_by(rt, seed, workers)?.as_slice() != one.as_slice() {
@@ -107,7 +113,9 @@ fn are_alike<R: AllocGlobal + Threads + Wait + Sync>(
 
 /// Prints how many of the apps that are drawn from the seeds up to a number have one certificate for 1, 2, 3 and 16
 /// workers.
-pub fn alike<R: Print + AllocGlobal + Threads + Wait + Sync>(rt: &R, most: u32) -> io::Result<()> {
+pub fn alike<R: Print + AllocGlobal + Threads + Wait + Sync>(rt: &R, most: u32) -> io::Result<()>
+    requires { most ≤ 2147483648 }
+{
     let mut same = 0u32;
     for seed in 0..most {
         if are_alike(rt, seed)? {

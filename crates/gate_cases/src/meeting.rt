@@ -101,7 +101,11 @@ impl Gate for Holding {
         let mut still = 0u64;
         for _ in 0..TURNS {
             let leaves = self.leaves.load(Ordering::SeqCst);
-            still = if leaves == seen { still + 1 } else { 0 };
+            still = if leaves == seen {
+                still.saturating_add(1)
+            } else {
+                0
+            };
             if still >= STILL {
                 return;
             }

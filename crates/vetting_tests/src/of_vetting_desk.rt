@@ -2,7 +2,11 @@ ghost use Rattle.std.specs.Prelude.{None};
 
 use std::alloc::Global;
 use std::io::ErrorKind;
+use std::marker::Sync;
+use std::process::Abort;
+use std::sync::Wait;
 use std::test::Fail;
+use std::thread::Threads;
 use std::{fs, io};
 use vet_base::{FileFault, Files, MemFiles, MemSink, Name, PutFault, Sink};
 use vetting_desk::{HostFiles, StandardSink, Status, vet, words_given};
@@ -44,7 +48,7 @@ fn folder(
 }
 
 /// One worker.
-fn crew(rt: &HostRuntime) -> Crew<'_, HostRuntime, NoGate> {
+fn crew<R>(rt: &R) -> Crew<'_, R, NoGate> {
     Crew {
         rt,
         gate: &NoGate,
@@ -54,8 +58,8 @@ fn crew(rt: &HostRuntime) -> Crew<'_, HostRuntime, NoGate> {
 }
 
 /// The status and the text for these words over these files, where the sink fails at these calls.
-fn answer(
-    rt: &HostRuntime,
+fn answer<R: AllocGlobal + Threads + Wait + Sync>(
+    rt: &R,
     words: &[&str],
     mut files: MemFiles,
     failing: Vec<u64>,
@@ -133,7 +137,12 @@ fn words_that_are_no_command(rt: HostRuntime) -> Result<(), Fail> {
 }
 
 /// That this folder is answered by this status and this line.
-fn expect(rt: &HostRuntime, files: MemFiles, want: u8, line: &str) -> Result<(), Fail> {
+fn expect<R: Abort + AllocGlobal + Threads + Wait + Sync>(
+    rt: &R,
+    files: MemFiles,
+    want: u8,
+    line: &str,
+) -> Result<(), Fail> {
     let alloc = rt.alloc();
     let words = ["check", "D", "1"];
     let (status, text) = answer(rt, words.as_slice(), files, Vec::new(alloc))?;
@@ -183,8 +192,8 @@ fn a_sink_that_fails_after_a_read_that_failed(rt: HostRuntime) -> Result<(), Fai
 
 /// The status and the text for a command on the folder `D` of empty files and a certificate `k/C` of these bytes, where there
 /// is one, with how many files there are then.
-fn with_certificate(
-    rt: &HostRuntime,
+fn with_certificate<R: AllocGlobal + Threads + Wait + Sync>(
+    rt: &R,
     command: &str,
     certificate: Option<&[u8]>,
     failing: Vec<u64>,
@@ -270,8 +279,8 @@ impl Sink for CountingSink {
 }
 
 /// That these words over this folder end with this status, and that this text is printed in one put.
-fn expect_one_put(
-    rt: &HostRuntime,
+fn expect_one_put<R: Abort + AllocGlobal + Threads + Wait + Sync>(
+    rt: &R,
     words: &[&str],
     mut files: MemFiles,
     want: (u8, &str),
