@@ -4,9 +4,9 @@ use crate::comparing::{answer_alike, same_case};
 use crate::fitting::make;
 use crate::lines::{after_statements, new_keeper, reopened};
 use crate::making::{added, appealed, case, decided, name, ruled};
-use crate::shelf::Shelf;
+use crate::shelf::{Filed, Shelf};
 use case_keeper::{KeepFault, Keeper, MemKeeper};
-use case_rules::{Change, OutcomeWord, RulingWord, State};
+use case_rules::{Case, Change, OutcomeWord, RulingWord, State};
 use sqlite::{Alter, Connection};
 use sqlite_keeper::OpenKeeper;
 use std::alloc::Global;
@@ -19,18 +19,30 @@ pub fn no_answer(_fault: KeepFault) -> io::Error {
     io::Error::other("a keeper gave no answer")
 }
 
+/// Puts a change behind the others.
+fn put(all: &mut Vec<Change>, change: Result<Change, Memory>) -> Result<(), Memory> {
+    all.push(change?)?;
+    Ok(())
+}
+
 /// Three cases, a decision on two of them, an appeal on both, a ruling on one, and a decision on it under other lists.
 pub fn changes(alloc: Global) -> Result<Vec<Change>, Memory> {
     let mut all = Vec::new(alloc);
-    all.push(added(alloc, "ann", "r1", "app")?)?;
-    all.push(added(alloc, "ann", "a2", "other")?)?;
-    all.push(added(alloc, "bob", "r1", "third")?)?;
-    all.push(decided(alloc, "ann", "r1", 1, OutcomeWord::Flagged)?)?;
-    all.push(decided(alloc, "bob", "r1", 1, OutcomeWord::Undecided)?)?;
-    all.push(appealed(alloc, "ann", "r1")?)?;
-    all.push(appealed(alloc, "bob", "r1")?)?;
-    all.push(ruled(alloc, "ann", "r1", RulingWord::Overturn)?)?;
-    all.push(decided(alloc, "ann", "r1", 2, OutcomeWord::Clear)?)?;
+    put(&mut all, added(alloc, "ann", "r1", "app"))?;
+    put(&mut all, added(alloc, "ann", "a2", "other"))?;
+    put(&mut all, added(alloc, "bob", "r1", "third"))?;
+    put(
+        &mut all,
+        decided(alloc, "ann", "r1", 1, OutcomeWord::Flagged),
+    )?;
+    put(
+        &mut all,
+        decided(alloc, "bob", "r1", 1, OutcomeWord::Undecided),
+    )?;
+    put(&mut all, appealed(alloc, "ann", "r1"))?;
+    put(&mut all, appealed(alloc, "bob", "r1"))?;
+    put(&mut all, ruled(alloc, "ann", "r1", RulingWord::Overturn))?;
+    put(&mut all, decided(alloc, "ann", "r1", 2, OutcomeWord::Clear))?;
     Ok(all)
 }
 
@@ -38,13 +50,13 @@ pub fn changes(alloc: Global) -> Result<Vec<Change>, Memory> {
 /// an entry under these lists.
 fn unfit_changes(alloc: Global) -> Result<Vec<Change>, Memory> {
     let mut all = Vec::new(alloc);
-    all.push(added(alloc, "ann", "r1", "app")?)?;
-    all.push(decided(alloc, "bob", "r1", 2, OutcomeWord::Clear)?)?;
-    all.push(decided(alloc, "ann", "r1", 2, OutcomeWord::Clear)?)?;
-    all.push(decided(alloc, "eve", "r1", 2, OutcomeWord::Clear)?)?;
-    all.push(appealed(alloc, "ann", "a2")?)?;
-    all.push(appealed(alloc, "bob", "r1")?)?;
-    all.push(ruled(alloc, "ann", "r1", RulingWord::Uphold)?)?;
+    put(&mut all, added(alloc, "ann", "r1", "app"))?;
+    put(&mut all, decided(alloc, "bob", "r1", 2, OutcomeWord::Clear))?;
+    put(&mut all, decided(alloc, "ann", "r1", 2, OutcomeWord::Clear))?;
+    put(&mut all, decided(alloc, "eve", "r1", 2, OutcomeWord::Clear))?;
+    put(&mut all, appealed(alloc, "ann", "a2"))?;
+    put(&mut all, appealed(alloc, "bob", "r1"))?;
+    put(&mut all, ruled(alloc, "ann", "r1", RulingWord::Uphold))?;
     Ok(all)
 }
 
@@ -69,9 +81,8 @@ pub fn answers_as_memory<F: Shelf>(alloc: Global, shelf: &F) -> io::Result<bool>
     let mut memory = MemKeeper::new(alloc);
     let mut keeper = new_keeper(alloc, shelf)?;
     let are_alike = alike_through(alloc, &mut memory, &mut keeper).map_err(no_answer)?;
-    let mut keeper = reopened(alloc, keeper)?;
-    let again = answer_alike(alloc, &mut memory, &mut keeper).map_err(no_answer)?;
-    Ok(are_alike && again && keeper.faults() == 0)
+    let (_, again) = opened_anew(alloc, &mut memory, keeper)?;
+    Ok(are_alike && again)
 }
 
 /// Whether the database refuses a change, with one fault more, and answers as before.
@@ -109,23 +120,57 @@ pub fn refuses_what_does_not_fit<F: Shelf>(alloc: Global, shelf: &F) -> io::Resu
     refuses_all(alloc, &mut memory, &mut keeper).map_err(no_answer)
 }
 
+/// The changes that make the cases of the file of version 1.
+fn changes_of_version_1(alloc: Global) -> Result<Vec<Change>, Memory> {
+    let mut all = Vec::new(alloc);
+    put(&mut all, added(alloc, "ann", "r1", "app"))?;
+    put(&mut all, added(alloc, "ann", "a2", "other"))?;
+    put(&mut all, added(alloc, "bob", "r1", "third"))?;
+    put(
+        &mut all,
+        decided(alloc, "ann", "r1", 1, OutcomeWord::Flagged),
+    )?;
+    put(
+        &mut all,
+        decided(alloc, "bob", "r1", 1, OutcomeWord::Undecided),
+    )?;
+    put(&mut all, appealed(alloc, "bob", "r1"))?;
+    put(&mut all, ruled(alloc, "bob", "r1", RulingWord::Uphold))?;
+    Ok(all)
+}
+
 /// The cases of the file of version 1, by changes: whether each was made.
 pub fn of_version_1<K: Keeper>(alloc: Global, keeper: &mut K) -> Result<bool, KeepFault> {
-    let mut changes = Vec::new(alloc);
-    changes.push(added(alloc, "ann", "r1", "app")?)?;
-    changes.push(added(alloc, "ann", "a2", "other")?)?;
-    changes.push(added(alloc, "bob", "r1", "third")?)?;
-    changes.push(decided(alloc, "ann", "r1", 1, OutcomeWord::Flagged)?)?;
-    changes.push(decided(alloc, "bob", "r1", 1, OutcomeWord::Undecided)?)?;
-    changes.push(appealed(alloc, "bob", "r1")?)?;
-    changes.push(ruled(alloc, "bob", "r1", RulingWord::Uphold)?)?;
     let mut are_made = true;
-    for change in &changes {
+    for change in &changes_of_version_1(alloc)? {
         if !make(alloc, keeper, change)? {
             are_made = false;
         }
     }
     Ok(are_made)
+}
+
+/// The keeper over the same files, opened anew, and whether it answers as memory does with no fault.
+fn opened_anew<S: Filed>(
+    alloc: Global,
+    memory: &mut MemKeeper,
+    keeper: OpenKeeper<S>,
+) -> io::Result<(OpenKeeper<S>, bool)> {
+    let mut keeper = reopened(alloc, keeper)?;
+    let are_alike = answer_alike(alloc, memory, &mut keeper).map_err(no_answer)?;
+    let is_sound = keeper.faults() == 0;
+    Ok((keeper, are_alike && is_sound))
+}
+
+/// Whether the database answers as memory does once its files were closed and opened again, and once more.
+fn alike_twice<S: Filed>(
+    alloc: Global,
+    memory: &mut MemKeeper,
+    keeper: OpenKeeper<S>,
+) -> io::Result<bool> {
+    let (keeper, first) = opened_anew(alloc, memory, keeper)?;
+    let (_, again) = opened_anew(alloc, memory, keeper)?;
+    Ok(first && again)
 }
 
 /// Whether the cases of a database of version 1 are those that memory has by changes, byte for byte, also once the
@@ -135,11 +180,8 @@ pub fn raises_version_1<R: Files + AllocGlobal, F: Shelf>(rt: &R, shelf: &F) -> 
     let mut memory = MemKeeper::new(alloc);
     let are_made = of_version_1(alloc, &mut memory).map_err(no_answer)?;
     let keeper = after_statements(rt, new_keeper(alloc, shelf)?, "version_1.sql")?;
-    let mut keeper = reopened(alloc, keeper)?;
-    let first = answer_alike(alloc, &mut memory, &mut keeper).map_err(no_answer)?;
-    let mut keeper = reopened(alloc, keeper)?;
-    let again = answer_alike(alloc, &mut memory, &mut keeper).map_err(no_answer)?;
-    Ok(are_made && first && again && keeper.faults() == 0)
+    let are_alike = alike_twice(alloc, &mut memory, keeper)?;
+    Ok(are_made && are_alike)
 }
 
 /// How many tables and indexes a database has.
@@ -166,8 +208,8 @@ pub fn leaves_another_version<R: Files + AllocGlobal, F: Shelf>(
     Ok(first && second && are_counted && size_of(&mut connection)? == 1)
 }
 
-/// Whether a case of odd bytes comes back as it was: a name that is no text, three files, one of them empty.
-fn keeps_odd_bytes_in<K: Keeper>(alloc: Global, keeper: &mut K) -> Result<bool, KeepFault> {
+/// A case of odd bytes: a name that is no text, three files, one of them empty.
+fn odd_case(alloc: Global) -> Result<Case, Memory> {
     let party = Name::from_bytes(alloc, b"\xffann\0\xc0".as_slice())?;
     let reference = name(alloc, "R.1_-")?;
     let files = [
@@ -175,18 +217,39 @@ fn keeps_odd_bytes_in<K: Keeper>(alloc: Global, keeper: &mut K) -> Result<bool, 
         b"".as_slice(),
         b"\0\0'\"\xc3".as_slice(),
     ];
-    let given = case(alloc, &party, &reference, files.as_slice())?;
-    if !make(alloc, keeper, &Change::Add(given.copy()?))? {
-        return Ok(false);
+    case(alloc, &party, &reference, files.as_slice())
+}
+
+/// Whether a case is added.
+fn adds<K: Keeper>(alloc: Global, keeper: &mut K, given: &Case) -> Result<bool, KeepFault> {
+    make(alloc, keeper, &Change::Add(given.copy()?))
+}
+
+/// Whether a case is found as it was given.
+fn finds<K: Keeper>(alloc: Global, keeper: &mut K, given: &Case) -> Result<bool, KeepFault> {
+    match keeper.find(alloc, &given.party, &given.reference)? {
+        None => Ok(false),
+        Some(found) => Ok(same_case(&found, given)),
     }
-    let Some(found) = keeper.find(alloc, &party, &reference)? else {
-        return Ok(false);
-    };
-    let lines = keeper.list(alloc, &party)?;
-    let [line] = lines.as_slice() else {
-        return Ok(false);
-    };
-    Ok(same_case(&found, &given) && line.party == party && line.state == State::Queued)
+}
+
+/// Whether a case is listed as the one of its developer, without an entry.
+fn lists<K: Keeper>(alloc: Global, keeper: &mut K, given: &Case) -> Result<bool, KeepFault> {
+    let lines = keeper.list(alloc, &given.party)?;
+    match lines.as_slice() {
+        [line] => Ok(line.party == given.party && line.state == State::Queued),
+        _ => Ok(false),
+    }
+}
+
+/// Whether a case of odd bytes comes back as it was.
+fn keeps_odd_bytes_in<K: Keeper>(alloc: Global, keeper: &mut K) -> Result<bool, KeepFault> {
+    let given = odd_case(alloc)?;
+    Ok(
+        adds(alloc, keeper, &given)?
+            && finds(alloc, keeper, &given)?
+            && lists(alloc, keeper, &given)?,
+    )
 }
 
 /// Whether the database gives a case of odd bytes back as it was.

@@ -4,15 +4,14 @@ use crate::alike::{changes, no_answer, of_version_1};
 use crate::comparing::answer_alike;
 use crate::fitting::make;
 use crate::lines::after_statements;
-use crate::shelf::{come_back_and_opened, opened_at_last, stopping};
+use crate::shelf::{Filed, Machine, Shelf};
 use case_keeper::{KeepFault, Keeper, MemKeeper};
 use case_rules::Change;
-use sqlite::{Alter, Connection, Files};
-use sqlite_disk::Crash;
+use sqlite::{Alter, Connection};
 use sqlite_keeper::OpenKeeper;
 use std::alloc::Global;
 use std::io;
-use std::rt::Files as Disks;
+use std::rt::Files;
 
 /// Makes the changes up to the first that is not told as kept, and the same in memory: the place of that one.
 fn kept_up_to<S: Alter + Drop>(
@@ -96,21 +95,24 @@ fn ended<S: Alter + Drop>(
 }
 
 /// Makes the changes over files that stop, and says how that ended.
-fn run_with<D: Crash + Drop>(alloc: Global, files: Files<D>) -> io::Result<Ending> {
+fn run_with<F: Shelf>(alloc: Global, shelf: &F) -> io::Result<Ending> {
     let mut memory = MemKeeper::new(alloc);
-    let connection = opened_at_last(alloc, files)?;
+    let connection = shelf.blank(alloc)?;
     let (connection, place) = changed(alloc, &mut memory, connection)?;
-    let connection = come_back_and_opened(alloc, connection)?;
+    let connection = connection.into_store().reopened(alloc)?;
     ended(alloc, &mut memory, connection, place)
 }
 
 /// Whether the database has just what was told as kept, or one change more, where the log stops at its first call,
 /// at its second and so on until all changes are told as kept. Each of the nine is at least one write and one sync,
 /// so the log is to stop at 18 places at least.
-pub fn survives_each_call_of_the_log(alloc: Global) -> io::Result<bool> {
+pub fn survives_each_call_of_the_log<M: Machine + Drop>(
+    alloc: Global,
+    machine: &M,
+) -> io::Result<bool> {
     let mut stops = 0u64;
     for calls in 0..10_000u64 {
-        match run_with(alloc, stopping(alloc, calls, u64::MAX))? {
+        match run_with(alloc, &machine.stopping(calls, u64::MAX))? {
             Ending::Lost => return Ok(false),
             Ending::Stopped => stops = stops.saturating_add(1),
             Ending::Whole if stops > 0 => break,
@@ -122,9 +124,12 @@ pub fn survives_each_call_of_the_log(alloc: Global) -> io::Result<bool> {
 
 /// Whether it has them where the database file stops at one of its first hundred calls, as while the log is copied
 /// into it.
-pub fn survives_calls_of_the_file(alloc: Global) -> io::Result<bool> {
+pub fn survives_calls_of_the_file<M: Machine + Drop>(
+    alloc: Global,
+    machine: &M,
+) -> io::Result<bool> {
     for calls in 0..100u64 {
-        if run_with(alloc, stopping(alloc, u64::MAX, calls))? == Ending::Lost {
+        if run_with(alloc, &machine.stopping(u64::MAX, calls))? == Ending::Lost {
             return Ok(false);
         }
     }
@@ -133,7 +138,7 @@ pub fn survives_calls_of_the_file(alloc: Global) -> io::Result<bool> {
 
 /// Makes a database of version 1 and has it raised: whether that was told as done. Nothing where the files stop before
 /// it is made.
-fn raised<R: Disks + AllocGlobal, S: Alter + Drop>(
+fn raised<R: Files + AllocGlobal, S: Alter + Drop>(
     rt: &R,
     connection: Connection<S>,
 ) -> Option<(Connection<S>, bool)> {
@@ -154,26 +159,26 @@ fn has_version_1<S: Alter + Drop>(alloc: Global, connection: Connection<S>) -> i
 }
 
 /// How a run ended in which a database of version 1 is raised over files that stop, where they suffice to make it.
-fn raised_with<R: Disks + AllocGlobal, D: Crash + Drop>(
-    rt: &R,
-    files: Files<D>,
-) -> io::Result<Option<Ending>> {
+fn raised_with<R: Files + AllocGlobal, F: Shelf>(rt: &R, shelf: &F) -> io::Result<Option<Ending>> {
     let alloc = rt.alloc();
-    let connection = opened_at_last(alloc, files)?;
+    let connection = shelf.blank(alloc)?;
     let Some((connection, is_raised)) = raised(rt, connection) else {
         return Ok(None);
     };
-    let connection = come_back_and_opened(alloc, connection)?;
+    let connection = connection.into_store().reopened(alloc)?;
     let has_all = has_version_1(alloc, connection)?;
     Ok(Some(ending_of(has_all, is_raised)))
 }
 
 /// Whether the cases of a database of version 1 are there where the log stops at any call while they are raised. The
 /// transaction is at least one write and one sync, so it is to stop at two places at least.
-pub fn survives_being_raised<R: Disks + AllocGlobal>(rt: &R) -> io::Result<bool> {
+pub fn survives_being_raised<R: Files + AllocGlobal, M: Machine + Drop>(
+    rt: &R,
+    machine: &M,
+) -> io::Result<bool> {
     let mut stops = 0u64;
     for calls in 0..10_000u64 {
-        match raised_with(rt, stopping(rt.alloc(), calls, u64::MAX))? {
+        match raised_with(rt, &machine.stopping(calls, u64::MAX))? {
             Some(Ending::Lost) => return Ok(false),
             Some(Ending::Stopped) => stops = stops.saturating_add(1),
             Some(Ending::Whole) if stops > 0 => break,

@@ -2,30 +2,30 @@
 
 use crate::alike::{alike_through, no_answer};
 use crate::making::name;
-use crate::shelf::{InMemory, blank};
+use crate::shelf::Shelf;
 use case_keeper::{KeepFault, Keeper, MemKeeper};
-use sqlite::{Connection, Error, ErrorCode, FileStore};
-use sqlite_disk::Memory;
+use sqlite::{Connection, Error, ErrorCode};
 use sqlite_keeper::{LateKeeper, Opener};
 use std::alloc::Global;
 use std::io;
 
 /// Refuses to open as often as said, and then opens an empty database.
 #[derive(Drop)]
-struct SlowOpener {
+struct SlowOpener<F: Shelf + Drop> {
     alloc: Global,
+    shelf: F,
     refusals: u32,
 }
 
-impl Opener for SlowOpener {
-    type Store = FileStore<Memory>;
+impl<F: Shelf + Drop> Opener for SlowOpener<F> {
+    type Store = F::Store;
 
-    fn open(&mut self) -> Result<Connection<FileStore<Memory>>, Error> {
+    fn open(&mut self) -> Result<Connection<F::Store>, Error> {
         if self.refusals > 0 {
             self.refusals -= 1;
             return Err(Error::SqliteFailure(ErrorCode::DatabaseBusy));
         }
-        match blank(self.alloc, &InMemory) {
+        match self.shelf.blank(self.alloc) {
             Ok(connection) => Ok(connection),
             Err(_) => Err(Error::SqliteFailure(ErrorCode::CannotOpen)),
         }
@@ -48,8 +48,13 @@ fn fails_and_keeps<K: Keeper>(alloc: Global, keeper: &mut K) -> Result<bool, Kee
 }
 
 /// Whether a connection that is refused is asked for again.
-pub fn asks_again(alloc: Global) -> io::Result<bool> {
-    let mut keeper = LateKeeper::over(SlowOpener { alloc, refusals: 2 });
+pub fn asks_again<F: Shelf + Drop>(alloc: Global, shelf: F) -> io::Result<bool> {
+    let opener = SlowOpener {
+        alloc,
+        shelf,
+        refusals: 2,
+    };
+    let mut keeper = LateKeeper::over(opener);
     fails_and_keeps(alloc, &mut keeper).map_err(no_answer)
 }
 

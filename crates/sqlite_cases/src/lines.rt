@@ -1,28 +1,22 @@
 //! Files of commands, put to a database.
 
-use crate::shelf::{Shelf, blank, closed_and_opened};
+use crate::shelf::{Filed, Shelf};
 use case_lines::due_in;
-use sqlite::{Alter, FileStore};
-use sqlite_disk::Disk;
+use sqlite::Alter;
 use sqlite_keeper::OpenKeeper;
 use std::alloc::Global;
 use std::rt::Files;
 use std::{fs, io};
 
 /// A keeper over an empty database.
-pub fn new_keeper<F: Shelf>(
-    alloc: Global,
-    shelf: &F,
-) -> io::Result<OpenKeeper<FileStore<F::File>>> {
-    Ok(OpenKeeper::adopt(blank(alloc, shelf)?))
+pub fn new_keeper<F: Shelf>(alloc: Global, shelf: &F) -> io::Result<OpenKeeper<F::Store>> {
+    Ok(OpenKeeper::adopt(shelf.blank(alloc)?))
 }
 
 /// The keeper over the same files, which are closed and opened again.
-pub fn reopened<D: Disk + Drop>(
-    alloc: Global,
-    keeper: OpenKeeper<FileStore<D>>,
-) -> io::Result<OpenKeeper<FileStore<D>>> {
-    Ok(OpenKeeper::adopt(closed_and_opened(alloc, keeper.give_back())?))
+pub fn reopened<S: Filed>(alloc: Global, keeper: OpenKeeper<S>) -> io::Result<OpenKeeper<S>> {
+    let store = keeper.give_back().into_store();
+    Ok(OpenKeeper::adopt(store.reopened(alloc)?))
 }
 
 /// The keeper once the statements of a file have run.

@@ -24,7 +24,7 @@ use crate::crashing::{
 use crate::late::{asks_again, stays_failed};
 use crate::lines::due_in_file;
 use crate::serving::due_over_http;
-use crate::shelf::{InMemory, Shelf};
+use crate::shelf::{InMemory, LASTING, Machine, Shelf};
 use case_keeper::Keeper;
 use case_lines::due_in;
 use sqlite_keeper::SqlKeeper;
@@ -87,17 +87,20 @@ fn all_else<R: Files + Print + AllocGlobal, F: Shelf>(rt: &R, shelf: &F) -> io::
     say(rt, "gives odd bytes back as they were", holds)
 }
 
-fn all_crashes<R: Files + Print + AllocGlobal>(rt: &R) -> io::Result<()> {
+fn all_crashes<R: Files + Print + AllocGlobal, M: Machine + Drop>(
+    rt: &R,
+    machine: &M,
+) -> io::Result<()> {
     let alloc = rt.alloc();
-    let holds = survives_each_call_of_the_log(alloc)?;
+    let holds = survives_each_call_of_the_log(alloc, machine)?;
     say(
         rt,
         "has what was told as kept, or one change more, where the log stops at any call",
         holds,
     )?;
-    let holds = survives_calls_of_the_file(alloc)?;
+    let holds = survives_calls_of_the_file(alloc, machine)?;
     say(rt, "has it where the database file stops", holds)?;
-    let holds = survives_being_raised(rt)?;
+    let holds = survives_being_raised(rt, machine)?;
     say(
         rt,
         "has the cases of version 1 where the log stops while they are raised",
@@ -124,12 +127,32 @@ fn all_failures<R: Print + AllocGlobal, K: Keeper>(rt: &R, keeper: &mut K) -> io
     )
 }
 
+/// Tries databases of a shelf, and says last whether a connection that is refused is asked for again.
+fn all_of_shelf<R: Files + Print + AllocGlobal, F: Shelf + Drop>(
+    rt: &R,
+    shelf: F,
+) -> io::Result<bool> {
+    all_replies(rt, &shelf)?;
+    all_else(rt, &shelf)?;
+    asks_again(rt.alloc(), shelf)
+}
+
+fn all_in_memory<R: Files + Print + AllocGlobal>(rt: &R) -> io::Result<bool> {
+    all_of_shelf(rt, InMemory)
+}
+
+fn all_stopping<R: Files + Print + AllocGlobal>(rt: &R) -> io::Result<()> {
+    all_crashes(rt, &LASTING)
+}
+
 fn main(rt: HostRuntime) -> io::Result<()> {
-    all_replies(&rt, &InMemory)?;
-    all_else(&rt, &InMemory)?;
-    all_crashes(&rt)?;
-    let holds = asks_again(rt.alloc())?;
-    say(&rt, "asks again for a connection that is refused", holds)?;
+    let asks_again = all_in_memory(&rt)?;
+    all_stopping(&rt)?;
+    say(
+        &rt,
+        "asks again for a connection that is refused",
+        asks_again,
+    )?;
     let path = String::from_str(rt.alloc(), "no_such_folder/desk.sqlite")?;
     let mut keeper = SqlKeeper::new(rt.clone()?, path);
     all_failures(&rt, &mut keeper)

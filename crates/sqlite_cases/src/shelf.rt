@@ -1,23 +1,29 @@
-use sqlite::{Connection, FileStore, Files, Options};
+//! Databases over files in memory. What holds their files is named here alone; all else is written for whatever
+//! store, since a function that names this one is dear to prove.
+
+use sqlite::{Alter, Connection, FileStore, Files, Options};
 use sqlite_disk::{Crash, Disk, Fuse, Memory};
 use std::alloc::Global;
 use std::io;
 
-/// Who makes the files of databases.
-pub trait Shelf {
-    type File: Disk + Drop;
-
-    /// An empty file.
-    fn file(&self, alloc: Global) -> Self::File;
+/// What holds the files of a database.
+pub trait Filed: Alter + Drop {
+    /// The database over the same files, which are closed and opened again.
+    fn reopened(self, alloc: Global) -> io::Result<Connection<Self>>;
 }
 
-/// An empty database.
-pub fn blank<F: Shelf>(alloc: Global, shelf: &F) -> io::Result<Connection<FileStore<F::File>>> {
-    let files = Files {
-        log: shelf.file(alloc),
-        db: shelf.file(alloc),
-    };
-    opened(alloc, files)
+/// Who makes databases.
+pub trait Shelf {
+    type Store: Filed;
+
+    /// An empty database.
+    fn blank(&self, alloc: Global) -> io::Result<Connection<Self::Store>>;
+}
+
+/// Who makes databases over files that may stop.
+pub trait Machine: Shelf {
+    /// The same where the log and the database file do so many calls and then no more, until the machine comes back.
+    fn stopping(&self, log: u64, db: u64) -> Self;
 }
 
 /// Opens files; where they are not opened, they are given back.
@@ -42,7 +48,7 @@ fn opened<D: Disk + Drop>(alloc: Global, files: Files<D>) -> io::Result<Connecti
 }
 
 /// Opens files; where they stop before, the machine comes back, and they are opened then.
-pub fn opened_at_last<D: Crash + Drop>(
+fn opened_at_last<D: Crash + Drop>(
     alloc: Global,
     files: Files<D>,
 ) -> io::Result<Connection<FileStore<D>>> {
@@ -60,49 +66,88 @@ fn come_back<D: Crash>(files: Files<D>) -> Files<D> {
     files
 }
 
-/// Closes the files and opens them again.
-pub fn closed_and_opened<D: Disk + Drop>(
+/// Copies the log into the database file, closes both and opens them again.
+fn closed_and_opened<D: Disk + Drop>(
     alloc: Global,
-    connection: Connection<FileStore<D>>,
+    store: FileStore<D>,
 ) -> io::Result<Connection<FileStore<D>>> {
-    match connection.close_files() {
-        Ok(files) => opened(alloc, files),
-        Err((_, store)) => {
+    let mut store = store;
+    match store.checkpoint() {
+        Ok(()) => opened(alloc, store.close()),
+        Err(_) => {
             let _ = store.close();
             Err(io::Error::other("the files are not closed"))
         }
     }
 }
 
-/// Closes the files as far as they still do calls, lets the machine come back, by which what was not synced is lost, and
-/// opens them.
-pub fn come_back_and_opened<D: Crash + Drop>(
+/// Copies the log into the database file as far as both still do calls, closes them, lets the machine come back, by
+/// which what was not synced is lost, and opens them.
+fn come_back_and_opened<D: Crash + Drop>(
     alloc: Global,
-    connection: Connection<FileStore<D>>,
+    store: FileStore<D>,
 ) -> io::Result<Connection<FileStore<D>>> {
-    let files = match connection.close_files() {
-        Ok(files) => files,
-        Err((_, store)) => store.close(),
-    };
-    opened(alloc, come_back(files))
+    let mut store = store;
+    let _ = store.checkpoint();
+    opened(alloc, come_back(store.close()))
 }
 
 /// Files in memory.
 #[derive(Drop)]
 pub struct InMemory;
 
+impl Filed for FileStore<Memory> {
+    fn reopened(self, alloc: Global) -> io::Result<Connection<FileStore<Memory>>> {
+        closed_and_opened(alloc, self)
+    }
+}
+
 impl Shelf for InMemory {
-    type File = Memory;
+    type Store = FileStore<Memory>;
 
-    fn file(&self, alloc: Global) -> Memory {
-        Memory::new(alloc)
+    fn blank(&self, alloc: Global) -> io::Result<Connection<FileStore<Memory>>> {
+        let files = Files {
+            log: Memory::new(alloc),
+            db: Memory::new(alloc),
+        };
+        opened(alloc, files)
     }
 }
 
-/// Empty files in memory of which the log and the database do so many calls and then no more.
-pub fn stopping(alloc: Global, log: u64, db: u64) -> Files<Fuse<Memory>> {
-    Files {
-        log: Fuse::new(Memory::new(alloc), log),
-        db: Fuse::new(Memory::new(alloc), db),
+/// Files in memory of which the log and the database do so many calls and then no more, until the machine comes back:
+/// before they are opened again, and where they stop while the database is made.
+#[derive(Drop)]
+pub struct Stopping {
+    log: u64,
+    db: u64,
+}
+
+impl Filed for FileStore<Fuse<Memory>> {
+    fn reopened(self, alloc: Global) -> io::Result<Connection<FileStore<Fuse<Memory>>>> {
+        come_back_and_opened(alloc, self)
     }
 }
+
+impl Shelf for Stopping {
+    type Store = FileStore<Fuse<Memory>>;
+
+    fn blank(&self, alloc: Global) -> io::Result<Connection<FileStore<Fuse<Memory>>>> {
+        let files = Files {
+            log: Fuse::new(Memory::new(alloc), self.log),
+            db: Fuse::new(Memory::new(alloc), self.db),
+        };
+        opened_at_last(alloc, files)
+    }
+}
+
+impl Machine for Stopping {
+    fn stopping(&self, log: u64, db: u64) -> Stopping {
+        Stopping { log, db }
+    }
+}
+
+/// Files that do not stop.
+pub const LASTING: Stopping = Stopping {
+    log: u64::MAX,
+    db: u64::MAX,
+};
