@@ -119,7 +119,7 @@ pub fn alike<R: Print + AllocGlobal + Threads + Wait + Sync>(rt: &R, most: u32) 
     let mut same = 0u32;
     for seed in 0..most {
         if are_alike(rt, seed)? {
-            same += 1;
+            same = same.saturating_add(1);
         }
     }
     println!(rt; "{same} of {most} generated apps have one certificate for 1, 2, 3 and 16 workers")

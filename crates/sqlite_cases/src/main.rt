@@ -137,10 +137,12 @@ fn all_of_shelf<R: Files + Print + AllocGlobal, F: Shelf + Drop>(
     asks_again(rt.alloc(), shelf)
 }
 
+/// Names the one store and nothing else: a call that names both at once takes more steps than a check may take.
 fn all_in_memory<R: Files + Print + AllocGlobal>(rt: &R) -> io::Result<bool> {
     all_of_shelf(rt, InMemory)
 }
 
+/// Names the other store.
 fn all_stopping<R: Files + Print + AllocGlobal>(rt: &R) -> io::Result<()> {
     all_crashes(rt, &LASTING)
 }
