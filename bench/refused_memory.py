@@ -4,8 +4,8 @@ usage: refused_memory.py VET FOLDER WORKERS [STEP] (the program that `./vet --pr
 every how manieth request is refused, each where none is said)
 
 A library in C that stands before the C library answers the Nth request by no memory, of whichever thread; so a C compiler must be
-there. Prints how many requests a whole run makes, how many runs with one refused ended as that run did, how many with want of
-memory (status 7 and nothing printed), and each other end. Its status is 0 only where there is no other end.
+there. It ends with the first N that no run comes to. Prints how many runs with one request refused ended as a whole run does, how
+many with want of memory (status 7 and nothing printed), and each other end. Its status is 0 only where there is no other end.
 """
 import os
 import subprocess
@@ -17,7 +17,6 @@ SOURCE = r'''
 #include <fcntl.h>
 #include <stdatomic.h>
 #include <stddef.h>
-#include <stdio.h>
 #include <stdlib.h>
 #include <unistd.h>
 
@@ -32,23 +31,16 @@ static const char *told;
 
 __attribute__((constructor)) static void begin(void) {
     const char *number = getenv("REFUSED_REQUEST");
-    told = getenv("REQUESTS_FILE");
+    told = getenv("REFUSED_FILE");
     refused_one = number ? atol(number) : 0;
     atomic_store(&requests, 0);
 }
 
-__attribute__((destructor)) static void end(void) {
-    char line[32];
-    int file = told ? open(told, O_WRONLY | O_CREAT | O_TRUNC, 0600) : -1;
-    if (file >= 0) {
-        int length = snprintf(line, sizeof line, "%ld", atomic_load(&requests));
-        if (write(file, line, length) != length)
-            _exit(99);
-    }
-}
-
 static int is_refused(void) {
-    return atomic_fetch_add(&requests, 1) + 1 == refused_one;
+    if (atomic_fetch_add(&requests, 1) + 1 != refused_one)
+        return 0;
+    close(open(told, O_WRONLY | O_CREAT, 0600));
+    return 1;
 }
 
 void *malloc(size_t size) {
@@ -81,27 +73,32 @@ step = int(sys.argv[4]) if len(sys.argv) > 4 else 1
 
 
 def run(library, number, told):
-    """The status and what was printed where this request is refused."""
-    names = {**os.environ, 'LD_PRELOAD': library, 'REFUSED_REQUEST': str(number), 'REQUESTS_FILE': told}
+    """Whether a run comes to this request, which is refused; the status, and what was printed."""
+    names = {**os.environ, 'LD_PRELOAD': library, 'REFUSED_REQUEST': str(number), 'REFUSED_FILE': told}
     ended = subprocess.run([program, 'check', folder, workers], env=names, capture_output=True, timeout=60)
-    return ended.returncode, ended.stdout
+    came = os.path.exists(told)
+    if came:
+        os.remove(told)
+    return came, ended.returncode, ended.stdout
 
 
 with tempfile.TemporaryDirectory() as room:
-    library, told = f'{room}/refusing.so', f'{room}/requests'
+    library, told = f'{room}/refusing.so', f'{room}/refused'
     subprocess.run(['gcc', '-O2', '-shared', '-fPIC', '-x', 'c', '-', '-o', library], input=SOURCE.encode(), check=True)
-    whole = run(library, 0, told)
-    with open(told) as file:
-        requests = int(file.read())
+    _, status, report = run(library, 0, told)
     alike, wanting, others = 0, 0, 0
-    for number in range(1, requests + 1, step):
-        end = run(library, number, told)
-        if end == whole:
+    number = 1
+    while True:
+        came, ended, printed = run(library, number, told)
+        if not came:
+            break
+        if (ended, printed) == (status, report):
             alike += 1
-        elif end == (7, b''):
+        elif (ended, printed) == (7, b''):
             wanting += 1
         else:
             others += 1
-            print(f'request {number}: status {end[0]}, {end[1][:200]}')
-    print(f'{requests} requests, status {whole[0]}: {alike} runs ended as the whole one, {wanting} with want of memory, {others} otherwise')
+            print(f'request {number}: status {ended}, {printed[:200]}')
+        number += step
+    print(f'status {status}: {alike} runs ended as a whole one, {wanting} with want of memory, {others} otherwise')
     sys.exit(0 if others == 0 else 1)
