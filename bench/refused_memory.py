@@ -40,6 +40,7 @@ static int is_refused(void) {
     if (atomic_fetch_add(&requests, 1) + 1 != refused_one)
         return 0;
     close(open(told, O_WRONLY | O_CREAT, 0600));
+    errno = ENOMEM;
     return 1;
 }
 
