@@ -22,29 +22,35 @@ use std::thread::Threads;
 use verdict::judge;
 use worker_pool::Crew;
 
-/// Two workers with that gate.
-fn two<'a, R>(rt: &'a R, gate: &'a Meeting) -> Crew<'a, R, Meeting> {
+/// So many workers with that gate.
+fn crew_of<'a, R>(rt: &'a R, gate: &'a Meeting, workers: u8) -> Crew<'a, R, Meeting> {
     Crew {
         rt,
         gate,
-        workers: 2,
+        workers,
         seed: 1,
     }
 }
 
-/// Judges the app that lies here by two workers, by itself, for `check` and for a decision of a desk: whether they met.
+/// Judges the app that lies here by two workers: by itself, for `check D 2`, and for a decision of the desk of an office
+/// with two. The crews of these have one, so that the words and the office say how many work. Prints whether they met.
 fn meetings<R: Files + Print + AllocGlobal + Threads + Wait + Sync>(rt: &R) -> io::Result<()> {
     let alloc = rt.alloc();
     let parts = parts_here(rt)?;
     let gate = Meeting::new();
-    let judged = judge(alloc, &parts, &two(rt, &gate)).is_ok();
+    let judged = judge(alloc, &parts, &crew_of(rt, &gate, 2)).is_ok();
     println!(rt; "judge: {judged}, {}", gate.told())?;
     let gate = Meeting::new();
     let mut files = sample_here(rt)?;
-    let (status, _) = answer_for(alloc, &["check", "D", "2"], &mut files, &two(rt, &gate))?;
+    let (status, _) = answer_for(
+        alloc,
+        &["check", "D", "2"],
+        &mut files,
+        &crew_of(rt, &gate, 1),
+    )?;
     println!(rt; "check D 2: {status}, {}", gate.told())?;
     let gate = Meeting::new();
-    let replies = decided(rt, &two(rt, &gate))?;
+    let replies = decided(rt, &crew_of(rt, &gate, 1))?;
     println!(rt; "serve D 3: {replies}, {}", gate.told())
 }
 
