@@ -12,7 +12,6 @@ mod texts;
 mod words;
 
 pub use laws::a_clear_decision_is_of_a_safe_app;
-pub use lists_judge::{ListsJudge, OfficeLists};
 pub use outside::{Outside, Status};
 pub use run::serve;
 pub use words::database_path;

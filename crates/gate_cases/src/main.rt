@@ -5,15 +5,15 @@
 
 mod desk;
 mod folder;
-mod hard;
 mod made;
 mod meeting;
+mod odd_crews;
 
 use crate::desk::decided;
 use crate::folder::{answer_for, parts_here, sample_here};
-use crate::hard::{crowded, held, limited};
 use crate::made::{alike, made};
 use crate::meeting::Meeting;
+use crate::odd_crews::{crowded, held, limited};
 use std::io;
 use std::marker::Sync;
 use std::rt::Files;
