@@ -1,9 +1,11 @@
 #!/usr/bin/env bash
-# Plants wrong bodies, tables and definitions in a copy of the repository, one at a time, and says which crate's proof refuses each.
+# Plants wrong bodies, tables and definitions in a copy of the repository, one at a time, and says which crate's proof refuses each,
+# or which program's run where no contract can.
 #
 # usage: bench/plant.sh [WORD]      those of bench/plants.txt whose names hold the word; all without one
 #
-# To add one, write a block in bench/plants.txt. Each takes the proofs of the crates that it names, some minutes. The last line is
+# To add one, write a block in bench/plants.txt. Each takes the proofs of the crates that it names, some minutes, and if none
+# refuses it the build of the programs that it names, some minutes more. The last line is
 # 'N refused, M not refused, K cannot be planted'; the status is 0 only where all were refused.
 set -u
 top=$(cd "$(dirname "$0")/.." && pwd)
@@ -16,6 +18,7 @@ split() {
         /^plant: / { name = substr($0, 8); taken = index(name, word); if (taken) { at = sprintf("%s/plants/%03d", room, ++n); system("mkdir -p " at); print name > (at "/name") } next }
         !taken { next }
         /^crates: / { print substr($0, 9) > (at "/crates"); next }
+        /^runs: / { print substr($0, 7) > (at "/runs"); next }
         /^(file|old|new): / { print > (at "/changes") }
     ' "$top/bench/plants.txt"
 }
@@ -47,6 +50,14 @@ refused_by() {
     done
 }
 
+# The program that prints something else or ends otherwise with what is planted, or nothing.
+failed_run() {
+    local name
+    for name in "$@"; do
+        (cd "$room/copy/crates/$name" && rt run > "$room/log" 2>&1) || { printf '%s' "$name"; return; }
+    done
+}
+
 split "${1:-}"
 refused=0 passed=0 lost=0
 for plant in "$room"/plants/*/; do
@@ -64,6 +75,14 @@ for plant in "$room"/plants/*/; do
     by=$(refused_by "${crates[@]}")
     if [ -n "$by" ]; then
         printf '%s: refused by %s: %s\n' "$name" "$by" "$(grep -m 1 -E ': no proof|^note: .*not proved|^error' "$room/log" || tail -n 1 "$room/log")"
+        refused=$((refused + 1))
+        continue
+    fi
+    runs=()
+    [ -e "$plant/runs" ] && read -r -a runs < "$plant/runs"
+    by=$(failed_run "${runs[@]}")
+    if [ -n "$by" ]; then
+        printf '%s: refused by the run of %s: %s\n' "$name" "$by" "$(grep -m 1 -E "^rt: the program" "$room/log" || tail -n 1 "$room/log")"
         refused=$((refused + 1))
     else
         printf '%s: NOT REFUSED\n' "$name"
