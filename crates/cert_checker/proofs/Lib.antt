@@ -1,2 +1,5 @@
 pub mod Best
 pub mod Driven
+pub mod Nothing
+pub mod Places
+pub mod Strange
