@@ -2,10 +2,10 @@
 # Plants wrong bodies, tables and definitions in a copy of the repository, one at a time, and says which crate's proof refuses each,
 # or which program's run where no contract can.
 #
-# usage: bench/plant.sh [WORD]      those of bench/plants.txt whose names hold the word; all without one
+# usage: bench/plant.sh [WORD ..]      those of bench/plants.txt whose names hold one of the words; all without any
 #
-# To add one, write a block in bench/plants.txt. Each takes the proofs of the crates that it names, some minutes, and if none
-# refuses it the build of the programs that it names, some minutes more. The last line is
+# To add one, write a block in bench/plants.txt. The crates below are built once. Each plant takes the proofs of the crates that it
+# names, a minute or two, and if none refuses it the build of the programs that it names, some minutes more. The last line is
 # 'N refused, M not refused, K cannot be planted'; the status is 0 only where all were refused.
 set -u
 top=$(cd "$(dirname "$0")/.." && pwd)
@@ -14,8 +14,15 @@ trap 'rm -rf "$room"' EXIT
 
 # Splits the plants into folders of the room: name, crates, and a file of changes each.
 split() {
-    awk -v room="$room" -v word="${1:-}" '
-        /^plant: / { name = substr($0, 8); taken = index(name, word); if (taken) { at = sprintf("%s/plants/%03d", room, ++n); system("mkdir -p " at); print name > (at "/name") } next }
+    printf '%s\n' "$@" > "$room/words"
+    awk -v room="$room" '
+        BEGIN { while ((getline word < (room "/words")) > 0) words[++m] = word }
+        /^plant: / {
+            name = substr($0, 8); taken = 0
+            for (k = 1; k <= m; k++) if (words[k] == "" || index(name, words[k])) taken = 1
+            if (taken) { at = sprintf("%s/plants/%03d", room, ++n); system("mkdir -p " at); print name > (at "/name") }
+            next
+        }
         !taken { next }
         /^crates: / { print substr($0, 9) > (at "/crates"); next }
         /^runs: / { print substr($0, 7) > (at "/runs"); next }
@@ -42,6 +49,14 @@ for line in open(sys.argv[1], encoding="utf-8").read().splitlines():
 EOF
 }
 
+# Puts back what a plant has changed.
+restored() {
+    local file
+    sed -n 's/^file: //p' "$1/changes" | while read -r file; do
+        cp "$top/$file" "$room/copy/$file"
+    done
+}
+
 # The crate whose proof refuses what is planted, or nothing.
 refused_by() {
     local name
@@ -58,13 +73,15 @@ failed_run() {
     done
 }
 
-split "${1:-}"
+split "$@"
+mkdir "$room/copy"
+(cd "$top" && tar -cf - --exclude=out crates crates.txt HANDLES) | tar -xf - -C "$room/copy"
 refused=0 passed=0 lost=0
+last=
 for plant in "$room"/plants/*/; do
     [ -d "$plant" ] || continue
-    rm -rf "$room/copy"
-    mkdir "$room/copy"
-    (cd "$top" && tar -cf - --exclude=out crates crates.txt HANDLES) | tar -xf - -C "$room/copy"
+    [ -n "$last" ] && restored "$last"
+    last=$plant
     name=$(cat "$plant/name")
     if ! planted "$plant"; then
         printf '%s: CANNOT BE PLANTED\n' "$name"
@@ -74,7 +91,7 @@ for plant in "$room"/plants/*/; do
     read -r -a crates < "$plant/crates"
     by=$(refused_by "${crates[@]}")
     if [ -n "$by" ]; then
-        printf '%s: refused by %s: %s\n' "$name" "$by" "$(grep -m 1 -E ': no proof|^note: .*not proved|^error' "$room/log" || tail -n 1 "$room/log")"
+        printf '%s: refused by %s: %s\n' "$name" "$by" "$(grep -m 1 -E '^fn .*: (no proof|not proved)|error:' "$room/log" || tail -n 1 "$room/log")"
         refused=$((refused + 1))
         continue
     fi
