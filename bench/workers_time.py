@@ -6,8 +6,8 @@ SEED SIZE 1` and those of a folder by `--keys 5 bench-dir DIR`; a folder to work
 methods, SEEDxCLASSES for a drawn one, which Debian's smali assembles; 2000, 16000 and 4x10 where none is said)
 
 Prints for each app the rows, and for 1, 2, 4 and 16 workers the least time by the clock of five runs of `check`, the processor time
-of that run, and whether the report is that of one worker. Only the search for what follows is shared out: reading, linking, the
-checker and the sort at the end are one thread's.
+of that run, and whether the report is that of one worker. The search for what follows and its check are shared out: reading,
+linking and the sort at the end are one thread's.
 """
 import re
 import subprocess
