@@ -5,8 +5,8 @@
 # usage: bench/plant.sh [WORD ..]      those of bench/plants.txt whose names hold one of the words; all without any
 #
 # To add one, write a block in bench/plants.txt. The crates below are built once. Each plant takes the proofs of the crates that it
-# names, a minute or two, and if none refuses it the build of the programs that it names, some minutes more. The last line is
-# 'N refused, M not refused, K cannot be planted'; the status is 0 only where all were refused.
+# names, a minute or two, or a run of the programs that it names, unproved, as long; each program is first run with nothing planted.
+# The last line is 'N refused, M not refused, K cannot be planted'; the status is 0 only where all were refused.
 set -u
 top=$(cd "$(dirname "$0")/.." && pwd)
 room=$(mktemp -d)
@@ -65,17 +65,52 @@ refused_by() {
     done
 }
 
+# Runs a program, unproved, over its data with its words. 0: it prints what is due and ends as is due; 1: it does not; 2: it did not
+# run. Why stands in the log.
+ran() (
+    cd "$room/copy/crates/$1" || return 2
+    data=()
+    while read -r file; do data+=(--data "${file#data/}=$file"); done < <(find data -type f)
+    mapfile -t words < args
+    rt try "${data[@]}" -- "${words[@]}" > "$room/printed" 2> "$room/log"
+    ended=$(sed -n 's/^run=ended status=\([0-9]*\).*/\1/p' "$room/log")
+    due=$(cat status 2> /dev/null || printf 0)
+    [ -n "$ended" ] || return 2
+    if [ "$ended" != "$due" ]; then
+        printf 'it ends with %s in place of %s\n' "$ended" "$due" > "$room/log"
+        return 1
+    fi
+    cmp -s stdout "$room/printed" && return 0
+    printf 'it prints something else\n' > "$room/log"
+    return 1
+)
+
+# What the log says of a refusal, in one line.
+told() {
+    { grep -m 1 -E '^fn .*: (no proof|not proved)|error:' "$room/log" || tail -n 1 "$room/log"; } | cut -c 1-240
+}
+
+# Whether each of the programs prints and ends as is due with nothing planted.
+are_sound() {
+    local name
+    for name in "$@"; do
+        [ -n "${sound[$name]:-}" ] || { ran "$name" && sound[$name]=1; } || return 1
+    done
+}
+
 # The program that prints something else or ends otherwise with what is planted, or nothing.
 failed_run() {
     local name
     for name in "$@"; do
-        (cd "$room/copy/crates/$name" && rt run > "$room/log" 2>&1) || { printf '%s' "$name"; return; }
+        ran "$name"
+        [ $? -eq 1 ] && { printf '%s' "$name"; return; }
     done
 }
 
 split "$@"
 mkdir "$room/copy"
 (cd "$top" && tar -cf - --exclude=out crates crates.txt HANDLES) | tar -xf - -C "$room/copy"
+declare -A sound=()
 refused=0 passed=0 lost=0
 last=
 for plant in "$room"/plants/*/; do
@@ -83,23 +118,23 @@ for plant in "$room"/plants/*/; do
     [ -n "$last" ] && restored "$last"
     last=$plant
     name=$(cat "$plant/name")
-    if ! planted "$plant"; then
+    crates=() runs=()
+    [ -e "$plant/crates" ] && read -r -a crates < "$plant/crates"
+    [ -e "$plant/runs" ] && read -r -a runs < "$plant/runs"
+    if ! { are_sound "${runs[@]}" && planted "$plant"; }; then
         printf '%s: CANNOT BE PLANTED\n' "$name"
         lost=$((lost + 1))
         continue
     fi
-    read -r -a crates < "$plant/crates"
     by=$(refused_by "${crates[@]}")
     if [ -n "$by" ]; then
-        printf '%s: refused by %s: %s\n' "$name" "$by" "$(grep -m 1 -E '^fn .*: (no proof|not proved)|error:' "$room/log" || tail -n 1 "$room/log")"
+        printf '%s: refused by %s: %s\n' "$name" "$by" "$(told)"
         refused=$((refused + 1))
         continue
     fi
-    runs=()
-    [ -e "$plant/runs" ] && read -r -a runs < "$plant/runs"
     by=$(failed_run "${runs[@]}")
     if [ -n "$by" ]; then
-        printf '%s: refused by the run of %s: %s\n' "$name" "$by" "$(grep -m 1 -E "^rt: the program" "$room/log" || tail -n 1 "$room/log")"
+        printf '%s: refused by the run of %s: %s\n' "$name" "$by" "$(told)"
         refused=$((refused + 1))
     else
         printf '%s: NOT REFUSED\n' "$name"
