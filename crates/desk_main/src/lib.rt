@@ -3,36 +3,85 @@
 //! other words are those of `vet_main`. `vet` runs it, and so does the program that tests it.
 #![tactic(auto)]
 
+ghost use Rattle.std.specs.Prelude.{map, option_map, string_bytes};
+ghost use Rattle.std.specs.Process.{exit_status};
+ghost use Rattle.desk_serving.specs.Obeying.{TellsDocket};
+ghost use Rattle.desk_service.specs.Saying.{status};
+ghost use Rattle.desk_service.specs.Serving.{seen, Answers};
+ghost use Rattle.desk_service.specs.Words.{parse};
+
 mod keepers;
 
+use case_keeper::Keeper;
 use desk_host::{HostClock, TcpDoor};
-use desk_service::{Outside, database_path, serve};
+use desk_links::{Clock, Door};
+use desk_service::{Outside, Status, database_path, serve};
 pub use keepers::{InMemory, Keepers};
+use std::alloc::Global;
 use std::env::Env;
 use std::marker::Sync;
 use std::net::Net;
 use std::process::ExitCode;
 use std::random::RandomSource;
-use std::rt::Files;
+use std::rt::Files as SystemFiles;
 use std::sync::Wait;
 use std::thread::Threads;
-use std::time::Clock;
-use vet_base::Memory;
-use vet_main::{seed_of, vetted, words_from};
+use std::time::Clock as SystemClock;
+use vet_base::{Files, Memory, Sink};
+use vet_main::{judged, seed_of, words_from};
 use vetting_desk::{HostFiles, StandardSink};
 use worker_pool::{Crew, NoGate};
 
-/// Serves a desk where the words ask for one: over the system's files and clock, a port of this machine, and the keeper of
-/// the cases in `desk.sqlite` in the folder of the office. `None` where they ask for something else.
-fn served<R, K>(rt: R, keepers: &K, words: &[String], seed: u64) -> Option<u8>
+/// Serves a desk where the words ask for one, over this outside, with threads of the system; `None` where they ask for
+/// something else. What `serve` says of its status is so of the exit status.
+pub fn served<F, O, K, D, C, T>(
+    alloc: Global,
+    words: &[String],
+    outside: &mut Outside<F, O, K, D, C>,
+    rt: &T,
+    seed: u64,
+) -> Option<ExitCode>
 where
-    R: Files + Print + Net + Clock + AllocGlobal + Threads + Wait + Sync + Copy + Drop,
+    F: Files,
+    O: Sink,
+    K: Keeper,
+    D: Door,
+    C: Clock,
+    T: Threads + Wait + Sync,
+    // The keeper's cases, where it tells them, are those of a desk.
+    requires { TellsDocket (K.told outside.old.keeper) }
+
+    // The exit status, the printed text and what became of cases and connections are those that are due to the words, unless
+    // a read, the door or the put failed in this very call, or memory ran out.
+    ensures answers { Answers (parse (map string_bytes words.now)) (C.told outside.old.clock)
+        (seen (F.told outside.old.files) (F.fault_count outside.old.files) (O.taken outside.old.out) (O.fault_count outside.old.out)
+        (K.told outside.old.keeper) (K.fault_count outside.old.keeper) (D.Link.told outside.old.door) (D.Link.fault_count outside.old.door))
+        (seen (F.told outside.new.files) (F.fault_count outside.new.files) (O.taken outside.new.out) (O.fault_count outside.new.out)
+        (K.told outside.new.keeper) (K.fault_count outside.new.keeper) (D.Link.told outside.new.door) (D.Link.fault_count outside.new.door))
+        (option_map (λ code. status (exit_status code)) result) }
+    ensures docket { TellsDocket (K.told outside.new.keeper) }
+{
+    let crew = Crew {
+        rt,
+        gate: &NoGate,
+        workers: 1,
+        seed,
+    };
+    let Status(status) = serve(alloc, words, outside, &crew)?;
+    Some(ExitCode::from(status))
+}
+
+/// Serves over the system's files, output and clock, a port of this machine, and the keeper of the cases in `desk.sqlite`
+/// in the folder of the office; `None` where the words ask for no desk.
+fn served_here<R, K>(rt: R, keepers: &K, words: &[String], seed: u64) -> Option<ExitCode>
+where
+    R: SystemFiles + Print + Net + SystemClock + AllocGlobal + Threads + Wait + Sync + Copy + Drop,
     K: Keepers,
 {
     let alloc = rt.alloc();
     let path = match database_path(alloc, words) {
         Ok(path) => path?,
-        Err(Memory) => return Some(7),
+        Err(Memory) => return Some(ExitCode::from(7)),
     };
     let mut outside = Outside {
         files: HostFiles::new(rt),
@@ -41,14 +90,7 @@ where
         door: TcpDoor::new(rt),
         clock: HostClock::new(rt),
     };
-    let crew = Crew {
-        rt: &rt,
-        gate: &NoGate,
-        workers: 1,
-        seed,
-    };
-    let status = serve(alloc, words, &mut outside, &crew)?;
-    Some(status.0)
+    served(alloc, words, &mut outside, &rt, seed)
 }
 
 /// Runs the words that the system gives over its files, prints the answer to the standard output, and gives the status
@@ -56,12 +98,12 @@ where
 /// the folder of the office.
 pub fn run<R, K>(rt: R, keepers: &K) -> ExitCode
 where
-    R: Files
+    R: SystemFiles
         + Env
         + RandomSource
         + Print
         + Net
-        + Clock
+        + SystemClock
         + AllocGlobal
         + Threads
         + Wait
@@ -72,11 +114,18 @@ where
 {
     let words = match words_from(&rt) {
         Ok(words) => words,
-        Err(status) => return ExitCode::from(status),
+        Err(code) => return code,
     };
     let seed = seed_of(&rt);
-    match served(rt, keepers, &words, seed) {
-        Some(status) => ExitCode::from(status),
-        None => ExitCode::from(vetted(rt, &words, seed)),
+    if let Some(code) = served_here(rt, keepers, &words, seed) {
+        return code;
     }
+    judged(
+        rt.alloc(),
+        &words,
+        &mut HostFiles::new(rt),
+        &mut StandardSink::new(rt),
+        &rt,
+        seed,
+    )
 }

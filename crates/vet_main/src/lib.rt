@@ -2,15 +2,23 @@
 //! and its status is the exit status. `vet` runs it where its words ask for no desk, and so do the programs that test it.
 #![tactic(auto)]
 
+ghost use Rattle.std.specs.Prelude.{◌≡◌, map, string_bytes, IfErr};
+ghost use Rattle.std.specs.Process.{exit_status};
+ghost use Rattle.vetting_desk.specs.Words.{parse};
+ghost use Rattle.vetting_desk.specs.Answer.{SaysClear, IsSafe, SaysFound};
+ghost use Rattle.vetting_desk.specs.Outside.{outside};
+ghost use Rattle.vetting_desk.specs.Top.{EndsAsDue, EndsAsOnlyDue, PrintsFullReport};
+
 use std::alloc::Global;
 use std::env::Env;
 use std::marker::Sync;
 use std::process::ExitCode;
 use std::random::RandomSource;
-use std::rt::Files;
+use std::rt::Files as SystemFiles;
 use std::sync::Wait;
 use std::thread::Threads;
 use std::{env, io};
+use vet_base::{Files, Sink};
 use vetting_desk::{HostFiles, StandardSink, Status, vet, words_given};
 use worker_pool::{Crew, NoGate};
 
@@ -23,12 +31,14 @@ fn words_of(rt: &(impl Env + AllocGlobal), alloc: Global) -> io::Result<Vec<Stri
     Ok(words)
 }
 
-/// The words that the system gives, or the exit status where it gives none that are text.
-pub fn words_from(rt: &(impl Env + AllocGlobal)) -> Result<Vec<String>, u8> {
+/// The words that the system gives, none where they are no text; or the exit status of want of memory.
+pub fn words_from(rt: &(impl Env + AllocGlobal)) -> Result<Vec<String>, ExitCode>
+    ensures { IfErr result (λ code. exit_status code ≡ 7) }
+{
     let alloc = rt.alloc();
     match words_given(alloc, words_of(rt, alloc)) {
         Ok(words) => Ok(words),
-        Err(Status(status)) => Err(status),
+        Err(Status(code)) => Err(ExitCode::from(code)),
     }
 }
 
@@ -41,32 +51,63 @@ pub fn seed_of(rt: &impl RandomSource) -> u64 {
     }
 }
 
-/// Judges as the words ask, over the system's files and its standard output: the exit status.
-pub fn vetted<R: Files + Print + AllocGlobal + Threads + Wait + Sync + Copy + Drop>(
-    rt: R,
+/// Judges as the words ask, over these files and this output, with threads of the system. What `vet` says of its status
+/// is so of the exit status.
+pub fn judged<F: Files, O: Sink, T: Threads + Wait + Sync>(
+    alloc: Global,
     words: &[String],
+    files: &mut F,
+    out: &mut O,
+    rt: &T,
     seed: u64,
-) -> u8 {
-    let mut files = HostFiles::new(rt);
-    let mut out = StandardSink::new(rt);
+) -> ExitCode
+    // The exit status, the printed text and the files are those that are due to the words, unless a read or the put failed
+    // in this very call, or memory ran out.
+    ensures ends { EndsAsDue (parse (map string_bytes words.now))
+        (outside (F.told files.old) (F.fault_count files.old) (O.taken out.old) (O.fault_count out.old))
+        (outside (F.told files.new) (F.fault_count files.new) (O.taken out.new) (O.fault_count out.new)) (exit_status result) }
+
+    // Nothing else is due, where the files tell what they hold.
+    ensures only { EndsAsOnlyDue (parse (map string_bytes words.now))
+        (outside (F.told files.old) (F.fault_count files.old) (O.taken out.old) (O.fault_count out.old))
+        (outside (F.told files.new) (F.fault_count files.new) (O.taken out.new) (O.fault_count out.new)) (exit_status result) }
+
+    // Clear is a theorem about the very bytes handed in.
+    ensures sound { SaysClear (parse (map string_bytes words.now)) (exit_status result) →
+        IsSafe (parse (map string_bytes words.now)) (record { files = F.told files.old; printed = O.taken out.old }) }
+
+    // Flagged and undecided leave out nothing that a run of the app does, unless the app is too large.
+    ensures full { SaysFound (parse (map string_bytes words.now)) (exit_status result) →
+        PrintsFullReport (parse (map string_bytes words.now))
+        (outside (F.told files.old) (F.fault_count files.old) (O.taken out.old) (O.fault_count out.old))
+        (outside (F.told files.new) (F.fault_count files.new) (O.taken out.new) (O.fault_count out.new)) (exit_status result) }
+{
     let crew = Crew {
-        rt: &rt,
+        rt,
         gate: &NoGate,
         workers: 1,
         seed,
     };
-    let Status(status) = vet(rt.alloc(), words, &mut files, &mut out, &crew);
-    status
+    let Status(status) = vet(alloc, words, files, out, &crew);
+    ExitCode::from(status)
 }
 
 /// Runs the words that the system gives over its files, prints the answer to the standard output, and gives the status
 /// of the top call as the exit status.
 pub fn run<R>(rt: R) -> ExitCode
 where
-    R: Files + Env + RandomSource + Print + AllocGlobal + Threads + Wait + Sync + Copy + Drop,
+    R: SystemFiles + Env + RandomSource + Print + AllocGlobal + Threads + Wait + Sync + Copy + Drop,
 {
-    match words_from(&rt) {
-        Ok(words) => ExitCode::from(vetted(rt, &words, seed_of(&rt))),
-        Err(status) => ExitCode::from(status),
-    }
+    let words = match words_from(&rt) {
+        Ok(words) => words,
+        Err(code) => return code,
+    };
+    judged(
+        rt.alloc(),
+        &words,
+        &mut HostFiles::new(rt),
+        &mut StandardSink::new(rt),
+        &rt,
+        seed_of(&rt),
+    )
 }
