@@ -28,7 +28,7 @@ use std::sync::Wait;
 use std::thread::Threads;
 use std::time::Clock as SystemClock;
 use vet_base::{Files, Memory, Sink};
-use vet_main::{judged, seed_of, words_from};
+use vet_main::{seed_of, vetted_here, words_from};
 use vetting_desk::{HostFiles, StandardSink};
 use worker_pool::{Crew, NoGate};
 
@@ -117,15 +117,8 @@ where
         Err(code) => return code,
     };
     let seed = seed_of(&rt);
-    if let Some(code) = served_here(rt, keepers, &words, seed) {
-        return code;
+    match served_here(rt, keepers, &words, seed) {
+        Some(code) => code,
+        None => vetted_here(rt, &words, seed),
     }
-    judged(
-        rt.alloc(),
-        &words,
-        &mut HostFiles::new(rt),
-        &mut StandardSink::new(rt),
-        &rt,
-        seed,
-    )
 }

@@ -53,7 +53,7 @@ pub fn seed_of(rt: &impl RandomSource) -> u64 {
 
 /// Judges as the words ask, over these files and this output, with threads of the system. What `vet` says of its status
 /// is so of the exit status.
-pub fn judged<F: Files, O: Sink, T: Threads + Wait + Sync>(
+pub fn vetted<F: Files, O: Sink, T: Threads + Wait + Sync>(
     alloc: Global,
     words: &[String],
     files: &mut F,
@@ -92,22 +92,24 @@ pub fn judged<F: Files, O: Sink, T: Threads + Wait + Sync>(
     ExitCode::from(status)
 }
 
+/// Judges as the words ask, over the files and the output of the system.
+pub fn vetted_here<R>(rt: R, words: &[String], seed: u64) -> ExitCode
+where
+    R: SystemFiles + Print + AllocGlobal + Threads + Wait + Sync + Copy + Drop,
+{
+    let mut files = HostFiles::new(rt);
+    let mut out = StandardSink::new(rt);
+    vetted(rt.alloc(), words, &mut files, &mut out, &rt, seed)
+}
+
 /// Runs the words that the system gives over its files, prints the answer to the standard output, and gives the status
 /// of the top call as the exit status.
 pub fn run<R>(rt: R) -> ExitCode
 where
     R: SystemFiles + Env + RandomSource + Print + AllocGlobal + Threads + Wait + Sync + Copy + Drop,
 {
-    let words = match words_from(&rt) {
-        Ok(words) => words,
-        Err(code) => return code,
-    };
-    judged(
-        rt.alloc(),
-        &words,
-        &mut HostFiles::new(rt),
-        &mut StandardSink::new(rt),
-        &rt,
-        seed_of(&rt),
-    )
+    match words_from(&rt) {
+        Ok(words) => vetted_here(rt, &words, seed_of(&rt)),
+        Err(code) => code,
+    }
 }
