@@ -8,16 +8,16 @@ use Rattle.app_machine.specs.declared.papers.Manifest.{Manifest}
 use Rattle.app_machine.specs.declared.papers.Layouts.{Layouts}
 use Rattle.app_link.specs.declared.linking.LinkFault.{LinkFault}
 use Rattle.app_link.specs.declared.linking.LinkFault.TheVariants as told
-use Rattle.app_listing.specs.declared.fault.Fault.{Fault}
-use Rattle.method_code.specs.declared.coded.Coded.{Coded}
-use Rattle.method_code.specs.Code.{all_codes}
-use Rattle.method_code.specs.Units.{units_in}
+use Rattle.link_listing.specs.declared.fault.Fault.{Fault}
+use Rattle.link_code.specs.declared.coded.Coded.{Coded}
+use Rattle.link_code.specs.Code.{all_codes}
+use Rattle.link_code.specs.Units.{units_in}
 use Rattle.app_link.specs.FirstLinkFault.{FirstFault, of_gathering, of_hierarchy, of_code, of_limits, StopsAtFirst, FirstLinkFault, shown}
-use Rattle.app_listing.specs.Gathered.{Gathered, gathering}
-use Rattle.class_hierarchy.specs.Hierarchy.{NoCircle}
+use Rattle.link_listing.specs.Gathered.{Gathered, gathering}
+use Rattle.link_hierarchy.specs.Hierarchy.{NoCircle}
 use Rattle.app_link.specs.Limits.{within_limits}
 use Rattle.app_link.proofs.Limits.{same_limits}
-use Rattle.class_hierarchy.specs.Settled.{StopsAtCircle}
+use Rattle.link_hierarchy.specs.Settled.{StopsAtCircle}
 
 module _ (dexes : List Dex) (manifest : Manifest) where
   pub at_gathering : (e : Stop Fault) → Fails e (run (gathering dexes manifest)) → StopsAtFirst dexes manifest e

@@ -11,10 +11,10 @@ use Rattle.vet_base.specs.Members.{In}
 use Rattle.app_machine.specs.Names.{Name}
 use Rattle.vet_base.specs.Ascending.{Ascends}
 use Rattle.app_machine.specs.Sound.{name_order, class_order, IsAbove, directly, beyond}
-use Rattle.app_listing.specs.Orders.{named, has_name}
-use Rattle.class_hierarchy.specs.Hierarchy.{Above, NoCircle, without_outer, renamed}
-use Rattle.class_hierarchy.specs.Hierarchy as hierarchy
-use Rattle.class_hierarchy.proofs.Entries.{entry_of, found_in}
+use Rattle.link_listing.specs.Orders.{named, has_name}
+use Rattle.link_hierarchy.specs.Hierarchy.{Above, NoCircle, without_outer, renamed}
+use Rattle.link_hierarchy.specs.Hierarchy as hierarchy
+use Rattle.link_hierarchy.proofs.Entries.{entry_of, found_in}
 use Rattle.std.proofs.lemmas.Bool.{cases_Bool}
 use Rattle.vet_base.proofs.Texts.{tied_equal}
 

@@ -10,11 +10,11 @@ use Rattle.vet_base.specs.Members.{In}
 use Rattle.app_machine.specs.Names.{Name}
 use Rattle.app_machine.specs.Events.{IsApplication}
 use Rattle.app_machine.specs.Sound.{SoundApp, SoundMethod}
-use Rattle.app_listing.specs.MemberRows.{Fields}
-use Rattle.app_listing.specs.Components.{NoApplication, OnlyFirst}
-use Rattle.app_listing.specs.Orders.{has_name}
+use Rattle.link_listing.specs.MemberRows.{Fields}
+use Rattle.link_listing.specs.Components.{NoApplication, OnlyFirst}
+use Rattle.link_listing.specs.Orders.{has_name}
 use Rattle.app_link.specs.Keys.{all_keys}
-use Rattle.class_hierarchy.specs.Hierarchy.{without_outer, renamed}
+use Rattle.link_hierarchy.specs.Hierarchy.{without_outer, renamed}
 use Rattle.app_link.specs.Frame.{IsFrame}
 use Rattle.app_link.proofs.FrameClasses.{classes_ascend, no_circle, class_of_entry}
 use Rattle.app_link.proofs.KeyOrder.{instances, are_keys, instances_ascend, few_keys}

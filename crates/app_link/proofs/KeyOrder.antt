@@ -9,11 +9,11 @@ use Rattle.app_machine.specs.declared.app.Key.{Key}
 use Rattle.app_machine.specs.declared.app.Key.TheVariants.{Field}
 use Rattle.vet_base.specs.Ascending.{Ascends}
 use Rattle.app_machine.specs.Sound.{AreKeys, field_order}
-use Rattle.app_listing.specs.Texts.{Triple}
-use Rattle.app_listing.specs.MemberRows.{Fields}
-use Rattle.app_listing.specs.Orders.{triple_order}
+use Rattle.link_listing.specs.Texts.{Triple}
+use Rattle.link_listing.specs.MemberRows.{Fields}
+use Rattle.link_listing.specs.Orders.{triple_order}
 use Rattle.app_link.specs.Keys.{key_unless, key_if, all_keys}
-use Rattle.method_code.proofs.FieldOrder.{ascends_as_fields}
+use Rattle.link_code.proofs.FieldOrder.{ascends_as_fields}
 use Rattle.vet_base.proofs.Ascending.{ascends_from_sorted}
 
 abbrev field_unless : Bool → Triple → List Triple

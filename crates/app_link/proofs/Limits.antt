@@ -2,11 +2,11 @@
 use Rattle.std.proofs.Common.{◌≡◌, ◌<◌, ◌≤◌, ℕ, min, Bool, Ok, List, ap, arith, ◌∙◌}
 use Rattle.std.specs.Prelude.{nat_le}
 use Rattle.vet_base.specs.Script.{Script, Value, Test, run}
-use Rattle.app_listing.specs.declared.fault.Fault.{Fault}
-use Rattle.app_listing.specs.declared.fault.Fault.TheVariants.{TooMany}
-use Rattle.app_listing.specs.declared.fault.Limit.TheVariants as limits
-use Rattle.method_code.specs.declared.coded.Coded.{Coded}
-use Rattle.method_code.specs.SoFar.{SoFar, lines_in}
+use Rattle.link_listing.specs.declared.fault.Fault.{Fault}
+use Rattle.link_listing.specs.declared.fault.Fault.TheVariants.{TooMany}
+use Rattle.link_listing.specs.declared.fault.Limit.TheVariants as limits
+use Rattle.link_code.specs.declared.coded.Coded.{Coded}
+use Rattle.link_code.specs.SoFar.{SoFar, lines_in}
 use Rattle.app_link.specs.Limits.{within_limits, WithinLimits}
 use Rattle.std.proofs.lemmas.Bool.{leb-true, le-leb}
 use Rattle.std.proofs.lemmas.Bool.Decides.{nat_tests}

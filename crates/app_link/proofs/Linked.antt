@@ -9,20 +9,20 @@ use Rattle.app_machine.specs.declared.method.Method.{Method}
 use Rattle.app_machine.specs.declared.papers.Manifest.{Manifest}
 use Rattle.app_machine.specs.declared.papers.Layouts.{Layouts}
 use Rattle.app_machine.specs.Names.{Name}
-use Rattle.method_code.specs.declared.coded.Coded.{Coded}
-use Rattle.method_code.specs.Code.{all_codes}
-use Rattle.method_code.specs.Units.{units_in}
-use Rattle.app_listing.specs.declared.fault.Fault.{Fault}
-use Rattle.app_listing.specs.Components.{providers_of}
+use Rattle.link_code.specs.declared.coded.Coded.{Coded}
+use Rattle.link_code.specs.Code.{all_codes}
+use Rattle.link_code.specs.Units.{units_in}
+use Rattle.link_listing.specs.declared.fault.Fault.{Fault}
+use Rattle.link_listing.specs.Components.{providers_of}
 use Rattle.app_link.specs.Frame.{IsFrame, before_code}
-use Rattle.app_listing.specs.Gathered.{Gathered, gathering}
-use Rattle.class_hierarchy.specs.Hierarchy.{HasOuters, without_outer, renamed}
+use Rattle.link_listing.specs.Gathered.{Gathered, gathering}
+use Rattle.link_hierarchy.specs.Hierarchy.{HasOuters, without_outer, renamed}
 use Rattle.app_link.specs.IsApp.{IsApp}
 use Rattle.app_link.specs.Limits.{within_limits}
-use Rattle.method_code.specs.Methods.{all_methods}
-use Rattle.method_code.specs.StaticList.{AreStatics}
-use Rattle.method_code.proofs.AreCoded.{coding_stands}
-use Rattle.app_listing.proofs.InFiles.{gathering_stands}
+use Rattle.link_code.specs.Methods.{all_methods}
+use Rattle.link_code.specs.StaticList.{AreStatics}
+use Rattle.link_code.proofs.AreCoded.{coding_stands}
+use Rattle.link_listing.proofs.InFiles.{gathering_stands}
 use Rattle.app_link.proofs.Limits.{limits_stand, same_limits}
 
 within : (dexes : List Dex) (gathered : Gathered) (classes methods fields units : ℕ) → classes ≡ length gathered.classes → methods ≡ length gathered.methods → fields ≡ length gathered.fields → units ≡ min (units_in dexes gathered.methods) 18446744073709551615

@@ -15,31 +15,31 @@ use Rattle.app_machine.specs.declared.papers.Layouts.{Layouts}
 use Rattle.vet_base.specs.Members.{In}
 use Rattle.app_machine.specs.Names.{Name}
 use Rattle.app_machine.specs.Sound.{name_order}
-use Rattle.app_listing.specs.declared.fault.Fault.{Fault}
-use Rattle.app_listing.specs.declared.fault.Fault.TheVariants.{Circle}
-use Rattle.method_code.specs.declared.coded.Coded.{Coded}
-use Rattle.method_code.specs.Code.{all_codes}
-use Rattle.method_code.specs.Units.{units_in}
+use Rattle.link_listing.specs.declared.fault.Fault.{Fault}
+use Rattle.link_listing.specs.declared.fault.Fault.TheVariants.{Circle}
+use Rattle.link_code.specs.declared.coded.Coded.{Coded}
+use Rattle.link_code.specs.Code.{all_codes}
+use Rattle.link_code.specs.Units.{units_in}
 use Rattle.app_link.specs.declared.linking.LinkFault.{LinkFault}
 use Rattle.app_link.specs.declared.linking.LinkFault.TheVariants.{Memory as want_of_memory}
 use Rattle.app_link.specs.FirstLinkFault.{FirstFault, FirstLinkFault, of_gathering, of_hierarchy, of_code, of_limits, shown}
 use Rattle.app_link.specs.Frame.{before_code}
-use Rattle.app_listing.specs.Gathered.{Gathered, gathering}
-use Rattle.class_hierarchy.specs.Hierarchy.{Above, NoCircle, IsLeastCircle, without_outer, renamed}
+use Rattle.link_listing.specs.Gathered.{Gathered, gathering}
+use Rattle.link_hierarchy.specs.Hierarchy.{Above, NoCircle, IsLeastCircle, without_outer, renamed}
 use Rattle.app_link.specs.IsApp.{IsApp}
 use Rattle.app_link.specs.Keys.{all_keys}
 use Rattle.app_link.specs.Limits.{within_limits}
-use Rattle.method_code.specs.Methods.{all_methods}
+use Rattle.link_code.specs.Methods.{all_methods}
 use Rattle.app_link.specs.OneAnswer.{OneAnswer, OnlyApp}
-use Rattle.app_listing.specs.Orders.{triple_order}
-use Rattle.class_hierarchy.specs.Settled.{Outers, AllSettled, filled_by}
-use Rattle.method_code.specs.StaticList.{statics_named}
-use Rattle.app_listing.specs.Texts.{Triple}
-use Rattle.method_code.proofs.AreCoded.{coding_runs}
-use Rattle.app_listing.proofs.InFiles.{gathering_runs}
+use Rattle.link_listing.specs.Orders.{triple_order}
+use Rattle.link_hierarchy.specs.Settled.{Outers, AllSettled, filled_by}
+use Rattle.link_code.specs.StaticList.{statics_named}
+use Rattle.link_listing.specs.Texts.{Triple}
+use Rattle.link_code.proofs.AreCoded.{coding_runs}
+use Rattle.link_listing.proofs.InFiles.{gathering_runs}
 use Rattle.app_link.proofs.Limits.{limits_run}
-use Rattle.class_hierarchy.proofs.OneHierarchy.{classes_are, one_circle}
-use Rattle.app_listing.proofs.Triples.{triple_total}
+use Rattle.link_hierarchy.proofs.OneHierarchy.{classes_are, one_circle}
+use Rattle.link_listing.proofs.Triples.{triple_total}
 use Rattle.vet_base.proofs.Results.{ok_or_err, one_ok, one_err}
 use Rattle.vet_base.proofs.Ascending.{ascending_alike}
 

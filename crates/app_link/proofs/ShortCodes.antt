@@ -6,8 +6,8 @@ use Rattle.dex_reader.specs.declared.dex.ClassDef.{ClassDef}
 use Rattle.dex_reader.specs.declared.dex.Body.{Body}
 use Rattle.dex_reader.specs.declared.dex.RawCode.{RawCode}
 use Rattle.dex_reader.specs.Sound.{SoundDex, IsSoundClass, IsSoundBody, IfCode, rows_of}
-use Rattle.app_listing.specs.declared.members.Place.{Place}
-use Rattle.method_code.specs.Code.{ShortCode, ShortCodes, code_at, bodies_of}
+use Rattle.link_listing.specs.declared.members.Place.{Place}
+use Rattle.link_code.specs.Code.{ShortCode, ShortCodes, code_at, bodies_of}
 use Rattle.vet_base.proofs.Lists.{All-slice_get}
 
 bodies_sound : (dex : Dex) (def : ClassDef) (is_virtual : Bool) → IsSoundClass (rows_of dex) def → All (IsSoundBody (rows_of dex)) (bodies_of def is_virtual)

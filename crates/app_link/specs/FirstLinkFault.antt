@@ -7,17 +7,17 @@ use Rattle.dex_reader.specs.declared.dex.Dex.{Dex}
 use Rattle.app_machine.specs.declared.papers.Manifest.{Manifest}
 use Rattle.app_machine.specs.declared.papers.Layouts.{Layouts}
 use Rattle.app_machine.specs.Names.{Name}
-use Rattle.app_listing.specs.declared.fault.Fault.{Fault}
-use Rattle.app_listing.specs.declared.fault.Fault.TheVariants.{TwoClasses, TwoMembers, NoClass, Circle, Code, TooMany}
-use Rattle.app_listing.specs.declared.fault.Limit.{Limit}
-use Rattle.app_listing.specs.declared.fault.Limit.TheVariants as limits
+use Rattle.link_listing.specs.declared.fault.Fault.{Fault}
+use Rattle.link_listing.specs.declared.fault.Fault.TheVariants.{TwoClasses, TwoMembers, NoClass, Circle, Code, TooMany}
+use Rattle.link_listing.specs.declared.fault.Limit.{Limit}
+use Rattle.link_listing.specs.declared.fault.Limit.TheVariants as limits
 use Rattle.app_link.specs.declared.linking.LinkFault.{LinkFault}
 use Rattle.app_link.specs.declared.linking.LinkFault.TheVariants as told
-use Rattle.method_code.specs.declared.coded.Coded.{Coded}
-use Rattle.method_code.specs.Code.{all_codes}
-use Rattle.method_code.specs.Units.{units_in}
-use Rattle.app_listing.specs.Gathered.{Gathered, gathering}
-use Rattle.class_hierarchy.specs.Hierarchy.{NoCircle, IsLeastCircle}
+use Rattle.link_code.specs.declared.coded.Coded.{Coded}
+use Rattle.link_code.specs.Code.{all_codes}
+use Rattle.link_code.specs.Units.{units_in}
+use Rattle.link_listing.specs.Gathered.{Gathered, gathering}
+use Rattle.link_hierarchy.specs.Hierarchy.{NoCircle, IsLeastCircle}
 use Rattle.app_link.specs.Limits.{within_limits}
 
 -- The fault is the first: of the gathering of classes, members and components in file order; of the hierarchy, the least class

@@ -6,11 +6,11 @@ use Rattle.app_machine.specs.declared.app.App.{App}
 use Rattle.app_machine.specs.declared.app.Class.{Class}
 use Rattle.app_machine.specs.Names.{Name}
 use Rattle.app_machine.specs.Sound.{name_order}
-use Rattle.app_listing.specs.MemberRows.{Fields}
-use Rattle.app_listing.specs.Orders.{triple_order}
+use Rattle.link_listing.specs.MemberRows.{Fields}
+use Rattle.link_listing.specs.Orders.{triple_order}
 use Rattle.app_link.specs.Keys.{all_keys}
-use Rattle.app_listing.specs.Components.{Fit}
-use Rattle.class_hierarchy.specs.Hierarchy.{HasOuters, NoCircle, without_outer, renamed}
+use Rattle.link_listing.specs.Components.{Fit}
+use Rattle.link_hierarchy.specs.Hierarchy.{HasOuters, NoCircle, without_outer, renamed}
 
 -- the app has these classes, these fields' keys and no methods yet
 pub record IsFrame (entries : List (Name × Class)) (fields : Fields) (app : App) : Type 0 where

@@ -4,17 +4,17 @@ use Rattle.dex_reader.specs.declared.dex.Dex.{Dex}
 use Rattle.app_machine.specs.declared.app.App.{App}
 use Rattle.app_machine.specs.declared.papers.Manifest.{Manifest}
 use Rattle.app_machine.specs.declared.papers.Layouts.{Layouts}
-use Rattle.method_code.specs.AreCoded.{AreCoded}
-use Rattle.method_code.specs.declared.coded.Coded.{Coded}
-use Rattle.method_code.specs.Units.{units_in}
-use Rattle.app_listing.specs.Components.{providers_of}
+use Rattle.link_code.specs.AreCoded.{AreCoded}
+use Rattle.link_code.specs.declared.coded.Coded.{Coded}
+use Rattle.link_code.specs.Units.{units_in}
+use Rattle.link_listing.specs.Components.{providers_of}
 use Rattle.app_link.specs.Frame.{before_code}
-use Rattle.app_listing.specs.Gathered.{Gathered, AreGathered}
-use Rattle.class_hierarchy.specs.Hierarchy.{NoCircle, HasOuters, without_outer, renamed}
+use Rattle.link_listing.specs.Gathered.{Gathered, AreGathered}
+use Rattle.link_hierarchy.specs.Hierarchy.{NoCircle, HasOuters, without_outer, renamed}
 use Rattle.app_link.specs.Keys.{all_keys}
 use Rattle.app_link.specs.Limits.{WithinLimits}
-use Rattle.method_code.specs.Methods.{all_methods}
-use Rattle.method_code.specs.StaticList.{AreStatics}
+use Rattle.link_code.specs.Methods.{all_methods}
+use Rattle.link_code.specs.StaticList.{AreStatics}
 
 pub record IsApp (dexes : List Dex) (manifest : Manifest) (layouts : Layouts) (app : App) : Type 0 where
   -- classes, members and components are those that stand in the files and the manifest, each once, and each component has a class

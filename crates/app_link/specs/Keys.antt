@@ -2,8 +2,8 @@
 use Rattle.std.specs.Prelude.{Bool, true, false, List, [], ◌∷◌, flat_map}
 use Rattle.app_machine.specs.declared.app.Key.{Key}
 use Rattle.app_machine.specs.declared.app.Key.TheVariants.{Elem, Field}
-use Rattle.app_listing.specs.Texts.{Triple}
-use Rattle.app_listing.specs.MemberRows.{Fields}
+use Rattle.link_listing.specs.Texts.{Triple}
+use Rattle.link_listing.specs.MemberRows.{Fields}
 
 abbrev pub key_unless : Bool → Triple → List Key
 key_unless true field = []

@@ -1,9 +1,9 @@
 -- How large an app may be: the largest numbers of classes, of methods, of fields, and of units of code.
 use Rattle.std.specs.Prelude.{ℕ, ◌≤◌, nat_le}
 use Rattle.vet_base.specs.Script.{Script, ◌>>=◌, test}
-use Rattle.app_listing.specs.declared.fault.Fault.{Fault}
-use Rattle.app_listing.specs.declared.fault.Fault.TheVariants.{TooMany}
-use Rattle.app_listing.specs.declared.fault.Limit.TheVariants as limits
+use Rattle.link_listing.specs.declared.fault.Fault.{Fault}
+use Rattle.link_listing.specs.declared.fault.Fault.TheVariants.{TooMany}
+use Rattle.link_listing.specs.declared.fault.Limit.TheVariants as limits
 
 unfoldable pub within_limits : ℕ → ℕ → ℕ → ℕ → Script Fault (Unit {0})
 within_limits classes methods fields units = do

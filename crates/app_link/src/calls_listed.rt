@@ -1,9 +1,9 @@
 //! How many registers and parameters calls may list. Past that bound the link is out of memory, before it lists them.
 
-use app_listing::{parameter_count, spend};
 use dex_code::{Insn, Naming};
 use dex_reader::Dex;
-use method_code::Coded;
+use link_code::Coded;
+use link_listing::{parameter_count, spend};
 use vet_base::Memory;
 
 /// How many registers and parameters all calls may list.
@@ -19,7 +19,7 @@ fn call_cost(dex: &Dex, insn: &Insn) -> u64 {
 }
 
 /// Answers want of memory where calls list more registers and parameters together than `CALLS`.
-pub fn check_calls_listed(dexes: &[Dex], coded: &[Coded]) -> Result<(), Memory> {
+pub(crate) fn check_calls_listed(dexes: &[Dex], coded: &[Coded]) -> Result<(), Memory> {
     let mut left = CALLS;
     for method in coded {
         if let Some(dex) = dexes.get(method.dex) {

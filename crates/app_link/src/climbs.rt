@@ -1,11 +1,11 @@
 //! How many classes instructions ask for the fields that they name.
 
-use app_listing::{Classes, name_cost, spend, type_at};
 use app_model::Class;
-use class_hierarchy::order_of;
 use dex_code::{Insn, Naming};
 use dex_reader::Dex;
-use method_code::Coded;
+use link_code::Coded;
+use link_hierarchy::order_of;
+use link_listing::{Classes, name_cost, spend, type_at};
 use std::alloc::Global;
 use std::collections::BTreeMap;
 use vet_base::{Memory, Name};
@@ -16,7 +16,7 @@ const ASKED: u64 = 2_147_483_648;
 
 /// What a look-up that finds nothing asks from a class on: along superclasses, as for an instance field, and through the interfaces
 /// too, as for a static one. An interface counts once for each way to it, so that is counted from above.
-#[derive(Clone, Copy, Debug, PartialEq, Eq)]
+#[derive(Clone, Copy)]
 struct Climb {
     upward: u64,
     everywhere: u64,
@@ -89,7 +89,7 @@ fn climb_cost(named: &[Climb], insn: &Insn) -> u64 {
 }
 
 /// Answers want of memory where instructions may ask more classes for their fields than `ASKED`.
-pub fn check_climbs(
+pub(crate) fn check_climbs(
     alloc: Global,
     dexes: &[Dex],
     classes: &Classes,

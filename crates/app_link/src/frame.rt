@@ -4,14 +4,14 @@ ghost use Rattle.std.specs.Prelude.{◌≡◌, ◌<◌, ◌^◌, IfOk, length};
 ghost use Rattle.std.specs.Map.{keys_of};
 ghost use Rattle.std.specs.List.Sorted.{IsStrictlySortedBy};
 ghost use Rattle.app_link.specs.Frame.{IsFrame};
-ghost use Rattle.class_hierarchy.specs.Settled.{AllSettled};
-ghost use Rattle.app_listing.specs.Components.{Fit, providers_of};
-ghost use Rattle.app_listing.specs.Orders.{triple_order};
+ghost use Rattle.link_hierarchy.specs.Settled.{AllSettled};
+ghost use Rattle.link_listing.specs.Components.{Fit, providers_of};
+ghost use Rattle.link_listing.specs.Orders.{triple_order};
 
 use crate::keys::keys_of;
-use app_listing::{Classes, Fields, names_copied, providers_of};
 use app_model::{App, Component, Layouts, Manifest};
-use class_hierarchy::{Outers, filled_classes};
+use link_hierarchy::{Outers, filled_classes};
+use link_listing::{Classes, Fields, names_copied, providers_of};
 use std::alloc::Global;
 use vet_base::{Memory, Seq};
 

@@ -3,8 +3,8 @@
 ghost use Rattle.std.specs.Prelude.{◌≡◌, ◌++◌, IfOk, OnOk};
 ghost use Rattle.app_link.specs.Keys.{all_keys, key_if, key_unless};
 
-use app_listing::{Fields, Triple};
 use app_model::Key;
+use link_listing::{Fields, Triple};
 use std::alloc::Global;
 use vet_base::{Memory, Seq};
 

@@ -4,7 +4,7 @@ ghost use Rattle.std.specs.Prelude.{◌≡◌, ◌≢◌, ◌⊎◌, ◌<◌, �
 ghost use Rattle.vet_base.specs.Script.{Gives};
 ghost use Rattle.app_machine.specs.Sound.{SoundApp};
 ghost use Rattle.dex_reader.specs.Sound.{SoundDex};
-ghost use Rattle.method_code.specs.Code.{ShortCodes};
+ghost use Rattle.link_code.specs.Code.{ShortCodes};
 ghost use Rattle.app_link.specs.FirstLinkFault.{FirstLinkFault, StopsAtFirst, limit_word, shown};
 ghost use Rattle.app_link.specs.IsApp.{IsApp};
 ghost use Rattle.app_link.specs.OneAnswer.{OneAnswer, OnlyApp};
@@ -13,12 +13,12 @@ ghost use Rattle.app_link.specs.Limits.{within_limits};
 use crate::calls_listed::check_calls_listed;
 use crate::climbs::check_climbs;
 use crate::frame::{Papers, frame_of};
-use app_listing::{Fault, Halt, Limit, Parts, gather};
 use app_model::{App, Layouts, Manifest, MethodRef};
-use class_hierarchy::outers_of;
 use dex_code::{CodeFault, code_laws};
 use dex_reader::Dex;
-use method_code::{codes_of, finished};
+use link_code::{codes_of, finished};
+use link_hierarchy::outers_of;
+use link_listing::{Fault, Halt, Limit, Parts, gather};
 use std::alloc::Global;
 use vet_base::{Name, Stop};
 

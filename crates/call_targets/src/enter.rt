@@ -6,11 +6,11 @@ ghost use Rattle.app_machine.specs.SoundLists.{SoundLists};
 ghost use Rattle.app_machine.specs.Summaries.{summary};
 ghost use Rattle.call_targets.specs.EnterGiven.{with_code, enters, argument_of, argument_register as register_of, passed_to, uses_row, looks_up};
 
+use app_index::LibraryIndex;
 use app_machine::{App, CallKind, Method, MethodRef, SummaryId};
 use app_model::summary_of;
 use app_parts::{SummaryView, is_reflective, is_static_call};
 use fact_rows::{Activation, Node, Row};
-use library_index::LibraryIndex;
 use rule_ground::{Conclusion, Content, Premises, Sink};
 use rule_nodes::{callee, entry};
 use vet_base::Name;

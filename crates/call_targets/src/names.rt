@@ -7,11 +7,11 @@ ghost use Rattle.app_model.specs.Targets.{shown_target};
 ghost use Rattle.call_targets.specs.EnterGiven.{named_to, named, initialises, reached_on, step_here};
 
 use crate::enter::{Call, enter, look_up};
+use app_index::LibraryIndex;
 use app_machine::{Act, App};
 use app_model::{Target, act_initialisers, next_initialiser, step_at, target};
 use app_parts::is_by_receiver;
 use fact_rows::{Node, Row};
-use library_index::LibraryIndex;
 use rule_ground::{Premises, Sink};
 
 /// The call comes to this by its name.

@@ -7,11 +7,11 @@ ghost use Rattle.std.specs.Option.{option_copied};
 ghost use Rattle.call_targets.specs.EnterGiven.{class_to, class_on, received as receives, is_register};
 
 use crate::enter::{Call, argument_register, enter, look_up, pass_to};
+use app_index::LibraryIndex;
 use app_machine::{Act, App};
 use app_model::{Target, target};
 use app_parts::is_by_receiver;
 use fact_rows::{Node, Row, Site};
-use library_index::LibraryIndex;
 use rule_ground::{Content, Premises, Sink};
 use rule_nodes::callee;
 use site_classes::site_class;

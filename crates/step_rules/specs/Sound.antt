@@ -30,7 +30,7 @@ use Rattle.rule_ground.specs.Hits.{IsHits}
 use Rattle.rule_ground.specs.Exact.{IsSound}
 use Rattle.std.specs.List.{AllByRecursion}
 use Rattle.vet_base.proofs.Every.{each_append, each_map, each_flat, each_where, each_unless}
-use Rattle.static_readers.specs.Readers.{readers_of}
+use Rattle.app_index.specs.Readers.{readers_of}
 use Rattle.rule_ground.specs.Listing.{one, first, second, each_sound, all_sound, holds_in, at_hit, of_hits}
 use Rattle.step_rules.specs.StepGiven.{step_here, goes_on, made, reads, reads_on, reader_gives, reader_takes, static_on, static_gives, statics_read, reached_on, keeps, thrown, passes, put_gives, puts, content_alone, put_on_gives, got_gives, object_gives, points_on, is_bare, rest_gives, label_gives, taint_on, gets, gets_on, getter_gives, cell_gives, step_given}
 use Rattle.step_rules.specs.Lifted.{act_of, next_of, catch_of, keep, caught, moved, resulted, excepted, put_in, from_static, to_static, threw, threw_out, returned}

@@ -25,8 +25,8 @@ use Rattle.rule_ground.specs.declared.content.Content.TheVariants.{Object, Label
 use Rattle.rule_ground.specs.declared.key.Key.{Key}
 use Rattle.rule_ground.specs.declared.key.Key.TheVariants.{PointsAt, TaintsAt, PointsTo, CellsOf, StaticPointsOf, StaticTaintsOf, ReachedAt}
 use Rattle.rule_ground.specs.Given.{concludes, held, held_static, leaves, stored, at_each, to_all}
-use Rattle.static_readers.specs.declared.static_readers.Reader.{Reader}
-use Rattle.static_readers.specs.Readers.{readers_of}
+use Rattle.app_index.specs.declared.static_readers.Reader.{Reader}
+use Rattle.app_index.specs.Readers.{readers_of}
 
 -- the step at a node
 abbrev pub step_here : App → Node → Option Step

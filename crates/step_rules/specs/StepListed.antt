@@ -32,8 +32,8 @@ use Rattle.rule_ground.specs.Exact.{IsListed}
 use Rattle.rule_ground.specs.Leading.{listed_in}
 use Rattle.vet_base.proofs.Members.{in_front, in_back, in_flat, in_found, found_passes}
 use Rattle.vet_base.proofs.Every.{in_where, in_unless}
-use Rattle.static_readers.specs.Readers.{is_read, reader, readers_of}
-use Rattle.static_readers.specs.ReaderLaws.{is_reader}
+use Rattle.app_index.specs.Readers.{is_read, reader, readers_of}
+use Rattle.app_index.specs.ReaderLaws.{is_reader}
 use Rattle.rule_ground.specs.Listing.{here, in_each, in_all, itself, found}
 use Rattle.step_rules.specs.StepGiven.{step_here, step_leads, points_lead, taint_leads, goes_on, made, reads, reads_on, reader_gives, reader_takes, static_on, static_gives, statics_read, reached_on, keeps, thrown, passes, put_gives, puts, content_alone, put_on_gives, got_gives, object_gives, points_on, is_bare, label_gives, taint_on, gets, gets_on, getter_gives, step_given}
 use Rattle.step_rules.specs.Lifted.{next_in, catch_in}

@@ -3,11 +3,11 @@ ghost use Rattle.std.specs.Prelude.{◌≡◌, OnOk, fold, flat_map};
 ghost use Rattle.app_machine.specs.Sound.{SoundApp};
 ghost use Rattle.step_rules.specs.StepGiven.{reads, reader_gives, reader_takes, static_on, static_gives, statics_read};
 
+use app_index::{Reader, StaticReaders};
 use app_machine::{Act, App, Step};
 use app_model::step_at;
 use fact_rows::{Node, Row};
 use rule_ground::{Content, Facts, Inference, Join, Key, Premises, Sink, for_each_hit, put_all};
-use static_readers::{Reader, StaticReaders};
 
 /// The targets of a read of the static hold its content.
 fn read<S: Sink>(

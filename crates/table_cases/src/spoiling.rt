@@ -3,13 +3,12 @@ ghost use Rattle.app_machine.specs.SoundLists.{SoundLists};
 ghost use Rattle.app_rules.specs.Ready.{RulesReady};
 
 use crate::saying::{count, say};
+use app_index::{LibraryIndex, StaticReaders};
 use app_model::{App, Lists};
 use app_rules::AppRules;
 use cert_checker::{Defect, check};
 use fact_rows::{Row, Table};
 use hashed_rows::HashedRows;
-use library_index::LibraryIndex;
-use static_readers::StaticReaders;
 use std::alloc::{AllocError, Global};
 use std::io;
 use taint_solver::{Solved, solve};

@@ -4,12 +4,11 @@ ghost use Rattle.app_machine.specs.SoundLists.{SoundLists};
 ghost use Rattle.app_rules.specs.Ready.{RulesReady};
 
 use crate::spoiling::want;
+use app_index::{LibraryIndex, StaticReaders};
 use app_model::{App, Lists};
 use app_rules::AppRules;
 use hashed_rows::HashedRows;
-use library_index::LibraryIndex;
 use row_store::Listed;
-use static_readers::StaticReaders;
 use std::io;
 use std::marker::Sync;
 use std::sync::Wait;

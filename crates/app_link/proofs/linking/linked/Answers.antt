@@ -5,8 +5,8 @@ use Rattle.app_link.proofs.FrameSound.{frame_sound}
 use Rattle.app_link.proofs.Limits.{few_lines}
 use Rattle.app_link.proofs.Linked.{is_app}
 use Rattle.app_link.proofs.OneAnswer.{only_app}
-use Rattle.app_listing.proofs.SoundMembers.{gathered_described}
-use Rattle.class_hierarchy.proofs.Stuck.{no_circle}
+use Rattle.link_listing.proofs.SoundMembers.{gathered_described}
+use Rattle.link_hierarchy.proofs.Stuck.{no_circle}
 use Rattle.app_link.proofs.linking.linked.Goals as goal
 
 pub codes_of-requires-clause-described : goal.codes_of-requires-clause-described

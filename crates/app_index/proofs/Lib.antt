@@ -1,0 +1,5 @@
+pub mod ClassKeys
+pub mod First
+pub mod Held
+pub mod Numbering
+pub mod RowKeys

@@ -1,0 +1,4 @@
+pub mod Numbers
+pub mod ReaderLaws
+pub mod Readers
+pub mod Walk

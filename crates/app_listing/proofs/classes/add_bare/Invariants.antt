@@ -1,6 +1,0 @@
-use Rattle.std.proofs.Common.{◌≡◌, ◌++◌, take}
-use Rattle.app_listing.specs.Classes.{bare_of}
-use Rattle.app_listing.proofs.classes.add_bare.Given as goal
-
-abbrev pub invariant-loop-body : goal.invariant-loop-body
-invariant-loop-body l = l.bare.items ≡ l.initial.bare.items ++ bare_of l.dex (take l.body-index l.bodies)

@@ -1,6 +1,0 @@
-use Rattle.std.proofs.Common.{take}
-use Rattle.class_hierarchy.specs.Circle.{LeastAmong}
-use Rattle.class_hierarchy.proofs.circle.least_circle.Given as goal
-
-abbrev pub invariant-loop-name : goal.invariant-loop-name
-invariant-loop-name l = LeastAmong l.classes.entries (take l.name-index l.names) l.best

@@ -1,9 +1,0 @@
-use Rattle.std.proofs.Common.{length}
-use Rattle.class_hierarchy.specs.Settled.{Settled, Covers}
-use Rattle.class_hierarchy.proofs.hierarchy.outers_of.Given as goal
-
-abbrev pub invariant-rounds : goal.invariant-rounds
-invariant-rounds l = record { settled : Settled l.classes.entries l.outers.entries; covers : Covers l.classes.entries l.outers.entries l.left.items }
-
-abbrev pub decreases-rounds : goal.decreases-rounds
-decreases-rounds l = length l.left.items

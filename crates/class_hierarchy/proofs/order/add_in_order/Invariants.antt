@@ -1,5 +1,0 @@
-use Rattle.class_hierarchy.specs.Hierarchy.{AreOfClasses}
-use Rattle.class_hierarchy.proofs.order.add_in_order.Given as goal
-
-abbrev pub invariant-visits : goal.invariant-visits
-invariant-visits l = AreOfClasses l.classes.entries l.order.items

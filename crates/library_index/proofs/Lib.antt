@@ -1,4 +1,0 @@
-pub mod ClassKeys
-pub mod First
-pub mod Numbering
-pub mod RowKeys

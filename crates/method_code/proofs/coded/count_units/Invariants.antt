@@ -1,7 +1,0 @@
-use Rattle.std.specs.Prelude.{fold}
-use Rattle.class_hierarchy.proofs.FoldsOn.{FoldsOnto}
-use Rattle.method_code.proofs.Units.{with_units}
-use Rattle.method_code.proofs.coded.count_units.Given as goal
-
-abbrev pub invariant-loop-entry : goal.invariant-loop-entry
-invariant-loop-entry l = FoldsOnto (with_units l.dexes) l.entries l.entry-index l.units (fold (with_units l.dexes) 0 l.entries)

@@ -1,5 +1,0 @@
-use Rattle.static_readers.proofs.Held.{Gathers}
-use Rattle.static_readers.proofs.gather.gather.Given as goal
-
-abbrev pub invariant-loop-number : goal.invariant-loop-number
-invariant-loop-number l = Gathers l.readers.items l.app.methods l.number
