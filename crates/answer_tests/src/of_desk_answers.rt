@@ -1,12 +1,13 @@
 use case_rules::{
-    Appeal, Case, Content, Decision, Entry, Line, OutcomeWord, Refusal, Reply, Role, Ruling,
-    RulingWord, State,
+    Appeal, Case, Content, Decision, Entry, Line, OutcomeWord, Refusal, Reply, Ruling, RulingWord,
+    State,
 };
 use desk_answers::{answer_of, answer_to_fault, error_answer, no_memory, store_failed};
 use desk_http::{Answer, HttpFault};
 use std::alloc::Global;
 use std::process::Abort;
 use std::test::Fail;
+use store_office::Role;
 use vet_base::{Memory, Name, Shared};
 
 fn expect(rt: &impl Abort, answer: &Answer, status: u16, body: &str) {

@@ -4,8 +4,9 @@ ghost use Rattle.case_rules.specs.Docket.{Shows, ShowsQueued};
 ghost use Rattle.case_keeper.specs.Keeper.{KeepCause};
 
 use crate::{KeepFault, Keeper};
-use case_rules::{Case, Command, Line, Party, Role, View};
+use case_rules::{Case, Command, Line, View};
 use std::alloc::Global;
+use store_office::{Party, Role};
 use vet_base::Shared;
 
 fn of_case(found: Option<Case>, queued: u64) -> View

@@ -1,8 +1,8 @@
 use crate::turn::{ToldJudge, Turn};
-use case_rules::{Command, Content, OutcomeWord, Party, Role, RulingWord};
-use desk_office::Office;
+use case_rules::{Command, Content, OutcomeWord, RulingWord};
 use desk_serving::Desk;
 use std::alloc::{AllocError, Global};
+use store_office::{Office, Party, Role};
 use vet_base::{Memory, Name, Shared};
 
 /// The bytes of a word; `#N` stands for N letters.

@@ -1,7 +1,8 @@
 use crate::replying::outcome;
-use case_rules::{Command, Content, OutcomeWord, Party};
+use case_rules::{Command, Content, OutcomeWord};
 use desk_serving::{Desk, Judge, Judged};
 use std::alloc::Global;
+use store_office::Party;
 use vet_base::{Memory, Shared};
 
 /// A judge that finds what it was told, of every app; the report is the word of the outcome.

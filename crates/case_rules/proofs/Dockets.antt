@@ -10,7 +10,8 @@ use Rattle.case_rules.specs.declared.case.Ruling.{Ruling}
 use Rattle.case_rules.specs.declared.reply.Change.{Change}
 use Rattle.case_rules.specs.declared.reply.Change.TheVariants as changes
 use Rattle.case_rules.specs.Cases.{is_named, is_open, amended, after, last, with_entry, with_appeal, with_ruling, appeal_entry, rule_entry}
-use Rattle.case_rules.specs.Docket.{IsCase, IsDocket, IsEntry, IsHistory, Fits, TakesDecision, is_reference, is_appeal_text}
+use Rattle.case_rules.specs.Docket.{IsCase, IsDocket, IsEntry, IsHistory, Fits, TakesDecision, is_appeal_text}
+use Rattle.store_office.specs.Reference.{is_reference}
 use Rattle.std.specs.Prelude.{IsTrue}
 use Rattle.case_rules.proofs.Finds.{found_fails, missed_behind, missed_amended}
 use Rattle.case_rules.proofs.Named.{named_itself, named_back, name_kept}

@@ -6,7 +6,7 @@ use Rattle.case_rules.specs.declared.case.Case.{Case}
 use Rattle.case_rules.specs.declared.case.Content.{Content}
 use Rattle.case_rules.specs.declared.case.Entry.{Entry}
 use Rattle.case_rules.specs.declared.case.RulingWord.{RulingWord}
-use Rattle.case_rules.specs.declared.party.Party.{Party}
+use Rattle.store_office.specs.declared.party.Party.{Party}
 use Rattle.case_rules.specs.declared.reply.Refusal.{Refusal}
 use Rattle.case_rules.specs.declared.reply.Refusal.TheVariants.{WrongRole, NoCase, OtherContent, TooManyOpen, NothingQueued, NotDecided, SameEdition, AppealOpen, NoAppealFor, AppealedAlready, TooLate, NoAppeal, RuledAlready, SameReviewer}
 use Rattle.case_rules.specs.declared.reply.Reply.{Reply}

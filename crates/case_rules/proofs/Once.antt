@@ -6,7 +6,7 @@ use Rattle.std.specs.Prelude.{IsTrue}
 use Rattle.vet_base.proofs.Texts.{same_itself}
 use Rattle.case_rules.specs.declared.case.Case.{Case}
 use Rattle.case_rules.specs.declared.case.Content.{Content}
-use Rattle.case_rules.specs.declared.party.Party.{Party}
+use Rattle.store_office.specs.declared.party.Party.{Party}
 use Rattle.case_rules.specs.declared.command.Command.TheVariants as commands
 use Rattle.case_rules.specs.declared.reply.Refusal.{Refusal}
 use Rattle.case_rules.specs.declared.reply.Refusal.TheVariants.{WrongRole, OtherContent}

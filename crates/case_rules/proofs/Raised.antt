@@ -13,9 +13,9 @@ use Rattle.case_rules.specs.declared.case.Ruling.{Ruling}
 use Rattle.case_rules.specs.declared.case.Line.{Line}
 use Rattle.case_rules.specs.declared.case.State.{State}
 use Rattle.case_rules.specs.declared.case.RulingWord.{RulingWord}
-use Rattle.case_rules.specs.declared.party.Party.{Party}
-use Rattle.case_rules.specs.declared.party.Role.{Role}
-use Rattle.case_rules.specs.declared.party.Role.TheVariants.{Developer, Reviewer}
+use Rattle.store_office.specs.declared.party.Party.{Party}
+use Rattle.store_office.specs.declared.party.Role.{Role}
+use Rattle.store_office.specs.declared.party.Role.TheVariants.{Developer, Reviewer}
 use Rattle.case_rules.specs.declared.command.Command.{Command}
 use Rattle.case_rules.specs.declared.command.Command.TheVariants as commands
 use Rattle.case_rules.specs.declared.reply.Refusal.{Refusal}

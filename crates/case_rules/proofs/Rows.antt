@@ -5,9 +5,9 @@ use Rattle.std.proofs.lemmas.List.Elements.{filter-append}
 use Rattle.vet_base.proofs.Texts.{same_equal, same_itself}
 use Rattle.case_rules.specs.declared.case.Case.{Case}
 use Rattle.case_rules.specs.declared.case.Line.{Line}
-use Rattle.case_rules.specs.declared.party.Party.{Party}
-use Rattle.case_rules.specs.declared.party.Role.{Role}
-use Rattle.case_rules.specs.declared.party.Role.TheVariants.{Developer}
+use Rattle.store_office.specs.declared.party.Party.{Party}
+use Rattle.store_office.specs.declared.party.Role.{Role}
+use Rattle.store_office.specs.declared.party.Role.TheVariants.{Developer}
 use Rattle.case_rules.specs.declared.case.RulingWord.{RulingWord}
 use Rattle.case_rules.specs.declared.command.Command.{Command}
 use Rattle.case_rules.specs.declared.command.Command.TheVariants as commands

@@ -1,6 +1,7 @@
 -- What holds of every list of cases that the desk makes, what a change needs, and what a command has to be.
-use Rattle.std.specs.Prelude.{◌≡◌, ℕ, Bool, true, false, ◌&&◌, ◌||◌, List, [], ◌∷◌, None, IsTrue, IsSomeAnd, IfSome, is_none, length, find, nat_le, nat_eq}
-use Rattle.std.specs.List.{list_all, list_any}
+use Rattle.std.specs.Prelude.{◌≡◌, ℕ, Bool, true, false, ◌&&◌, List, [], ◌∷◌, None, IsTrue, IsSomeAnd, IfSome, is_none, length, find, nat_le}
+use Rattle.std.specs.List.{list_any}
+use Rattle.store_office.specs.Reference.{is_reference}
 use Rattle.case_rules.specs.declared.case.Case.{Case}
 use Rattle.case_rules.specs.declared.case.Decision.{Decision}
 use Rattle.case_rules.specs.declared.case.Entry.{Entry}
@@ -12,15 +13,6 @@ use Rattle.case_rules.specs.declared.reply.Change.TheVariants as changes
 use Rattle.case_rules.specs.Cases.{is_named, is_open, is_queued, is_under, has_edition, has_open_appeal, last, queued_of}
 use Rattle.case_rules.specs.Rules.{Session}
 use Rattle.case_rules.specs.Desk.{listed, view_of}
-
--- `A-Z a-z 0-9 . _ -`
-abbrev pub is_reference_byte : ℕ → Bool
-is_reference_byte b = (nat_le 65 b && nat_le b 90) || (nat_le 97 b && nat_le b 122) || (nat_le 48 b && nat_le b 57)
-    || nat_eq b 46 || nat_eq b 95 || nat_eq b 45
-
--- 1 to 64 bytes of these
-abbrev pub is_reference : List ℕ → Bool
-is_reference bytes = nat_le 1 (length bytes) && nat_le (length bytes) 64 && list_all is_reference_byte bytes
 
 -- 1 to 4,000 bytes
 abbrev pub is_appeal_text : List ℕ → Bool

@@ -3,7 +3,7 @@ use Rattle.std.specs.Prelude.{◌≡◌, ◌≢◌, ℕ, List, [], ◌∷◌, Op
 use Rattle.std.specs.List.{AllByRecursion}
 use Rattle.case_rules.specs.declared.case.Case.{Case}
 use Rattle.case_rules.specs.declared.case.Entry.{Entry}
-use Rattle.case_rules.specs.declared.party.Role.TheVariants.{Developer}
+use Rattle.store_office.specs.declared.party.Role.TheVariants.{Developer}
 use Rattle.case_rules.specs.Docket.{IsFormed}
 use Rattle.case_rules.specs.Desk.{Turn}
 

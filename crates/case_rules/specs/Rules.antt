@@ -6,9 +6,9 @@ use Rattle.case_rules.specs.declared.case.Entry.{Entry}
 use Rattle.case_rules.specs.declared.case.OutcomeWord.{OutcomeWord}
 use Rattle.case_rules.specs.declared.case.OutcomeWord.TheVariants.{Clear, Flagged, Undecided, Refused}
 use Rattle.case_rules.specs.declared.case.RulingWord.{RulingWord}
-use Rattle.case_rules.specs.declared.party.Party.{Party}
-use Rattle.case_rules.specs.declared.party.Role.{Role}
-use Rattle.case_rules.specs.declared.party.Role.TheVariants.{Developer, Reviewer}
+use Rattle.store_office.specs.declared.party.Party.{Party}
+use Rattle.store_office.specs.declared.party.Role.{Role}
+use Rattle.store_office.specs.declared.party.Role.TheVariants.{Developer, Reviewer}
 use Rattle.case_rules.specs.declared.command.Command.{Command}
 use Rattle.case_rules.specs.declared.command.Command.TheVariants as commands
 use Rattle.case_rules.specs.declared.command.View.{View}

@@ -8,7 +8,6 @@ mod copies;
 mod forms;
 mod laws;
 mod looks;
-mod party;
 mod planning;
 mod reply;
 
@@ -16,11 +15,10 @@ pub use case::{
     Appeal, Case, Content, Decision, Entry, Line, OutcomeWord, Ruling, RulingWord, State,
 };
 pub use command::{Command, View};
-pub use forms::{is_appeal_text, is_reference};
+pub use forms::is_appeal_text;
 pub use laws::{
     a_developer_sees_the_own_cases, a_refusal_changes_nothing, a_run_is_its_commands,
     each_thing_is_done_once, earlier_cases_are_treated_as_before,
 };
-pub use party::{Party, Role};
 pub use planning::{plan, settle};
 pub use reply::{Change, Plan, Refusal, Reply};

@@ -1,14 +1,15 @@
 ghost use Rattle.std.specs.Prelude.{◌≡◌, List, IfOk};
 ghost use Rattle.case_rules.specs.Rules.{Gives, is_developer, is_reviewer, is_appealable, submit, decide, show, report, appeal, review, rule, answered, planned, session_of};
 ghost use Rattle.case_rules.specs.Docket.{IsFormed, IsDocket, Shows, ShowsQueued, TakesDecision};
-ghost use Rattle.case_rules.specs.Cases.{is_named};
+ghost use Rattle.case_rules.specs.Cases.{is_named, new_case};
 ghost use Rattle.case_rules.specs.Desk.{Judgement, plan_over};
 ghost use Rattle.case_rules.specs.Plans.{IsPlanFor, JudgesTaking, settled};
 
 use crate::{
-    Appeal, Case, Change, Command, Content, Decision, OutcomeWord, Party, Plan, Refusal, Reply,
-    Role, Ruling, RulingWord, View,
+    Appeal, Case, Change, Command, Content, Decision, OutcomeWord, Plan, Refusal, Reply, Ruling,
+    RulingWord, View,
 };
+use store_office::{Party, Role};
 use vet_base::{Memory, Name, Shared, Stop};
 
 /// How many cases without an entry a developer may have.
@@ -41,6 +42,23 @@ fn is_appealable(outcome: OutcomeWord) -> bool
     }
 }
 
+fn adding(developer: &Name, reference: &Name, content: &Content) -> Result<Plan, Memory>
+    ensures { IfOk result (λ plan. plan
+        ≡ Plan.Do (Change.Add (new_case developer.now reference.now content.now)) (Reply.Added reference.now)) }
+{
+    let party = developer.copy()?;
+    let added = reference.copy()?;
+    let reference = reference.copy()?;
+    let content = content.copy()?;
+    let case = Case {
+        party,
+        reference,
+        content,
+        entries: Shared::new(),
+    };
+    Ok(Plan::Do(Change::Add(case), Reply::Added(added)))
+}
+
 #[tactic(auto, unfolding(crate::specs::Rules::submit))]
 fn submitted(
     party: &Party,
@@ -62,14 +80,7 @@ fn submitted(
     if view.queued >= u64::from(OPEN_CASES) {
         return Err(Stop::Fault(Refusal::TooManyOpen(OPEN_CASES)));
     }
-    let case = Case {
-        party: party.name.copy()?,
-        reference: reference.copy()?,
-        content: content.copy()?,
-        entries: Shared::new(),
-    };
-    let reply = Reply::Added(reference.copy()?);
-    Ok(Plan::Do(Change::Add(case), reply))
+    Ok(adding(&party.name, reference, content)?)
 }
 
 #[tactic(auto, unfolding(crate::specs::Rules::decide))]
@@ -114,6 +125,24 @@ fn reported(party: &Party, found: &Option<Case>) -> Result<Plan, Stop<Refusal>>
     Ok(Plan::Say(Reply::Text(entry.decision.report.copy()?)))
 }
 
+fn appealing(
+    developer: &Name,
+    day: u32,
+    reference: &Name,
+    text: &Shared<u8>,
+) -> Result<Plan, Memory>
+    ensures { IfOk result (λ plan. plan
+        ≡ Plan.Do (Change.Appeal developer.now reference.now (record { day = day; text = text.now }))
+        (Reply.Appealed reference.now)) }
+{
+    let developer = developer.copy()?;
+    let appealed = reference.copy()?;
+    let reference = reference.copy()?;
+    let text = text.copy()?;
+    let change = Change::Appeal(developer, reference, Appeal { day, text });
+    Ok(Plan::Do(change, Reply::Appealed(appealed)))
+}
+
 #[tactic(auto, unfolding(crate::specs::Rules::appeal))]
 fn appealed(
     party: &Party,
@@ -145,9 +174,7 @@ fn appealed(
     if u64::from(day) > last {
         return Err(Stop::Fault(Refusal::TooLate(last)));
     }
-    let text = text.copy()?;
-    let change = Change::Appeal(party.name.copy()?, reference.copy()?, Appeal { day, text });
-    Ok(Plan::Do(change, Reply::Appealed(reference.copy()?)))
+    Ok(appealing(&party.name, day, reference, text)?)
 }
 
 #[tactic(auto, unfolding(crate::specs::Rules::review))]
@@ -170,6 +197,31 @@ fn reviewed(party: &Party, edition: &[u8; 32], found: &Option<Case>) -> Result<P
         return Err(Stop::Fault(Refusal::AppealOpen));
     }
     Ok(Plan::Judge(case.copy()?))
+}
+
+fn ruling(
+    reviewer: &Name,
+    day: u32,
+    developer: &Name,
+    reference: &Name,
+    word: RulingWord,
+) -> Result<Plan, Memory>
+    ensures { IfOk result (λ plan. plan
+        ≡ Plan.Do (Change.Rule developer.now reference.now (record { reviewer = reviewer.now; day = day; word = word }))
+        (Reply.Ruled developer.now reference.now word)) }
+{
+    let reviewer = reviewer.copy()?;
+    let ruled_for = developer.copy()?;
+    let ruled = reference.copy()?;
+    let developer = developer.copy()?;
+    let reference = reference.copy()?;
+    let ruling = Ruling {
+        reviewer,
+        day,
+        word,
+    };
+    let change = Change::Rule(developer, reference, ruling);
+    Ok(Plan::Do(change, Reply::Ruled(ruled_for, ruled, word)))
 }
 
 #[tactic(auto, unfolding(crate::specs::Rules::rule))]
@@ -201,18 +253,7 @@ fn ruled(
     if entry.decision.reviewer == party.name {
         return Err(Stop::Fault(Refusal::SameReviewer));
     }
-    let reviewer = party.name.copy()?;
-    let change = Change::Rule(
-        developer.copy()?,
-        reference.copy()?,
-        Ruling {
-            reviewer,
-            day,
-            word,
-        },
-    );
-    let reply = Reply::Ruled(developer.copy()?, reference.copy()?, word);
-    Ok(Plan::Do(change, reply))
+    Ok(ruling(&party.name, day, developer, reference, word)?)
 }
 
 fn answered(
@@ -281,8 +322,10 @@ pub fn settle(case: &Case, decision: Decision) -> Result<(Change, Reply), Memory
     requires { TakesDecision decision case.now }
     ensures { IfOk result (λ r. r ≡ settled case.now decision) }
 {
-    let outcome = decision.outcome;
-    let change = Change::Decide(case.party.copy()?, case.reference.copy()?, decision);
-    let reply = Reply::Decided(case.party.copy()?, case.reference.copy()?, outcome);
-    Ok((change, reply))
+    let developer = case.party.copy()?;
+    let reference = case.reference.copy()?;
+    let decided_for = case.party.copy()?;
+    let decided = case.reference.copy()?;
+    let reply = Reply::Decided(decided_for, decided, decision.outcome);
+    Ok((Change::Decide(developer, reference, decision), reply))
 }

@@ -6,7 +6,7 @@ use Rattle.json.specs.Print.{print}
 use Rattle.json.specs.Token.{Token}
 use Rattle.json.specs.Written.{Written, Writes}
 use Rattle.case_rules.specs.declared.case.Line.{Line}
-use Rattle.case_rules.specs.declared.party.Role.{Role}
+use Rattle.store_office.specs.declared.party.Role.{Role}
 use Rattle.desk_answers.specs.Tokens.{Adds, line_tokens}
 
 pub wrote : {E : Type 0} {u : Unit {0}} {old new : Written} {t : Token}

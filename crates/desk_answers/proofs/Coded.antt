@@ -1,7 +1,7 @@
 -- The status of each answer is a code of HTTP.
 use Rattle.std.proofs.Common.{◌≡◌, ℕ, arith, sym, subst}
 use Rattle.http.specs.StatusCode.{IsStatusCode}
-use Rattle.case_rules.specs.declared.party.Role.{Role}
+use Rattle.store_office.specs.declared.party.Role.{Role}
 use Rattle.case_rules.specs.declared.reply.Refusal.{Refusal}
 use Rattle.case_rules.specs.declared.reply.Refusal.TheVariants.{WrongRole, NoCase, OtherContent, TooManyOpen, NothingQueued, NotDecided, SameEdition, AppealOpen, NoAppealFor, AppealedAlready, TooLate, NoAppeal, RuledAlready, SameReviewer}
 use Rattle.case_rules.specs.declared.reply.Reply.{Reply}

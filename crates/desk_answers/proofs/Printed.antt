@@ -8,8 +8,8 @@ use Rattle.case_rules.specs.declared.case.Line.{Line}
 use Rattle.case_rules.specs.declared.case.OutcomeWord.{OutcomeWord}
 use Rattle.case_rules.specs.declared.case.RulingWord.{RulingWord}
 use Rattle.case_rules.specs.declared.case.State.{State}
-use Rattle.case_rules.specs.declared.party.Role.{Role}
-use Rattle.case_rules.specs.declared.party.Role.TheVariants.{Developer, Reviewer}
+use Rattle.store_office.specs.declared.party.Role.{Role}
+use Rattle.store_office.specs.declared.party.Role.TheVariants.{Developer, Reviewer}
 use Rattle.desk_answers.specs.Bodies.{error_body, state_body, decided_body, ruled_body, shown_json, named_json, line_json, lines_body}
 use Rattle.desk_answers.specs.Json.{latin1, text_json, number_or_null, word_or_null}
 use Rattle.desk_answers.specs.Tokens.{state_tokens, named_tokens, line_tokens, number_token, word_token}

@@ -1,7 +1,7 @@
 -- What the desk tells a party: status, whether it is plain text, and body.
 use Rattle.std.specs.Prelude.{ℕ, List, Option, Some, None, true, false}
 use Rattle.case_rules.specs.declared.case.State.TheVariants.{Queued, Appealed}
-use Rattle.case_rules.specs.declared.party.Role.{Role}
+use Rattle.store_office.specs.declared.party.Role.{Role}
 use Rattle.case_rules.specs.declared.reply.Reply.{Reply}
 use Rattle.case_rules.specs.declared.reply.Reply.TheVariants as replies
 use Rattle.desk_http.specs.declared.asked.HttpFault.{HttpFault}

@@ -9,8 +9,8 @@ use Rattle.case_rules.specs.declared.case.Line.{Line}
 use Rattle.case_rules.specs.declared.case.OutcomeWord.{OutcomeWord}
 use Rattle.case_rules.specs.declared.case.RulingWord.{RulingWord}
 use Rattle.case_rules.specs.declared.case.State.{State}
-use Rattle.case_rules.specs.declared.party.Role.{Role}
-use Rattle.case_rules.specs.declared.party.Role.TheVariants.{Developer, Reviewer}
+use Rattle.store_office.specs.declared.party.Role.{Role}
+use Rattle.store_office.specs.declared.party.Role.TheVariants.{Developer, Reviewer}
 use Rattle.case_rules.specs.Cases.{last, state_of}
 use Rattle.desk_answers.specs.Json.{text_json, number_or_null, word_or_null}
 use Rattle.desk_answers.specs.Words.{state_word, outcome_word, ruling_word}

@@ -4,8 +4,8 @@ use Rattle.json.specs.Token.{Token, begin_object, end_object, key, string, numbe
 use Rattle.json.specs.Written.{Written}
 use Rattle.case_rules.specs.declared.case.Line.{Line}
 use Rattle.case_rules.specs.declared.case.State.{State}
-use Rattle.case_rules.specs.declared.party.Role.{Role}
-use Rattle.case_rules.specs.declared.party.Role.TheVariants.{Developer, Reviewer}
+use Rattle.store_office.specs.declared.party.Role.{Role}
+use Rattle.store_office.specs.declared.party.Role.TheVariants.{Developer, Reviewer}
 use Rattle.desk_answers.specs.Json.{latin1}
 use Rattle.desk_answers.specs.Words.{state_word}
 

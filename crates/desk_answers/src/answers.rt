@@ -7,9 +7,10 @@ use crate::bodies::{decided_body, error_body, no_memory_body, ruled_body, state_
 use crate::lines::lines_body;
 use crate::refused::{refusal_status, refusal_text};
 use crate::shown::shown_body;
-use case_rules::{Refusal, Reply, Role, State};
+use case_rules::{Refusal, Reply, State};
 use desk_http::{Answer, HttpFault};
 use std::alloc::Global;
+use store_office::Role;
 use vet_base::{Memory, Shared};
 
 fn json_answer(alloc: Global, status: u16, body: Vec<u8>) -> Result<Answer, Memory>

@@ -4,9 +4,10 @@ ghost use Rattle.desk_answers.specs.Tokens.{Adds, named_tokens, line_tokens};
 
 use crate::put::{put_state, put_text, put_word};
 use crate::words::state_word;
-use case_rules::{Line, Role};
+use case_rules::Line;
 use json::Writer;
 use std::alloc::{AllocError, Global};
+use store_office::Role;
 
 /// Writes an object: the developer and the reference of a case, and how far it is.
 fn put_named(alloc: Global, body: &mut Writer, line: &Line) -> Result<(), AllocError>

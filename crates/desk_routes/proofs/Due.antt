@@ -4,11 +4,12 @@ use Rattle.std.specs.Prelude.{IsTrue}
 use Rattle.serde_json.specs.Data.{Data}
 use Rattle.case_rules.specs.declared.case.Content.{Content}
 use Rattle.case_rules.specs.declared.case.RulingWord.{RulingWord}
-use Rattle.case_rules.specs.declared.party.Party.{Party}
+use Rattle.store_office.specs.declared.party.Party.{Party}
 use Rattle.case_rules.specs.declared.command.Command.{Command}
 use Rattle.case_rules.specs.declared.command.Command.TheVariants as commands
-use Rattle.case_rules.specs.Docket.{IsFormed, is_reference, is_appeal_text}
-use Rattle.desk_office.specs.declared.office.Office.{Office}
+use Rattle.case_rules.specs.Docket.{IsFormed, is_appeal_text}
+use Rattle.store_office.specs.Reference.{is_reference}
+use Rattle.store_office.specs.declared.office.Office.{Office}
 use Rattle.desk_routes.specs.declared.fault.Field.{Field}
 use Rattle.desk_routes.specs.declared.fault.Field.TheVariants.{Declaration, Developer, Dex, Layouts, Manifest, Reference, Ruling, Text}
 use Rattle.desk_routes.specs.declared.fault.Fault.{Fault}

@@ -13,7 +13,8 @@ use Rattle.case_rules.specs.declared.case.RulingWord.TheVariants.{Uphold, Overtu
 use Rattle.case_rules.specs.declared.command.Command.{Command}
 use Rattle.case_rules.specs.declared.command.Command.TheVariants as commands
 use Rattle.case_rules.specs.Cases.{same}
-use Rattle.case_rules.specs.Docket.{is_reference, is_appeal_text}
+use Rattle.case_rules.specs.Docket.{is_appeal_text}
+use Rattle.store_office.specs.Reference.{is_reference}
 use Rattle.desk_routes.specs.declared.fault.Field.{Field}
 use Rattle.desk_routes.specs.declared.fault.Field.TheVariants.{Declaration, Developer, Dex, Layouts, Manifest, Reference, Ruling, Text}
 use Rattle.desk_routes.specs.declared.fault.Fault.{Fault}

@@ -2,7 +2,7 @@
 -- in it is decoded, and a query is a part of it.
 use Rattle.std.specs.Prelude.{ℕ, ◌==◌, Bool, true, false, ◌&&◌, not, List, [], take, drop, length, Option, Some, None, option_map, if◌then◌else◌, codes, nat_eq}
 use Rattle.std.specs.List.{position_or_len, before_first}
-use Rattle.case_rules.specs.declared.party.Role.{Role}
+use Rattle.store_office.specs.declared.party.Role.{Role}
 use Rattle.case_rules.specs.Cases.{same}
 use Rattle.case_rules.specs.Rules.{is_developer, is_reviewer}
 use Rattle.desk_routes.specs.declared.target.Page.{Page}

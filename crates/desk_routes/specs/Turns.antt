@@ -1,12 +1,12 @@
 -- What a request comes to: a command of a party, or the answer that it gets without one.
 use Rattle.std.specs.Prelude.{◌≡◌, ℕ, Bool, List, Option, Some, None, Result, Ok, Err, IsSomeAnd, find, option_and_then}
 use Rattle.serde_json.specs.Data.{Data}
-use Rattle.case_rules.specs.declared.party.Party.{Party}
+use Rattle.store_office.specs.declared.party.Party.{Party}
 use Rattle.case_rules.specs.declared.command.Command.{Command}
 use Rattle.case_rules.specs.declared.command.Command.TheVariants as commands
 use Rattle.case_rules.specs.Docket.{IsFormed}
-use Rattle.desk_office.specs.declared.office.Office.{Office}
-use Rattle.desk_office.specs.Office.{has_token}
+use Rattle.store_office.specs.declared.office.Office.{Office}
+use Rattle.store_office.specs.Office.{has_token}
 use Rattle.desk_routes.specs.declared.target.Act.{Act}
 use Rattle.desk_routes.specs.declared.target.Act.TheVariants.{Submit, List as ListCases, Show, Report, Appeal, Decide, Review, Rule}
 use Rattle.desk_routes.specs.declared.fault.Fault.{Fault}

@@ -8,9 +8,10 @@ ghost use Rattle.desk_routes.specs.Bodies.{json_of, text_at, name_at, list_at, d
 use crate::fault::{Fault, Field};
 use base64::DecodeAllocError;
 use base64::engine::general_purpose::STANDARD;
-use case_rules::{RulingWord, is_reference};
+use case_rules::RulingWord;
 use serde_json::Value;
 use std::alloc::Global;
+use store_office::is_reference;
 use vet_base::{Memory, Shared, Stop};
 
 /// Reads a body as JSON.

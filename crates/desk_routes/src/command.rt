@@ -8,10 +8,10 @@ use crate::body::json_of;
 use crate::fault::Fault;
 use crate::submission::{appeal, review, ruling, submission};
 use crate::target::{Act, route_of};
-use case_rules::{Command, Party};
+use case_rules::Command;
 use desk_http::{Answer, Asked};
-use desk_office::Office;
 use std::alloc::Global;
+use store_office::{Office, Party};
 use vet_base::{Memory, Name, Stop};
 
 /// What is to be done for a request.

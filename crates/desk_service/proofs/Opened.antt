@@ -3,7 +3,7 @@ use Rattle.std.proofs.Common.{◌≡◌, ◌<◌, ℕ, List, length, Option, Som
 use Rattle.std.specs.Prelude.{IsTrue, is_some}
 use Rattle.std.proofs.lemmas.Option.{none-some, same_Some}
 use Rattle.vet_base.specs.Outside.{Told}
-use Rattle.desk_office.specs.declared.office.Office.{Office as SaidOffice}
+use Rattle.store_office.specs.declared.office.Office.{Office as SaidOffice}
 use Rattle.form_fields.specs.declared.told.FormFault.{FormFault}
 use Rattle.form_fields.specs.Form.{IsForm, FirstFormFault}
 use Rattle.store_lists.specs.Lists.{lists_form}

@@ -25,7 +25,7 @@ use Rattle.case_rules.specs.Rules.{Session, answered, told}
 use Rattle.case_rules.specs.Desk.{Judgement, Turn, speaks_of, view_of, plan_over, decision_by, carried, cases_then}
 use Rattle.case_rules.specs.Runs.{Standing, Ending, Replied, CutOff, Ended, Unread, Unanswered, ToCommand, ToOther, StoreFailed, NoMemory, carried_out, cases_by}
 use Rattle.case_rules.proofs.Effects.{effect}
-use Rattle.desk_office.specs.declared.office.Office.{Office}
+use Rattle.store_office.specs.declared.office.Office.{Office}
 use Rattle.desk_http.specs.declared.asked.Asked.{Asked}
 use Rattle.desk_http.specs.declared.asked.HttpFault.{HttpFault}
 use Rattle.desk_serving.specs.declared.serving.Served.{Served}

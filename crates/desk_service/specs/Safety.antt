@@ -11,7 +11,7 @@ use Rattle.case_rules.specs.declared.case.OutcomeWord.TheVariants.{Clear}
 use Rattle.case_rules.specs.declared.command.Command.{Command}
 use Rattle.case_rules.specs.declared.reply.Reply.{Reply}
 use Rattle.case_rules.specs.Rules.{Session}
-use Rattle.desk_office.specs.declared.office.Office.{Office}
+use Rattle.store_office.specs.declared.office.Office.{Office}
 use Rattle.desk_serving.specs.Obeying.{Obeys}
 use Rattle.desk_serving.specs.Serving.{Outside}
 use Rattle.desk_serving.specs.Run.{Runs}

@@ -3,10 +3,10 @@ ghost use Rattle.std.specs.Prelude.{◌≡◌, string_bytes, IfOk};
 ghost use Rattle.desk_service.specs.Opening.{paper_name, paper_path, ReadsPaper, Leaves, HaltsForm, OpensOffice, OpensLists, OpensDesk};
 
 use crate::lists_judge::OfficeLists;
-use desk_office::Office;
 use desk_serving::Desk;
 use office_forms::{FormFault, one_form_or_fault, read_lists, read_office};
 use std::alloc::{AllocError, Global};
+use store_office::Office;
 use vet_base::{FileFault, Files, Memory};
 
 /// A file has at most so many bytes.

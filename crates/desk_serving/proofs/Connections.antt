@@ -6,10 +6,10 @@ use Rattle.vet_base.specs.Outside.{HasRisen}
 use Rattle.desk_links.specs.Links.{Told, without_first, with_written}
 use Rattle.case_rules.specs.declared.case.Case.{Case}
 use Rattle.case_rules.specs.declared.case.Content.{Content}
-use Rattle.case_rules.specs.declared.party.Party.{Party}
+use Rattle.store_office.specs.declared.party.Party.{Party}
 use Rattle.case_rules.specs.declared.reply.Reply.{Reply}
 use Rattle.case_rules.specs.Desk.{Judgement, Turn, reply_to, cases_then}
-use Rattle.desk_office.specs.declared.office.Office.{Office}
+use Rattle.store_office.specs.declared.office.Office.{Office}
 use Rattle.case_rules.specs.Runs.{Standing, Ending, EndingCause, carried_out, Replied, CutOff, Ended, Unread, Unanswered, ToCommand, ToOther, StoreFailed, NoMemory, AnswerCause, IsConnection, command_of, cases_by}
 use Rattle.case_rules.specs.Runs.{Answer as RunAnswer}
 use Rattle.desk_http.specs.declared.asked.Asked.{Asked}

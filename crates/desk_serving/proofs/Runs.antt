@@ -7,7 +7,7 @@ use Rattle.case_rules.specs.declared.case.Case.{Case}
 use Rattle.case_rules.specs.declared.case.Content.{Content}
 use Rattle.case_rules.specs.Desk.{Judgement}
 use Rattle.case_rules.specs.Runs.{Standing, Connection, IsConnection, PassesOn, IsDeskRun}
-use Rattle.desk_office.specs.declared.office.Office.{Office}
+use Rattle.store_office.specs.declared.office.Office.{Office}
 use Rattle.desk_serving.specs.declared.serving.Served.{Served}
 use Rattle.desk_serving.specs.Serving.{Outside, standing, Serves}
 use Rattle.desk_serving.specs.Run.{Passes, Takes, begins, goes_on, Stops, Runs, IsMachineRun, CountsAll}

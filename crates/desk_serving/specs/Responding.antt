@@ -5,11 +5,11 @@ use Rattle.vet_base.specs.Outside.{HasRisen}
 use Rattle.case_rules.specs.declared.case.Case.{Case}
 use Rattle.case_rules.specs.declared.case.Content.{Content}
 use Rattle.case_rules.specs.declared.command.Command.{Command}
-use Rattle.case_rules.specs.declared.party.Party.{Party}
+use Rattle.store_office.specs.declared.party.Party.{Party}
 use Rattle.case_rules.specs.declared.reply.Reply.{Reply}
 use Rattle.case_rules.specs.Rules.{Session, session_of}
 use Rattle.case_rules.specs.Desk.{Judgement}
-use Rattle.desk_office.specs.declared.office.Office.{Office}
+use Rattle.store_office.specs.declared.office.Office.{Office}
 use Rattle.desk_http.specs.declared.asked.Asked.{Asked}
 use Rattle.desk_http.specs.declared.asked.HttpFault.{HttpFault}
 use Rattle.desk_http.specs.declared.reply.Answer.{Answer}

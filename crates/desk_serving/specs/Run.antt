@@ -6,7 +6,7 @@ use Rattle.case_rules.specs.declared.case.Case.{Case}
 use Rattle.case_rules.specs.declared.case.Content.{Content}
 use Rattle.case_rules.specs.Desk.{Judgement}
 use Rattle.case_rules.specs.Runs.{Connection, IsDeskRun}
-use Rattle.desk_office.specs.declared.office.Office.{Office}
+use Rattle.store_office.specs.declared.office.Office.{Office}
 use Rattle.desk_serving.specs.declared.serving.Served.{Served}
 use Rattle.desk_serving.specs.Serving.{Outside, standing, Serves}
 

@@ -18,7 +18,7 @@ use Rattle.desk_serving.specs.declared.serving.Served.{Served}
 use Rattle.desk_serving.specs.declared.serving.Served.TheVariants as served
 use Rattle.desk_serving.specs.Obeying.{FindsIn}
 use Rattle.desk_serving.specs.Responding.{Setting, setting_of, session_in, IsCommand, IsOther}
-use Rattle.desk_office.specs.declared.office.Office.{Office}
+use Rattle.store_office.specs.declared.office.Office.{Office}
 
 -- The turn is the request's command in the session of its party, with what judging gave.
 pub record IsTurnOf (finds : Content → Judgement → Type 0) (setting : Setting) (cases : List Case)

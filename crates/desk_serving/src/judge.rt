@@ -4,8 +4,8 @@ ghost use Rattle.case_rules.specs.Desk.{Judgement};
 ghost use Rattle.desk_serving.specs.Obeying.{judgement_of};
 
 use case_rules::{Content, OutcomeWord};
-use desk_office::Office;
 use std::alloc::Global;
+use store_office::Office;
 use vet_base::{Memory, Shared};
 
 /// What an app came to: the first word of the report, and the report.

@@ -11,9 +11,10 @@ ghost use Rattle.desk_serving.specs.Obeying.{TellsDocket, judgement_of, Obeys, I
 use crate::judge::{Desk, Judge, Judged};
 use case_keeper::{KeepFault, Keeper, view_for};
 use case_rules::{
-    Case, Change, Command, Decision, Party, Plan, Reply, each_thing_is_done_once, plan, settle,
+    Case, Change, Command, Decision, Plan, Reply, each_thing_is_done_once, plan, settle,
 };
 use std::alloc::Global;
+use store_office::Party;
 use vet_base::Memory;
 
 /// The plan for a command, by what the keeper shows.

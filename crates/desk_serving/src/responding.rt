@@ -11,11 +11,12 @@ ghost use Rattle.desk_serving.specs.Responding.{setting_of, IsCommand, Responds,
 use crate::judge::{Desk, Judge};
 use crate::obeying::obey;
 use case_keeper::{KeepFault, Keeper};
-use case_rules::{Command, Party};
+use case_rules::Command;
 use desk_answers::{answer_of, answer_to_fault, no_memory, store_failed};
 use desk_http::{Answer, Asked, HttpFault};
 use desk_routes::{Turn, command_of};
 use std::alloc::Global;
+use store_office::Party;
 
 /// What is to be sent, by what it says.
 #[derive(Debug, Drop)]

@@ -1,7 +1,6 @@
-use case_rules::{Party, Role};
-use desk_office::Office;
 use std::alloc::Global;
 use std::test::Fail;
+use store_office::{Office, Party, Role};
 use vet_base::{Memory, Name, Shared};
 
 fn party(alloc: Global, name: &str, token: &str) -> Result<Party, Memory> {

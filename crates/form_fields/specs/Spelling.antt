@@ -2,7 +2,7 @@
 use Rattle.std.specs.Prelude.{ℕ, ◌-◌, ◌==◌, ◌&&◌, ◌||◌, nat_le, Bool, true, length, slice_index}
 use Rattle.std.specs.List.{list_all}
 use Rattle.app_machine.specs.Names.{Name}
-use Rattle.case_rules.specs.Docket.{is_reference}
+use Rattle.store_office.specs.Reference.{is_reference}
 use Rattle.form_fields.specs.declared.spelling.Spelling.{Spelling}
 use Rattle.form_fields.specs.declared.spelling.Spelling.TheVariants as spelling
 

@@ -1,9 +1,9 @@
 //! How the texts of the forms are spelled.
 ghost use Rattle.std.specs.Prelude.{◌≡◌};
 ghost use Rattle.form_fields.specs.Spelling.{fits, is_short, is_class, is_category, are_category_bytes, is_category_byte, is_token, are_visible, is_visible};
-ghost use Rattle.case_rules.specs.Docket.{is_reference};
+ghost use Rattle.store_office.specs.Reference.{is_reference};
 
-use case_rules::is_reference;
+use store_office::is_reference;
 
 /// The spellings of a text.
 #[derive(Clone, Copy, Debug, PartialEq, Eq)]

@@ -53,7 +53,7 @@ impl MethodKey {
 }
 
 /// The first four keys of a method row.
-#[derive(Debug, Drop)]
+#[derive(Drop)]
 pub struct Signature {
     pub class: Name,
     pub name: Name,

@@ -6,8 +6,8 @@ use Rattle.toml.specs.Data.{Data, Members}
 use Rattle.vet_base.specs.Script.{run}
 use Rattle.vet_base.specs.Apart.{Apart}
 use Rattle.app_machine.specs.Names.{Name, same_name}
-use Rattle.case_rules.specs.declared.party.Party.{Party}
-use Rattle.desk_office.specs.declared.office.Office.{Office}
+use Rattle.store_office.specs.declared.party.Party.{Party}
+use Rattle.store_office.specs.declared.office.Office.{Office}
 use Rattle.form_fields.specs.declared.fault.Fault.TheVariants.{Twice}
 use Rattle.form_fields.specs.declared.words.Section.TheVariants as section
 use Rattle.form_fields.specs.declared.words.Key.TheVariants as key

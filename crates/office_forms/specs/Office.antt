@@ -4,10 +4,10 @@ use Rattle.std.specs.Str.{bytes_eq}
 use Rattle.toml.specs.Data.{Data, Members}
 use Rattle.vet_base.specs.Script.{Script, Value, Test, ◌>>=◌, test, walk, each}
 use Rattle.app_machine.specs.Names.{Name, same_name}
-use Rattle.case_rules.specs.declared.party.Party.{Party}
-use Rattle.case_rules.specs.declared.party.Role.{Role}
-use Rattle.case_rules.specs.declared.party.Role.TheVariants.{Developer, Reviewer}
-use Rattle.desk_office.specs.declared.office.Office.{Office}
+use Rattle.store_office.specs.declared.party.Party.{Party}
+use Rattle.store_office.specs.declared.party.Role.{Role}
+use Rattle.store_office.specs.declared.party.Role.TheVariants.{Developer, Reviewer}
+use Rattle.store_office.specs.declared.office.Office.{Office}
 use Rattle.form_fields.specs.declared.fault.Fault.{Fault}
 use Rattle.form_fields.specs.declared.fault.Fault.TheVariants.{Missing, Wrong, Twice}
 use Rattle.form_fields.specs.declared.words.Section.TheVariants as section

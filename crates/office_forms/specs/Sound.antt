@@ -5,9 +5,9 @@ use Rattle.vet_base.specs.Apart.{Apart}
 use Rattle.app_machine.specs.declared.papers.Manifest.{Manifest}
 use Rattle.app_machine.specs.declared.papers.Layouts.{Layouts}
 use Rattle.app_machine.specs.declared.papers.Declaration.{Declaration}
-use Rattle.case_rules.specs.Docket.{is_reference}
-use Rattle.case_rules.specs.declared.party.Party.{Party}
-use Rattle.desk_office.specs.declared.office.Office.{Office}
+use Rattle.store_office.specs.Reference.{is_reference}
+use Rattle.store_office.specs.declared.party.Party.{Party}
+use Rattle.store_office.specs.declared.office.Office.{Office}
 use Rattle.form_fields.specs.Spelling.{is_short, is_class, is_token}
 
 -- a package of 1 to 255 bytes, 1 to 16 DEX files, and at most 4,096 components; each class is spelled as one

@@ -6,13 +6,12 @@ ghost use Rattle.office_forms.specs.Sound.{SoundOffice};
 ghost use Rattle.toml.specs.View.{table_view, view};
 ghost use Rattle.vet_base.specs.Script.{Gives};
 
-use case_rules::{Party, Role};
-use desk_office::Office;
 use form_fields::{
     Fault, FormFault, Index, Key, Section, Spelling, known, number_at, once, read_tree, table_in,
     tables_at, text_at, told_of, word_at,
 };
 use std::alloc::Global;
+use store_office::{Office, Party, Role};
 use toml::{Table, Value};
 use vet_base::{Name, Shared, Stop};
 

@@ -1,8 +1,7 @@
 use crate::judge::FirstByte;
-use case_rules::{Party, Role};
-use desk_office::Office;
 use desk_serving::Desk;
 use std::alloc::Global;
+use store_office::{Office, Party, Role};
 use vet_base::{Memory, Name, Shared};
 
 /// A party whose token is its name and `-token`.

@@ -10,7 +10,6 @@ use Rattle.app_machine.specs.Names.{Name}
 use Rattle.app_machine.specs.declared.lists.Lists.{Lists}
 use Rattle.app_machine.specs.SoundLists.{SoundLists}
 use Rattle.app_machine.specs.declared.lists.LibClass.{LibClass}
-use Rattle.app_machine.specs.declared.lists.Callback.{Callback}
 use Rattle.app_machine.specs.declared.summary.Summary.{Summary}
 use Rattle.form_fields.specs.declared.fault.Fault.TheVariants.{Range}
 use Rattle.form_fields.specs.declared.words.Section.TheVariants as section
@@ -24,14 +23,14 @@ use Rattle.store_lists.specs.declared.lists.SharedRows.{SharedRows}
 use Rattle.store_lists.specs.declared.lists.Rows.{Rows}
 use Rattle.form_fields.specs.Once.{with_new}
 use Rattle.form_fields.specs.Fields.{known, text_at, texts_at, number_at, tables_at, table_in}
-use Rattle.store_lists.specs.Classes.{above_in, parent_row, parents_at, parents_above, fallback_at, class_row, classes_of, class_name}
+use Rattle.store_lists.specs.Classes.{above_in, parent_row, parents_at, parents_above, fallback_at, class_at, class_row, classes_of, class_name}
 use Rattle.method_fields.specs.Positions.{flag_at, pairs_at, named_at, listed_at}
 use Rattle.app_machine.specs.Summaries.{position_count}
 use Rattle.method_fields.specs.Gives.{gives_at}
 use Rattle.method_fields.specs.Signature.{proto_at}
 use Rattle.store_lists.specs.Methods.{sink_at, signature_at, summary_of, method_row, methods_of}
-use Rattle.store_lists.specs.Callbacks.{callback_row, callbacks_of}
-use Rattle.store_lists.specs.Lists.{are_categories, categories_at, shared_row, shared_of, rows_of, rows_once, lists_form}
+use Rattle.store_lists.specs.Callbacks.{callback_at, callback_row, callbacks_of}
+use Rattle.store_lists.specs.Lists.{are_categories, categories_at, shared_row, shared_of, rows_of, rows_once, arrays_at, lists_form}
 use Rattle.app_machine.specs.SoundLists.{SoundGives, TwoPositions, NamedPosition, SoundSink, SoundClass, SoundSummary, SoundCallback, SoundLists}
 use Rattle.form_fields.proofs.Yields.{Yields, yields_value, yields_tested, yields_then, yields_past, yields_each}
 use Rattle.form_fields.proofs.FieldYields.{number_within, tables_few, texts_few}
@@ -84,21 +83,25 @@ record SoMany (n : ℕ) (classes : List LibClass) : Type 0 where
   is : length classes ≡ n
   sound : All SoundClass classes
 
-class_counted : (n : ℕ) (d : Data) (classes : List LibClass) → SoMany n classes → Yields (SoMany (n + 1)) (class_row d classes)
-unfolding class_row
-class_counted n d classes so_far =
+class_sound : (d : Data) (classes : List LibClass) → Yields SoundClass (class_at d classes)
+unfolding class_at
+class_sound d classes =
     yields_past _ (table_in section.Lists key.Class d) _
     (λ t. yields_past _ (known section.Class t) _
     (λ _. yields_past _ (text_at section.Class key.Name spelling.Class t) _
     (λ name. yields_past _ (parents_at t) _
     (λ parents. yields_then _ _ (parents_above classes parents name) _ (parents_few classes parents name)
     (λ above few. yields_past _ (fallback_at t) _
-    (λ fallback.
-    let class : LibClass = record { name = name; above = above; fallback = fallback } in
-    yields_value _ _ (record {
+    (λ fallback. yields_value _ _ (record { one_above = few.one; few_above = few.few })))))))
+
+class_counted : (n : ℕ) (d : Data) (classes : List LibClass) → SoMany n classes → Yields (SoMany (n + 1)) (class_row d classes)
+unfolding class_row
+class_counted n d classes so_far =
+    yields_then SoundClass _ (class_at d classes) _ (class_sound d classes)
+    (λ class sound. yields_value _ _ (record {
       is = omega (arith, so_far.is, length-append classes (class ∷ []));
-      sound = All-push SoundClass classes class so_far.sound (record { one_above = few.one; few_above = few.few });
-    })))))))
+      sound = All-push SoundClass classes class so_far.sound sound;
+    }))
 
 classes_counted : (ds : List Data) → Yields (SoMany (0 + length ds)) (classes_of ds)
 unfolding classes_of
@@ -168,22 +171,26 @@ record CallbacksCounted (categories n : ℕ) (callbacks : CallbackRows) : Type 0
   is : length callbacks.rows ≡ n
   sound : All (SoundCallback categories) callbacks.rows
 
-callback_counted : (categories : List Name) (n : ℕ) (d : Data) (callbacks : CallbackRows) → CallbacksCounted (length categories) n callbacks
-    → Yields (CallbacksCounted (length categories) (n + 1)) (callback_row categories d callbacks)
-unfolding callback_row
-callback_counted categories n d callbacks so_far =
+callback_sound : (categories : List Name) (d : Data) → Yields (λ r. SoundCallback (length categories) r.0) (callback_at categories d)
+unfolding callback_at
+callback_sound categories d =
     yields_past _ (table_in section.Lists key.Callback d) _
     (λ t. yields_past _ (known section.Callback t) _
     (λ _. yields_past _ (text_at section.Callback key.Class spelling.Class t) _
     (λ class. yields_past _ (text_at section.Callback key.Name spelling.Text t) _
     (λ name. yields_past _ (proto_at section.Callback t) _
     (λ proto. yields_then _ _ (named_at section.Callback key.Sources (position_count false proto.0) categories t) _ (named_are_within section.Callback key.Sources (position_count false proto.0) categories t)
-    (λ sources within.
-    let callback : Callback = record { class = class; name = name; proto = proto.0; sources = sources } in
-    yields_value _ _ (record {
-      is = omega (arith, so_far.is, length-append callbacks.rows (callback ∷ []));
-      sound = All-push (SoundCallback (length categories)) callbacks.rows callback so_far.sound (record { sources = within });
-    })))))))
+    (λ sources within. yields_value _ _ (record { sources = within })))))))
+
+callback_counted : (categories : List Name) (n : ℕ) (d : Data) (callbacks : CallbackRows) → CallbacksCounted (length categories) n callbacks
+    → Yields (CallbacksCounted (length categories) (n + 1)) (callback_row categories d callbacks)
+unfolding callback_row
+callback_counted categories n d callbacks so_far =
+    yields_then (λ r. SoundCallback (length categories) r.0) _ (callback_at categories d) _ (callback_sound categories d)
+    (λ new sound. yields_value _ _ (record {
+      is = omega (arith, so_far.is, length-append callbacks.rows (new.0 ∷ []));
+      sound = All-push (SoundCallback (length categories)) callbacks.rows new.0 so_far.sound sound;
+    }))
 
 callbacks_counted : (categories : List Name) (ds : List Data) → Yields (CallbacksCounted (length categories) (0 + length ds)) (callbacks_of categories ds)
 unfolding callbacks_of
@@ -222,31 +229,44 @@ rows_counted categories cs ss ms ks =
       sound_callbacks = k.sound;
     })))))
 
+-- at most so many tables in each array
+record FewTables (arrays : (List Data × List Data) × (List Data × List Data)) : Type 0 where
+  classes : length arrays.0.0 ≤ 65536
+  shared : length arrays.0.1 ≤ 65536
+  methods : length arrays.1.0 ≤ 65536
+  callbacks : length arrays.1.1 ≤ 65536
+
+arrays_few : (t : Members) → Yields FewTables (arrays_at t)
+unfolding arrays_at
+arrays_few t =
+    yields_then _ _ (tables_at section.Lists key.Class 65536 t) _ (tables_few section.Lists key.Class 65536 t)
+    (λ cs few_classes. yields_then _ _ (tables_at section.Lists key.Shared 65536 t) _ (tables_few section.Lists key.Shared 65536 t)
+    (λ ss few_shared. yields_then _ _ (tables_at section.Lists key.Method 65536 t) _ (tables_few section.Lists key.Method 65536 t)
+    (λ ms few_methods. yields_then _ _ (tables_at section.Lists key.Callback 65536 t) _ (tables_few section.Lists key.Callback 65536 t)
+    (λ ks few_callbacks. yields_value _ _ (record { classes = few_classes; shared = few_shared; methods = few_methods; callbacks = few_callbacks })))))
+
 lists_sound : (t : Members) → Yields SoundLists (lists_form t)
 unfolding lists_form
 lists_sound t =
     yields_past _ (known section.Lists t) _
     (λ _. yields_then _ _ (number_at section.Lists key.Rows 1 4000000 t) _ (number_within section.Lists key.Rows 1 4000000 t)
     (λ most within. yields_then _ _ (categories_at t) _ (categories_few t)
-    (λ categories named. yields_then _ _ (tables_at section.Lists key.Class 65536 t) _ (tables_few section.Lists key.Class 65536 t)
-    (λ cs few_classes. yields_then _ _ (tables_at section.Lists key.Shared 65536 t) _ (tables_few section.Lists key.Shared 65536 t)
-    (λ ss few_shared. yields_then _ _ (tables_at section.Lists key.Method 65536 t) _ (tables_few section.Lists key.Method 65536 t)
-    (λ ms few_methods. yields_then _ _ (tables_at section.Lists key.Callback 65536 t) _ (tables_few section.Lists key.Callback 65536 t)
-    (λ ks few_callbacks. yields_then _ _ (rows_of categories cs ss ms ks) _ (rows_counted categories cs ss ms ks)
+    (λ categories named. yields_then _ _ (arrays_at t) _ (arrays_few t)
+    (λ arrays few. yields_then _ _ (rows_of categories arrays.0.0 arrays.0.1 arrays.1.0 arrays.1.1) _ (rows_counted categories arrays.0.0 arrays.0.1 arrays.1.0 arrays.1.1)
     (λ rows counted. yields_past _ (rows_once rows) _
     (λ _. yields_value _ _ (record {
       one_row = within.0;
       few_rows = within.1;
       one_category = omega (arith, named.one, ap length counted.same);
       few_categories = omega (arith, named.few, ap length counted.same);
-      few_classes = omega (arith, few_classes, counted.classes);
-      few_shared = omega (arith, few_shared, counted.shared);
-      few_methods = omega (arith, few_methods, counted.methods);
-      few_callbacks = omega (arith, few_callbacks, counted.callbacks);
+      few_classes = omega (arith, few.classes, counted.classes);
+      few_shared = omega (arith, few.shared, counted.shared);
+      few_methods = omega (arith, few.methods, counted.methods);
+      few_callbacks = omega (arith, few.callbacks, counted.callbacks);
       classes = counted.sound_classes;
       methods = subst (λ (n : ℕ). All (SoundSummary n (length rows.shared)) rows.methods.rows) (sym (ap length counted.same)) counted.sound_methods;
       callbacks = subst (λ (n : ℕ). All (SoundCallback n) rows.callbacks.rows) (sym (ap length counted.same)) counted.sound_callbacks;
-    }))))))))))
+    })))))))
 
 pub sound_lists : (t : Members) (d : Lists) → run (lists_form t) ≡ Ok d → SoundLists d
 sound_lists t d e = (lists_sound t).at d e

@@ -24,14 +24,14 @@ use Rattle.store_lists.specs.declared.lists.Rows.{Rows}
 use Rattle.form_fields.specs.Spelling.{is_class, fits}
 use Rattle.form_fields.specs.Places.{place_of}
 use Rattle.form_fields.specs.Once.{with_new}
-use Rattle.form_fields.specs.Fields.{known, text_at, texts_at, number_at, tables_at, table_in}
-use Rattle.store_lists.specs.Classes.{above_in, parent_row, parents_at, parents_above, fallback_at, class_row, classes_of, class_name}
+use Rattle.form_fields.specs.Fields.{known, text_at, texts_at, number_at, table_in}
+use Rattle.store_lists.specs.Classes.{above_in, parent_row, parents_at, parents_above, fallback_at, class_at, class_row, classes_of, class_name}
 use Rattle.method_fields.specs.Positions.{flag_at, pairs_at, named_at, listed_at}
 use Rattle.method_fields.specs.Gives.{gives_at}
 use Rattle.method_fields.specs.Signature.{proto_at}
 use Rattle.store_lists.specs.Methods.{sink_at, listed_class, signature_at, summary_of, method_row, methods_of}
-use Rattle.store_lists.specs.Callbacks.{callback_row, callbacks_of}
-use Rattle.store_lists.specs.Lists.{are_categories, categories_at, shared_row, shared_of, rows_of, rows_once, lists_form}
+use Rattle.store_lists.specs.Callbacks.{callback_at, callback_row, callbacks_of}
+use Rattle.store_lists.specs.Lists.{are_categories, categories_at, shared_row, shared_of, rows_of, rows_once, arrays_at, lists_form}
 use Rattle.method_fields.specs.Spelled.{SpelledProto}
 use Rattle.store_lists.specs.Spelled.{SpelledClass, SpelledShared, SpelledMethod, SpelledLists}
 use Rattle.form_fields.proofs.Yields.{Yields, yields_value, yields_tested, yields_then, yields_past, yields_each}
@@ -65,22 +65,26 @@ unfolding parents_above
 parents_spelled classes parents name all class =
     yields_each (λ n above. All Classy above) (parent_row classes) (parent_spelled classes all) parents 0 (name ∷ []) (All-cons Classy name [] class (All-nil Classy))
 
-class_spelled : (n : ℕ) (d : Data) (classes : List LibClass) → All SpelledClass classes → Yields (All SpelledClass) (class_row d classes)
-unfolding class_row fits
-class_spelled n d classes so_far =
+class_spelled : (d : Data) (classes : List LibClass) → All SpelledClass classes → Yields SpelledClass (class_at d classes)
+unfolding class_at fits
+class_spelled d classes so_far =
     yields_past _ (table_in section.Lists key.Class d) _
     (λ t. yields_past _ (known section.Class t) _
     (λ _. yields_then (Fits spelling.Class) _ (text_at section.Class key.Name spelling.Class t) _ (text_fits section.Class key.Name spelling.Class t)
     (λ name class. yields_past _ (parents_at t) _
     (λ parents. yields_then (All Classy) _ (parents_above classes parents name) _ (parents_spelled classes parents name so_far class)
     (λ above all. yields_past _ (fallback_at t) _
-    (λ fallback.
-    let row : LibClass = record { name = name; above = above; fallback = fallback } in
-    yields_value _ _ (All-push SpelledClass classes row so_far (record { name = class; above = all }))))))))
+    (λ fallback. yields_value _ _ (record { name = class; above = all })))))))
+
+class_row_spelled : (n : ℕ) (d : Data) (classes : List LibClass) → All SpelledClass classes → Yields (All SpelledClass) (class_row d classes)
+unfolding class_row
+class_row_spelled n d classes so_far =
+    yields_then SpelledClass _ (class_at d classes) _ (class_spelled d classes so_far)
+    (λ class spelled. yields_value _ _ (All-push SpelledClass classes class so_far spelled))
 
 classes_spelled : (ds : List Data) → Yields (All SpelledClass) (classes_of ds)
 unfolding classes_of
-classes_spelled ds = yields_each (λ n classes. All SpelledClass classes) class_row class_spelled ds 0 [] (All-nil SpelledClass)
+classes_spelled ds = yields_each (λ n classes. All SpelledClass classes) class_row class_row_spelled ds 0 [] (All-nil SpelledClass)
 
 -- a name and a class
 abbrev Shared : Name × Name → Type 0
@@ -149,23 +153,27 @@ methods_spelled listed ds = yields_each (λ n r. All Method r.rows) (method_row 
 abbrev Called : Callback → Type 0
 Called c = SpelledMethod c.class c.name c.proto
 
-callback_spelled : (categories : List Name) (n : ℕ) (d : Data) (callbacks : CallbackRows) → All Called callbacks.rows → Yields (λ r. All Called r.rows) (callback_row categories d callbacks)
-unfolding callback_row fits
-callback_spelled categories n d callbacks so_far =
+callback_spelled : (categories : List Name) (d : Data) → Yields (λ r. Called r.0) (callback_at categories d)
+unfolding callback_at fits
+callback_spelled categories d =
     yields_past _ (table_in section.Lists key.Callback d) _
     (λ t. yields_past _ (known section.Callback t) _
     (λ _. yields_then (Fits spelling.Class) _ (text_at section.Callback key.Class spelling.Class t) _ (text_fits section.Callback key.Class spelling.Class t)
     (λ class named. yields_then (Fits spelling.Text) _ (text_at section.Callback key.Name spelling.Text t) _ (text_fits section.Callback key.Name spelling.Text t)
     (λ name short. yields_then (λ r. SpelledProto r.0) _ (proto_at section.Callback t) _ (proto_spelled section.Callback t)
     (λ proto typed. yields_past _ (named_at section.Callback key.Sources (position_count false proto.0) categories t) _
-    (λ sources.
-    let callback : Callback = record { class = class; name = name; proto = proto.0; sources = sources } in
-    yields_value _ _ (All-push Called callbacks.rows callback so_far (record { of_class = named; named = short; typed = typed }))))))))
+    (λ sources. yields_value _ _ (record { of_class = named; named = short; typed = typed })))))))
+
+callback_row_spelled : (categories : List Name) (n : ℕ) (d : Data) (callbacks : CallbackRows) → All Called callbacks.rows → Yields (λ r. All Called r.rows) (callback_row categories d callbacks)
+unfolding callback_row
+callback_row_spelled categories n d callbacks so_far =
+    yields_then (λ r. Called r.0) _ (callback_at categories d) _ (callback_spelled categories d)
+    (λ new spelled. yields_value _ _ (All-push Called callbacks.rows new.0 so_far spelled))
 
 callbacks_spelled : (categories : List Name) (ds : List Data) → Yields (λ r. All Called r.rows) (callbacks_of categories ds)
 unfolding callbacks_of
 callbacks_spelled categories ds =
-    yields_each (λ n r. All Called r.rows) (callback_row categories) (callback_spelled categories) ds 0 (record { rows = []; keys = [] }) (All-nil Called)
+    yields_each (λ n r. All Called r.rows) (callback_row categories) (callback_row_spelled categories) ds 0 (record { rows = []; keys = [] }) (All-nil Called)
 
 categories_spelled : (t : Members) → Yields (All (Fits spelling.Category)) (categories_at t)
 unfolding categories_at
@@ -199,11 +207,8 @@ lists_spelled t =
     yields_past _ (known section.Lists t) _
     (λ _. yields_past _ (number_at section.Lists key.Rows 1 4000000 t) _
     (λ most. yields_then (All (Fits spelling.Category)) _ (categories_at t) _ (categories_spelled t)
-    (λ categories named. yields_past _ (tables_at section.Lists key.Class 65536 t) _
-    (λ cs. yields_past _ (tables_at section.Lists key.Shared 65536 t) _
-    (λ ss. yields_past _ (tables_at section.Lists key.Method 65536 t) _
-    (λ ms. yields_past _ (tables_at section.Lists key.Callback 65536 t) _
-    (λ ks. yields_then (SpelledRows categories) _ (rows_of categories cs ss ms ks) _ (rows_spelled categories cs ss ms ks)
+    (λ categories named. yields_past _ (arrays_at t) _
+    (λ arrays. yields_then (SpelledRows categories) _ (rows_of categories arrays.0.0 arrays.0.1 arrays.1.0 arrays.1.1) _ (rows_spelled categories arrays.0.0 arrays.0.1 arrays.1.0 arrays.1.1)
     (λ rows spelled. yields_past _ (rows_once rows) _
     (λ _. yields_value _ _ (record {
       categories = subst (λ (names : List Name). All (Fits spelling.Category) names) (sym spelled.same) named;
@@ -211,7 +216,7 @@ lists_spelled t =
       shared = spelled.shared;
       methods = spelled.methods;
       callbacks = spelled.callbacks;
-    }))))))))))
+    })))))))
 
 pub spelled_lists : (t : Members) (d : Lists) → run (lists_form t) ≡ Ok d → SpelledLists d
 spelled_lists t d e = (lists_spelled t).at d e

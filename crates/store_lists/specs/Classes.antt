@@ -61,16 +61,22 @@ fallback_at t = do
   word ← word_at section.Class key.Default t
   fallback_in word
 
--- a row: the class itself stands first among those above it
-unfoldable pub class_row : Data → List LibClass → Script Fault (List LibClass)
-class_row d classes = do
+-- what a row says: the class itself stands first among those above it
+unfoldable pub class_at : Data → List LibClass → Script Fault LibClass
+class_at d classes = do
   t ← table_in section.Lists key.Class d
   _ ← known section.Class t
   name ← text_at section.Class key.Name spelling.Class t
   parents ← parents_at t
   above ← parents_above classes parents name
   fallback ← fallback_at t
-  Value (classes ++ record { name = name; above = above; fallback = fallback } ∷ [])
+  Value (record { name = name; above = above; fallback = fallback })
+
+-- a row more
+unfoldable pub class_row : Data → List LibClass → Script Fault (List LibClass)
+class_row d classes = do
+  class ← class_at d classes
+  Value (classes ++ class ∷ [])
 
 unfoldable pub classes_of : List Data → Script Fault (List LibClass)
 classes_of tables = each class_row tables []

@@ -65,15 +65,21 @@ rows_once rows = do
   _ ← keys_once rows.callbacks.keys
   Value tt
 
+-- the tables of the four arrays: of classes and of shared objects, of methods and of callbacks
+unfoldable pub arrays_at : Members → Script Fault ((List Data × List Data) × (List Data × List Data))
+arrays_at t = do
+  classes ← tables_at section.Lists key.Class 65536 t
+  shared ← tables_at section.Lists key.Shared 65536 t
+  methods ← tables_at section.Lists key.Method 65536 t
+  callbacks ← tables_at section.Lists key.Callback 65536 t
+  Value ((classes, shared), (methods, callbacks))
+
 unfoldable pub lists_form : Members → Script Fault Lists
 lists_form t = do
   _ ← known section.Lists t
   most ← number_at section.Lists key.Rows 1 4000000 t
   categories ← categories_at t
-  classes ← tables_at section.Lists key.Class 65536 t
-  shared ← tables_at section.Lists key.Shared 65536 t
-  methods ← tables_at section.Lists key.Method 65536 t
-  callbacks ← tables_at section.Lists key.Callback 65536 t
-  rows ← rows_of categories classes shared methods callbacks
+  arrays ← arrays_at t
+  rows ← rows_of categories arrays.0.0 arrays.0.1 arrays.1.0 arrays.1.1
   _ ← rows_once rows
   Value (record { rows = most; categories = rows.listed.categories; classes = rows.classes; shared = rows.shared; methods = rows.methods.rows; callbacks = rows.callbacks.rows })

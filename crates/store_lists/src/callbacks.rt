@@ -1,6 +1,6 @@
 //! The rows of callbacks.
-ghost use Rattle.std.specs.Prelude.{◌≡◌, ◌≤◌, length, map};
-ghost use Rattle.store_lists.specs.Callbacks.{callback_row, callbacks_of};
+ghost use Rattle.std.specs.Prelude.{◌≡◌, ◌≤◌, ◌++◌, ◌∷◌, [], IfOk, length, map};
+ghost use Rattle.store_lists.specs.Callbacks.{callback_at, callback_row, callbacks_of};
 ghost use Rattle.method_fields.specs.Positions.{named_at, named_row, named_rows};
 ghost use Rattle.toml.specs.View.{table_view, view};
 ghost use Rattle.vet_base.specs.Script.{Gives};
@@ -12,7 +12,7 @@ use form_fields::{
 use method_fields::{MethodKey, are_two, items_at, name_at, position_at, position_count, proto_at};
 use std::alloc::Global;
 use toml::{Table, Value};
-use vet_base::{Name, Seq, Stop};
+use vet_base::{Memory, Name, Seq, Stop};
 
 /// The rows so far, and what tells each from the others.
 #[derive(Drop)]
@@ -41,7 +41,7 @@ pub fn callbacks_of(
     Ok(rows)
 }
 
-/// One row more. A callback is no static method.
+/// One row more.
 #[tactic(auto, unfolding(crate::specs::Callbacks::callback_row), using(vet_base::proofs::Scripts::run_bind))]
 fn callback_row(
     alloc: Global,
@@ -52,27 +52,54 @@ fn callback_row(
     requires { length categories.now ≤ 200 }
     ensures { Gives (λ x. x) result (callback_row categories.now (view value.now) rows) }
 {
+    let (callback, key) = callback_at(alloc, value, categories)?;
+    Ok(with_callback(rows, callback, key)?)
+}
+
+fn with_callback(
+    rows: CallbackRows,
+    callback: Callback,
+    key: MethodKey,
+) -> Result<CallbackRows, Memory>
+    ensures { IfOk result (λ x. x ≡ record { rows = rows.rows ++ callback ∷ []; keys = rows.keys ++ key ∷ [] }) }
+{
+    let CallbackRows { mut rows, mut keys } = rows;
+    rows.push(callback)?;
+    keys.push(key)?;
+    Ok(CallbackRows { rows, keys })
+}
+
+/// A callback, and what tells it from others. It is no static method.
+#[tactic(auto, unfolding(crate::specs::Callbacks::callback_at), using(vet_base::proofs::Scripts::run_bind))]
+fn callback_at(
+    alloc: Global,
+    value: &Value,
+    categories: &Index<Name>,
+) -> Result<(Callback, MethodKey), Stop<Fault>>
+    requires { length categories.now ≤ 200 }
+    ensures { Gives (λ x. x) result (callback_at categories.now (view value.now)) }
+{
     let table = table_in(value, Section::Lists, Key::Callback)?;
     known(alloc, table, Section::Callback)?;
     let class = text_at(alloc, table, Section::Callback, Key::Class, Spelling::Class)?;
     let name = text_at(alloc, table, Section::Callback, Key::Name, Spelling::Text)?;
     let (proto, descriptor) = proto_at(alloc, table, Section::Callback)?;
     let sources = sources_at(alloc, table, position_count(false, &proto), categories)?;
-    let key = MethodKey {
-        class: class.copy()?,
-        name: name.copy()?,
-        descriptor,
-        is_static: false,
-    };
-    let CallbackRows { mut rows, mut keys } = rows;
-    rows.push(Callback {
+    let key_class = class.copy()?;
+    let key_name = name.copy()?;
+    let callback = Callback {
         class,
         name,
         proto,
         sources: Seq::from_vec(sources),
-    })?;
-    keys.push(key)?;
-    Ok(CallbackRows { rows, keys })
+    };
+    let key = MethodKey {
+        class: key_class,
+        name: key_name,
+        descriptor,
+        is_static: false,
+    };
+    Ok((callback, key))
 }
 
 /// Positions, each with the category with which its value comes labelled.

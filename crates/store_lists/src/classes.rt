@@ -1,7 +1,7 @@
 //! The classes of the library, each with the classes above it.
 ghost use Rattle.std.specs.Prelude.{◌≡◌, ◌++◌, map, [], ◌∷◌, IfOk};
 ghost use Rattle.std.specs.Option.{option_copied};
-ghost use Rattle.store_lists.specs.Classes.{above_in, parent_row, parents_above, parents_at, fallback_of, fallback_at, class_row, classes_of, class_name};
+ghost use Rattle.store_lists.specs.Classes.{above_in, parent_row, parents_above, parents_at, fallback_of, fallback_at, class_at, class_row, classes_of, class_name};
 ghost use Rattle.toml.specs.View.{table_view, view};
 ghost use Rattle.vet_base.specs.Script.{Gives};
 
@@ -84,23 +84,31 @@ pub fn classes_of(alloc: Global, tables: &[Value]) -> Result<Classes, Stop<Fault
     Ok(classes)
 }
 
-/// One row more. The class itself stands first among those above it.
+/// One row more.
 #[tactic(auto, unfolding(crate::specs::Classes::class_row), using(vet_base::proofs::Scripts::run_bind))]
 fn class_row(alloc: Global, value: &Value, classes: Classes) -> Result<Classes, Stop<Fault>>
     ensures { Gives (λ x. x) result (class_row (view value.now) classes) }
+{
+    let class = class_at(alloc, value, &classes)?;
+    Ok(classes.with(class)?)
+}
+
+/// A class of the library. It stands first itself among those above it.
+#[tactic(auto, unfolding(crate::specs::Classes::class_at), using(vet_base::proofs::Scripts::run_bind))]
+fn class_at(alloc: Global, value: &Value, classes: &Classes) -> Result<LibClass, Stop<Fault>>
+    ensures { Gives (λ x. x) result (class_at (view value.now) classes.now) }
 {
     let table = table_in(value, Section::Lists, Key::Class)?;
     known(alloc, table, Section::Class)?;
     let name = text_at(alloc, table, Section::Class, Key::Name, Spelling::Class)?;
     let parents = parents_at(alloc, table)?;
-    let above = parents_above(alloc, &classes, &parents, &name)?;
+    let above = parents_above(alloc, classes, &parents, &name)?;
     let fallback = fallback_at(table)?;
-    let row = LibClass {
+    Ok(LibClass {
         name,
         above: Seq::from_vec(above.into_keys()),
         fallback,
-    };
-    Ok(classes.with(row)?)
+    })
 }
 
 /// The parents that a row names, each once.

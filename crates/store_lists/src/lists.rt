@@ -1,7 +1,7 @@
 //! The lists of the office: categories, classes, shared objects, methods and callbacks.
 ghost use Rattle.std.specs.Prelude.{◌≡◌, ◌≢◌, ◌≤◌, ◌+◌, IsTrue, IfOk, IfErr, length, map};
 ghost use Rattle.form_fields.specs.Form.{IsForm, FirstFormFault};
-ghost use Rattle.store_lists.specs.Lists.{are_categories, categories_at, shared_row, shared_of, rows_of, rows_once, lists_form};
+ghost use Rattle.store_lists.specs.Lists.{are_categories, categories_at, shared_row, shared_of, rows_of, rows_once, arrays_at, lists_form};
 ghost use Rattle.app_machine.specs.SoundLists.{SoundLists};
 ghost use Rattle.store_lists.specs.Spelled.{SpelledLists};
 ghost use Rattle.toml.specs.View.{table_view, view};
@@ -55,12 +55,23 @@ fn lists_in(alloc: Global, tree: &Table) -> Result<Lists, Stop<Fault>>
     known(alloc, tree, Section::Lists)?;
     let most = number_at(tree, Section::Lists, Key::Rows, 1, 4_000_000)?;
     let categories = categories_at(alloc, tree)?;
-    let classes = tables_at(tree, Section::Lists, Key::Class, 65536)?;
-    let shared = tables_at(tree, Section::Lists, Key::Shared, 65536)?;
-    let methods = tables_at(tree, Section::Lists, Key::Method, 65536)?;
-    let callbacks = tables_at(tree, Section::Lists, Key::Callback, 65536)?;
+    let ((classes, shared), (methods, callbacks)) = arrays_at(tree)?;
     let rows = rows_of(alloc, categories, classes, shared, methods, callbacks)?;
     rows_once(alloc, &rows)?;
+    Ok(lists_of(most, rows))
+}
+
+/// The lists of these rows.
+fn lists_of(most: u32, rows: Rows) -> Lists
+    ensures { result ≡ record {
+      rows = most;
+      categories = rows.listed.categories;
+      classes = rows.classes;
+      shared = rows.shared;
+      methods = rows.methods.rows;
+      callbacks = rows.callbacks.rows;
+    } }
+{
     let Rows {
         listed,
         classes,
@@ -68,14 +79,33 @@ fn lists_in(alloc: Global, tree: &Table) -> Result<Lists, Stop<Fault>>
         methods,
         callbacks,
     } = rows;
-    Ok(Lists {
+    Lists {
         rows: most,
         categories: Seq::from_vec(listed.categories.into_keys()),
         classes,
         shared,
         methods: methods.rows,
         callbacks: callbacks.rows,
-    })
+    }
+}
+
+/// The tables of two arrays.
+type Two<'a> = (&'a [Value], &'a [Value]);
+
+/// The tables of the four arrays: of classes and of shared objects, of methods and of callbacks.
+#[tactic(auto, unfolding(crate::specs::Lists::arrays_at), using(vet_base::proofs::Scripts::run_bind))]
+fn arrays_at<'a>(tree: &'a Table) -> Result<(Two<'a>, Two<'a>), Stop<Fault>>
+    ensures value { Gives
+        (λ x. ((map view x.0.0.now, map view x.0.1.now), (map view x.1.0.now, map view x.1.1.now)))
+        result
+        (arrays_at (table_view tree.now)) }
+    ensures few { IfOk result (λ x. length x.0.1.now ≤ 65536) }
+{
+    let classes = tables_at(tree, Section::Lists, Key::Class, 65536)?;
+    let shared = tables_at(tree, Section::Lists, Key::Shared, 65536)?;
+    let methods = tables_at(tree, Section::Lists, Key::Method, 65536)?;
+    let callbacks = tables_at(tree, Section::Lists, Key::Callback, 65536)?;
+    Ok(((classes, shared), (methods, callbacks)))
 }
 
 /// 1 to 200 categories, no two the same.

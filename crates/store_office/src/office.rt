@@ -1,12 +1,12 @@
 ghost use Rattle.std.specs.Prelude.{◌≡◌, find};
 ghost use Rattle.std.specs.Option.{option_copied};
-ghost use Rattle.desk_office.specs.Office.{has_token};
+ghost use Rattle.store_office.specs.Office.{has_token};
 
-use case_rules::Party;
+use crate::Party;
 use vet_base::Shared;
 
 /// What the store lays down for its desk.
-#[derive(Debug, Drop)]
+#[derive(Drop)]
 pub struct Office {
     /// 1 to 65535.
     pub port: u16,
