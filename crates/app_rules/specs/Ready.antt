@@ -5,8 +5,8 @@ use Rattle.app_machine.specs.declared.app.App.{App}
 use Rattle.event_rules.specs.RowGiven.{EventsReady}
 use Rattle.fact_rows.specs.declared.row.Row.{Row}
 use Rattle.flow_rules.specs.Rules.{Starts}
-use Rattle.start_rows.specs.StartLaws.{StartsAreExact}
-use Rattle.start_rows.specs.StartRows.{start_rows}
+use Rattle.app_rows.specs.StartLaws.{StartsAreExact}
+use Rattle.app_rows.specs.StartRows.{start_rows}
 use Rattle.vet_base.specs.Members.{In}
 
 pub record RulesReady (app : App) (lists : Lists) (starts : List Row) : Type 0 where

@@ -9,8 +9,7 @@ use access_path::{Path, cut};
 use app_machine::Method;
 use app_parts::{is_reference, parameter_type, position_at};
 use fact_rows::{Activation, Ctx, Node, Row, Site};
-use rule_ground::{Conclusion, Premises, Sink};
-use rule_nodes::entry;
+use rule_ground::{Conclusion, Premises, Sink, entry};
 use vet_base::{KeyId, Name};
 
 /// A body that the system calls: in which context, and by which rule and premises.

@@ -11,8 +11,7 @@ use app_model::step_at;
 use app_parts::is_by_receiver;
 use call_targets::argument_register;
 use fact_rows::{Activation, Node, Row};
-use rule_ground::{Conclusion, Content, Facts, Join, Key, Premises, Sink, for_each_hit};
-use rule_nodes::entry;
+use rule_ground::{Conclusion, Content, Facts, Join, Key, Premises, Sink, entry, for_each_hit};
 
 /// A call instruction at a node, and an activation that it enters.
 #[derive(Clone, Copy)]

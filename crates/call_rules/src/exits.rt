@@ -4,12 +4,12 @@ ghost use Rattle.std.specs.Option.{option_copied};
 ghost use Rattle.app_machine.specs.Sound.{SoundApp};
 ghost use Rattle.call_rules.specs.ExitGiven.{returned_on, caught_on, thrown, left, caller_takes, exit_taken, exits_taken};
 
-use crate::{EXCEPTION, RESULT, RETURNING, THROWING};
 use app_machine::{App, Step};
 use app_model::step_at;
 use fact_rows::{Activation, Node, Row};
 use rule_ground::{
-    Conclusion, Content, Facts, Inference, Join, Key, Premises, Sink, for_each_hit, put_each,
+    Conclusion, Content, EXCEPTION, Facts, Inference, Join, Key, Premises, RESULT, RETURNING, Sink,
+    THROWING, for_each_hit, put_each,
 };
 
 /// What is returned is the result behind the step that called.

@@ -12,8 +12,7 @@ use app_machine::{Act, App};
 use app_model::{act_initialisers, is_initialiser, next_initialiser, step_at};
 use call_targets::Pointer;
 use fact_rows::{Activation, Node, Row, Site};
-use rule_ground::{Conclusion, Facts, Join, Key, Premises, Sink, for_each_hit};
-use rule_nodes::callee;
+use rule_ground::{Conclusion, Facts, Join, Key, Premises, Sink, callee, for_each_hit};
 
 /// Whether the activation is of an initialiser that may run before the act.
 pub fn is_initialised(app: &App, node: Node, act: &Act, by: Activation) -> bool

@@ -11,8 +11,7 @@ use app_machine::{App, CallKind, Method, MethodRef, SummaryId};
 use app_model::summary_of;
 use app_parts::{SummaryView, is_reflective, is_static_call};
 use fact_rows::{Activation, Node, Row};
-use rule_ground::{Conclusion, Content, Premises, Sink};
-use rule_nodes::{callee, entry};
+use rule_ground::{Conclusion, Content, Premises, Sink, callee, entry};
 use vet_base::Name;
 
 /// Why what comes next may not be modelled.

@@ -12,8 +12,7 @@ use app_machine::{Act, App};
 use app_model::{Target, target};
 use app_parts::is_by_receiver;
 use fact_rows::{Node, Row, Site};
-use rule_ground::{Content, Premises, Sink};
-use rule_nodes::callee;
+use rule_ground::{Content, Premises, Sink, callee};
 use site_classes::site_class;
 use vet_base::Name;
 

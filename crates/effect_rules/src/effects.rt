@@ -7,8 +7,7 @@ use access_path::{Path, cut};
 use app_machine::App;
 use app_model::step_at;
 use fact_rows::{Node, Row, Site};
-use rule_ground::{Conclusion, Facts, Join, Key, Premises, Sink, for_each_hit};
-use rule_nodes::at_pc;
+use rule_ground::{Conclusion, Facts, Join, Key, Premises, Sink, at_pc, for_each_hit};
 
 /// An effect of a node on objects of a site.
 #[derive(Clone, Copy)]

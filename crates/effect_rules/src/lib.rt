@@ -6,4 +6,4 @@ mod methods;
 mod rules;
 mod takers;
 
-pub use rules::{EffectRules, effect_consequences, effect_missing};
+pub use rules::EffectRules;

@@ -26,7 +26,7 @@ use Rattle.rule_ground.specs.declared.conclusion.Conclusion.{Conclusion}
 use Rattle.rule_ground.specs.Below.{in_below}
 use Rattle.rule_ground.specs.Given.{concludes, held}
 use Rattle.rule_ground.specs.Listing.{itself}
-use Rattle.start_rows.specs.Application.{is_application, is_the_application}
+use Rattle.app_rows.specs.Application.{is_application, is_the_application}
 use Rattle.begin_rules.specs.declared.parameters.Start.{Start}
 use Rattle.begin_rules.specs.BeginGiven.{first_of, says}
 use Rattle.begin_rules.specs.BeginExact.{begins_complete, object_begins, is_received}

@@ -26,7 +26,7 @@ use Rattle.rule_ground.specs.declared.key.Key.TheVariants.{EventEntries, ExitPoi
 use Rattle.rule_ground.specs.Asking.{asks}
 use Rattle.rule_ground.specs.Below.{for_below}
 use Rattle.rule_ground.specs.Given.{concludes}
-use Rattle.start_rows.specs.Application.{is_application}
+use Rattle.app_rows.specs.Application.{is_application}
 use Rattle.begin_rules.specs.declared.parameters.Start.{Start}
 use Rattle.begin_rules.specs.BeginGiven.{begins, enters}
 use Rattle.event_rules.specs.declared.known.Known.{Known}

@@ -2,14 +2,14 @@
 ghost use Rattle.std.specs.Prelude.{◌≡◌, OnOk, fold, length, slice_get};
 ghost use Rattle.app_machine.specs.Sound.{SoundApp};
 ghost use Rattle.event_rules.specs.EventGiven.{created_gives, other_lives, others_live};
-ghost use Rattle.start_rows.specs.Application.{is_application as is_application_in};
+ghost use Rattle.app_rows.specs.Application.{is_application as is_application_in};
 
 use app_machine::App;
 use app_model::is_application;
 use fact_rows::Row;
 use rule_ground::{Conclusion, Premises, Sink};
 
-#[tactic(auto, using(start_rows::specs::Application::same_test))]
+#[tactic(auto, using(app_rows::specs::Application::same_test))]
 fn is_the_application(app: &App, component: u32) -> bool
     ensures { result ≡ is_application_in (slice_get app.now.components component) }
 {

@@ -12,8 +12,7 @@ use app_model::below;
 use app_parts::{is_reference, parameter_type, position_at};
 use begin_rules::first_argument;
 use fact_rows::{Activation, Row};
-use rule_ground::{Conclusion, Premises, Sink};
-use rule_nodes::entry;
+use rule_ground::{Conclusion, Premises, Sink, entry};
 use vet_base::Name;
 
 /// A handed object of a class that comes back to an event.

@@ -13,4 +13,4 @@ mod present;
 mod returned;
 mod rules;
 
-pub use rules::{EventRules, event_consequences, event_missing};
+pub use rules::EventRules;

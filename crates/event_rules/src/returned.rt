@@ -4,14 +4,13 @@ ghost use Rattle.event_rules.specs.EventGiven.{exit_is, exit_leads, exit_points_
 
 use access_path::Path;
 use fact_rows::{Activation, Row, Site};
-use rule_ground::{Conclusion, Facts, Join, Key, Premises, Sink, for_each_hit};
-use rule_nodes::entry;
+use rule_ground::{Conclusion, Facts, Join, Key, Premises, RETURNING, Sink, entry, for_each_hit};
 
 /// Whether what leaves the activation so is handed over: it is that of an event, and returns.
 fn hands_over(by: Activation, how: u8) -> bool
     ensures { result ≡ hands_over by how }
 {
-    how == 0 && Key::EventEntries.asks(&Row::Reached(entry(by)))
+    how == RETURNING && Key::EventEntries.asks(&Row::Reached(entry(by)))
 }
 
 /// An object that an event returns leads to a label that it returns.
@@ -21,8 +20,8 @@ fn leads(by: Activation, site: Site, path: Path, label: u8) -> Conclusion
     Conclusion {
         rule: 46,
         premises: Premises::Two(
-            Row::ExitPoints(by, 0, site),
-            Row::ExitTaint(by, 0, path, label),
+            Row::ExitPoints(by, RETURNING, site),
+            Row::ExitTaint(by, RETURNING, path, label),
         ),
         row: Row::HandedTaint(site, path, label),
     }
@@ -61,12 +60,12 @@ pub fn hand_over<F: Facts, S: Sink>(
     if hands_over(by, how) {
         out.put(Conclusion {
             rule: 46,
-            premises: Premises::One(Row::ExitPoints(by, 0, site)),
+            premises: Premises::One(Row::ExitPoints(by, RETURNING, site)),
             row: Row::Handed(site),
         })?;
         for_each_hit(
             facts,
-            &Key::ExitTaintsOf(by, 0),
+            &Key::ExitTaintsOf(by, RETURNING),
             &Returned { by, site },
             out,
         )
@@ -110,7 +109,7 @@ pub fn hand_label_over<F: Facts, S: Sink>(
     if hands_over(by, how) {
         for_each_hit(
             facts,
-            &Key::ExitPointsOf(by, 0),
+            &Key::ExitPointsOf(by, RETURNING),
             &Beside { by, path, label },
             out,
         )

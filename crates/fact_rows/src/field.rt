@@ -4,7 +4,7 @@ use app_machine::SummaryId;
 use vet_base::KeyId;
 
 /// A field of a row, by what it names.
-#[derive(Clone, Copy, Debug, PartialEq, Eq, PartialOrd, Ord, Hash)]
+#[derive(Clone, Copy, PartialEq, Eq, PartialOrd, Ord)]
 pub enum Field {
     Node(Node),
     /// A register of the node's method.

@@ -3,12 +3,11 @@ ghost use Rattle.std.specs.Prelude.{◌≡◌, OnOk, fold};
 ghost use Rattle.library_ground.specs.CallRow.{shown_call};
 ghost use Rattle.library_heap_rules.specs.HeapGiven.{copy_at, copy_element, copy_gives, copy_into, copy_rest, copy_row, label_into};
 
-use crate::ELEMENT;
 use crate::pairs::{OfSecond, Position};
 use access_path::{Path, cut, rest};
 use fact_rows::{Row, Site};
 use library_ground::{LibraryCall, Pins, for_each_value, may_stand};
-use rule_ground::{Conclusion, Facts, Join, Key, Premises, Sink, for_each_candidate};
+use rule_ground::{Conclusion, ELEMENT, Facts, Join, Key, Premises, Sink, for_each_candidate};
 
 /// Each object that takes the element in.
 #[derive(Drop)]

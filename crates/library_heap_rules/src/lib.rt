@@ -9,7 +9,4 @@ mod puts;
 mod rules;
 mod stores;
 
-pub use rules::{LibraryRules, library_consequences, library_missing};
-
-/// The key of all elements.
-const ELEMENT: vet_base::KeyId = vet_base::KeyId(0);
+pub use rules::LibraryRules;

@@ -3,11 +3,12 @@ ghost use Rattle.std.specs.Prelude.{◌≡◌, OnOk, fold};
 ghost use Rattle.library_ground.specs.CallRow.{shown_call};
 ghost use Rattle.library_heap_rules.specs.HeapGiven.{put_at, put_content, put_gives, put_into, put_row};
 
-use crate::ELEMENT;
 use crate::pairs::{OfSecond, Position};
 use fact_rows::Row;
 use library_ground::{LibraryCall, for_each_value, may_stand};
-use rule_ground::{Conclusion, Content, Facts, Join, Key, Premises, Sink, for_each_candidate};
+use rule_ground::{
+    Conclusion, Content, ELEMENT, Facts, Join, Key, Premises, Sink, for_each_candidate,
+};
 
 /// Each object that takes the value in.
 #[derive(Drop)]

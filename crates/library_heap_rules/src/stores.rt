@@ -4,12 +4,11 @@ ghost use Rattle.app_machine.specs.Sound.{SoundApp};
 ghost use Rattle.library_ground.specs.CallRow.{shown_call, IsWithin};
 ghost use Rattle.library_heap_rules.specs.HeapGiven.{static_filled, statics_filled, store_content, store_gives, store_row};
 
-use crate::ELEMENT;
 use crate::pairs::{OfSecond, Position};
 use app_machine::App;
 use fact_rows::{Row, Site};
 use library_ground::{LibraryCall, for_each_value, shared_static};
-use rule_ground::{Conclusion, Content, Facts, Join, Premises, Sink};
+use rule_ground::{Conclusion, Content, ELEMENT, Facts, Join, Premises, Sink};
 
 /// The shared object takes the value in.
 fn store<S: Sink>(

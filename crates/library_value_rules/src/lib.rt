@@ -10,9 +10,3 @@ mod statics;
 
 pub use positions::value_rules;
 pub use statics::{StaticLabel, static_label};
-
-/// The register RES, which holds the result of the last call.
-const RESULT: u32 = 65_536;
-
-/// The key of all elements.
-const ELEMENT: vet_base::KeyId = vet_base::KeyId(0);

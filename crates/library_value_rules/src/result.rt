@@ -4,13 +4,13 @@ ghost use Rattle.library_ground.specs.CallRow.{shown_call};
 ghost use Rattle.library_value_rules.specs.ValueGiven.{joined, labelled, result_gives, results, returned, taken, took, took_rest};
 
 use crate::handed::with_value;
-use crate::{ELEMENT, RESULT};
 use access_path::{Path, cut, rest};
 use app_parts::CallResult;
 use fact_rows::Row;
 use library_ground::LibraryCall;
 use rule_ground::{
-    Content, Facts, Inference, Join, Key, Premises, Sink, for_each_candidate, put_each,
+    Content, ELEMENT, Facts, Inference, Join, Key, Premises, RESULT, Sink, for_each_candidate,
+    put_each,
 };
 
 /// A value of a position, and what its object is known to hold.

@@ -18,7 +18,7 @@ use Rattle.flow_rules.specs.CallRules.{enter_direct, enter_class, enter_receiver
 use Rattle.flow_rules.specs.Rules.{by_call}
 use Rattle.rule_witness.specs.Smallest.{main_class}
 use Rattle.rule_witness.specs.StepFacts.{does, tries}
-use Rattle.rule_witness.specs.CallFacts.{jni, pass, turn, plain, mirror, size, odd, calls_app, calls_lists, call_at, passes, CallRulesHold}
+use Rattle.rule_witness.specs.CallFacts.{jni, pass, turn_above, plain, mirror, size, odd, calls_app, calls_lists, call_at, passes, CallRulesHold}
 
 acts : {pc : ℕ} (s : Step) → step_at calls_app 2 pc ≡ Some s → ActAt calls_app 2 pc s.act
 acts s there = record { step = s; there = there; same = refl }
@@ -32,14 +32,14 @@ caught s there catch = record { step = s; there = there; catch = catch }
 abbrev to_pass : Step
 to_pass = tries 0 (Call Static pass (1 ∷ [])) (1 ∷ [])
 
-abbrev to_turn : Step
-to_turn = does 1 (Call Virtual turn (1 ∷ [])) (2 ∷ [])
+abbrev pub to_turn : Step
+to_turn = does 1 (Call Virtual turn_above (1 ∷ [])) (2 ∷ [])
 
 at_pass : step_at calls_app 2 0 ≡ Some to_pass
 unfolding calls_app step_at
 at_pass = refl
 
-at_turn : step_at calls_app 2 1 ≡ Some to_turn
+pub at_turn : step_at calls_app 2 1 ≡ Some to_turn
 unfolding calls_app step_at
 at_turn = refl
 

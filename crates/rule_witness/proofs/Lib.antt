@@ -2,6 +2,8 @@ pub mod CallFacts
 pub mod Deriving
 pub mod EventFacts
 pub mod LibraryFacts
+pub mod RowFacts
 pub mod Smallest
 pub mod SmallestApp
 pub mod StepFacts
+pub mod Withheld

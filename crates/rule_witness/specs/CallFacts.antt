@@ -50,6 +50,10 @@ pass = ref main_class (codes "pass") (int ∷ []) int
 abbrev pub turn : MethodRef
 turn = ref main_class (codes "turn") [] void
 
+-- the virtual one as it is called, by the class above
+abbrev pub turn_above : MethodRef
+turn_above = ref activity_class (codes "turn") [] void
+
 -- methods of the library: a plain one, a reflective one, a virtual one, and one without a row
 abbrev pub plain : MethodRef
 plain = ref box_class (codes "a") [] int
@@ -93,7 +97,7 @@ calls_app = record {
       ∷ record { at = jni; is_static = true; is_native = true; registers = 0; ins = 0; steps = [] }
       ∷ method_of (ref main_class (codes "onCreate") (codes "Landroid/os/Bundle;" ∷ []) void) false 5 2 (
       tries 0 (Call Static pass (1 ∷ [])) (1 ∷ [])
-      ∷ does 1 (Call Virtual turn (1 ∷ [])) (2 ∷ [])
+      ∷ does 1 (Call Virtual turn_above (1 ∷ [])) (2 ∷ [])
       ∷ does 2 (Call Static jni []) (3 ∷ [])
       ∷ does 3 (Call Static plain []) (4 ∷ [])
       ∷ does 4 (Call Static odd []) (5 ∷ [])

@@ -1,5 +1,7 @@
 pub mod CallFacts
 pub mod EventFacts
 pub mod LibraryFacts
+pub mod RowFacts
 pub mod Smallest
 pub mod StepFacts
+pub mod Withheld

@@ -3,15 +3,17 @@ use Rattle.std.specs.Prelude.{ℕ, true, List, [], ◌∷◌, Some, None, codes}
 use Rattle.access_path.specs.declared.path.Path.{Path}
 use Rattle.access_path.specs.Paths.{cut, empty_path}
 use Rattle.app_machine.specs.declared.call.MethodRef.{MethodRef}
-use Rattle.app_machine.specs.declared.call.CallKind.TheVariants.{Static}
+use Rattle.app_machine.specs.declared.call.CallKind.TheVariants.{Static, Virtual}
 use Rattle.app_machine.specs.declared.method.Act.TheVariants.{Call, Return}
 use Rattle.app_machine.specs.declared.app.Key.TheVariants.{Elem}
 use Rattle.app_machine.specs.declared.app.App.{App}
 use Rattle.app_machine.specs.declared.summary.Gives.{Gives as GivesOf}
 use Rattle.app_machine.specs.declared.summary.Gives.TheVariants as gives
 use Rattle.app_machine.specs.declared.summary.Summary.{Summary}
-use Rattle.app_machine.specs.declared.lists.SummaryId.TheVariants.{Row as RowOf}
+use Rattle.app_machine.specs.declared.lists.FallbackWord.TheVariants.{Mixed}
+use Rattle.app_machine.specs.declared.lists.SummaryId.TheVariants.{Row as RowOf, Fallback}
 use Rattle.app_machine.specs.declared.lists.Lists.{Lists}
+use Rattle.app_machine.specs.Names.{Name}
 use Rattle.app_machine.specs.Lookups.{elem_key}
 use Rattle.app_machine.specs.State.{result_register}
 use Rattle.fact_rows.specs.declared.context.Ctx.{Ctx}
@@ -50,6 +52,16 @@ copies_to = ref box_class (codes "g") (box_class ∷ box_class ∷ []) void
 abbrev pub sends : MethodRef
 sends = ref box_class (codes "h") (box_class ∷ []) void
 
+abbrev pub shows : MethodRef
+shows = ref box_class (codes "i") (box_class ∷ box_class ∷ []) void
+
+-- a virtual method of a class without rows, of which a default takes every argument into the receiver
+abbrev pub bag_class : Name
+bag_class = codes "Lvendor/Bag;"
+
+abbrev pub fills : MethodRef
+fills = ref bag_class (codes "j") (box_class ∷ []) void
+
 abbrev pub giving : MethodRef → GivesOf → Summary
 giving at what = record (row_of_method at true) { gives = what }
 
@@ -57,7 +69,7 @@ unfoldable pub library_lists : Lists
 library_lists = record {
   rows = 1000;
   categories = codes "device_id" ∷ codes "network" ∷ [];
-  classes = record { name = box_class; above = box_class ∷ []; fallback = None } ∷ [];
+  classes = record { name = box_class; above = box_class ∷ []; fallback = None } ∷ record { name = bag_class; above = bag_class ∷ []; fallback = Some Mixed } ∷ [];
   shared = (codes "store", box_class) ∷ [];
   methods =
       giving gives_same (gives.Same 0)
@@ -68,6 +80,7 @@ library_lists = record {
       ∷ record (row_of_method stores_in true) { stores = (0, 0) ∷ [] }
       ∷ record (row_of_method copies_to true) { copies = (0, 1) ∷ [] }
       ∷ record (row_of_method sends true) { sink = Some (1, 0 ∷ []) }
+      ∷ record (row_of_method shows true) { sink = Some (1, 1 ∷ []) }
       ∷ [];
   callbacks = [];
 }
@@ -84,7 +97,9 @@ library_app = record {
       ∷ does 5 (Call Static stores_in (1 ∷ [])) (6 ∷ [])
       ∷ does 6 (Call Static copies_to (1 ∷ 2 ∷ [])) (7 ∷ [])
       ∷ does 7 (Call Static sends (1 ∷ [])) (8 ∷ [])
-      ∷ does 8 (Return None) []
+      ∷ does 8 (Call Static shows (1 ∷ 2 ∷ [])) (9 ∷ [])
+      ∷ does 9 (Call Virtual fills (1 ∷ 2 ∷ [])) (10 ∷ [])
+      ∷ does 10 (Return None) []
       ∷ []) ∷ [];
   keys = Elem ∷ [];
   statics = [];
@@ -109,6 +124,7 @@ pub record LibraryRulesGive (c : Ctx) (s t v : Site) (p : Path) (l : ℕ) : Type
   pub hands : Gives 30 (uses_at c 7 ∷ Points (call_at c 7) 1 s ∷ []) (Handed s)
   pub hands_label : Gives 30 (uses_at c 7 ∷ Points (call_at c 7) 1 s ∷ Taint (call_at c 7) 1 p l ∷ []) (HandedTaint s p l)
   pub arrives : Gives 31 (uses_at c 7 ∷ Taint (call_at c 7) 1 p l ∷ []) (Arrive l 1 (call_at c 7))
+  pub arrives_second : Gives 31 (uses_at c 8 ∷ Taint (call_at c 8) 2 p l ∷ []) (Arrive l 1 (call_at c 8))
   pub same_site : Gives 32 (uses_at c 0 ∷ Points (call_at c 0) 1 s ∷ []) (Points (call_at c 1) result_register s)
   pub same_label : Gives 32 (uses_at c 0 ∷ Taint (call_at c 0) 1 p l ∷ []) (Taint (call_at c 1) result_register p l)
   pub element_site : Gives 33 (uses_at c 1 ∷ Points (call_at c 1) 1 s ∷ Cell s elem_key t ∷ []) (Points (call_at c 2) result_register t)
@@ -123,6 +139,8 @@ pub record LibraryRulesGive (c : Ctx) (s t v : Site) (p : Path) (l : ℕ) : Type
   pub shared_label : Gives 36 (uses_at c 3 ∷ StaticTaint 0 p l ∷ []) (Taint (call_at c 4) result_register p l)
   pub put_site : Gives 37 (uses_at c 4 ∷ Points (call_at c 4) 1 s ∷ Points (call_at c 4) 2 t ∷ []) (Cell s elem_key t)
   pub put_label : Gives 37 (uses_at c 4 ∷ Points (call_at c 4) 1 s ∷ Taint (call_at c 4) 2 p l ∷ []) (Effect (call_at c 4) s (cut elem_key p) l)
+  pub default_site : Gives 37 (Uses (call_at c 9) (Fallback 1) ∷ Points (call_at c 9) 1 s ∷ Points (call_at c 9) 2 t ∷ []) (Cell s elem_key t)
+  pub default_label : Gives 37 (Uses (call_at c 9) (Fallback 1) ∷ Points (call_at c 9) 1 s ∷ Taint (call_at c 9) 2 p l ∷ []) (Effect (call_at c 9) s (cut elem_key p) l)
   pub store_static : Gives 38 (uses_at c 5 ∷ []) (StaticPoints 0 (Shared 0))
   pub store_site : Gives 38 (uses_at c 5 ∷ Points (call_at c 5) 1 t ∷ []) (Cell (Shared 0) elem_key t)
   pub store_label : Gives 38 (uses_at c 5 ∷ Taint (call_at c 5) 1 p l ∷ []) (Effect (call_at c 5) (Shared 0) (cut elem_key p) l)

@@ -6,8 +6,11 @@
 ghost use Rattle.rule_witness.specs.CallFacts.{CallRulesHold};
 ghost use Rattle.rule_witness.specs.EventFacts.{EventRulesHold};
 ghost use Rattle.rule_witness.specs.LibraryFacts.{LibraryRulesHold};
+ghost use Rattle.fact_rows.specs.declared.context.Ctx.{Ctx};
+ghost use Rattle.rule_witness.specs.RowFacts.{NodesTell, RowsTell};
 ghost use Rattle.rule_witness.specs.Smallest.{SmallestTableIsGood, SmallestTableIsDerivable};
 ghost use Rattle.rule_witness.specs.StepFacts.{StepRulesHold, EffectRulesHold};
+ghost use Rattle.rule_witness.specs.Withheld.{CallRulesWithhold, EventRulesWithhold, SitesTell};
 
 /// The eleven rows of the smallest app are a good table.
 pub fn the_smallest_table_is_good()
@@ -37,6 +40,34 @@ pub fn the_rules_of_the_library_hold()
 /// Rules 40 to 47, of events, each give their rows.
 pub fn the_rules_of_events_hold()
     ensures { EventRulesHold }
+{}
+
+/// The rules of calls pass no initialiser the arguments of the call before which it runs, and no body
+/// the sites of the receiver on which it hangs.
+pub fn the_rules_of_calls_withhold()
+    ensures { CallRulesWithhold }
+{}
+
+/// By the rules of events no callback comes to a component that is not there, and a parameter comes
+/// labelled by a source of its own position alone.
+pub fn the_rules_of_events_withhold()
+    ensures { EventRulesWithhold }
+{}
+
+/// A handed object has the class of its callback's parameter, and a number that a call returns is no
+/// object.
+pub fn the_classes_of_sites_tell()
+    ensures { (c : Ctx) → SitesTell c }
+{}
+
+/// The parts of a row are its own fields in their order, and the kinds are numbered from 1.
+pub fn the_parts_of_rows_tell()
+    ensures { RowsTell }
+{}
+
+/// What a call enters begins at its start, in the context of the last two calls.
+pub fn the_nodes_of_calls_tell()
+    ensures { NodesTell }
 {}
 
 /// Each of the eleven rows is derivable.

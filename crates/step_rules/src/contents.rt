@@ -2,13 +2,12 @@
 ghost use Rattle.std.specs.Prelude.{◌≡◌, OnOk, fold};
 ghost use Rattle.step_rules.specs.StepGiven.{keeps, passes, thrown, put_gives, puts, content_alone};
 
-use crate::{EXCEPTION, RESULT};
 use app_machine::{Act, Step};
 use app_parts::writes;
 use fact_rows::{Node, Row};
 use rule_ground::{
-    Conclusion, Content, Facts, Inference, Join, Key, Premises, Sink, for_each_hit, put_all,
-    put_each,
+    Conclusion, Content, EXCEPTION, Facts, Inference, Join, Key, Premises, RESULT, RETURNING, Sink,
+    THROWING, for_each_hit, put_all, put_each,
 };
 use vet_base::KeyId;
 
@@ -63,7 +62,7 @@ fn throw<S: Sink>(
     out.put(Conclusion {
         rule: 11,
         premises,
-        row: content.leaves(node.by, 1),
+        row: content.leaves(node.by, THROWING),
     })?;
     let inference = Inference { rule: 11, premises };
     put_each(inference, content, node, EXCEPTION, catches, out)
@@ -110,7 +109,7 @@ fn pass<S: Sink>(
             out.put(Conclusion {
                 rule: 12,
                 premises,
-                row: content.leaves(node.by, 0),
+                row: content.leaves(node.by, RETURNING),
             })
         }
         _ => Ok(()),

@@ -3,13 +3,12 @@ ghost use Rattle.std.specs.Prelude.{◌≡◌, OnOk, fold};
 ghost use Rattle.app_machine.specs.Sound.{SoundApp};
 ghost use Rattle.step_rules.specs.StepGiven.{is_bare, rest_gives, label_gives, taint_leads, taint_on, step_here};
 
-use crate::RESULT;
 use crate::contents::{content, put};
 use access_path::{Path, cut, rest};
 use app_machine::{Act, App, Step};
 use app_model::step_at;
 use fact_rows::{Node, Row};
-use rule_ground::{Content, Facts, Inference, Premises, Sink, is_among, put_all, put_each};
+use rule_ground::{Content, Facts, Inference, Premises, RESULT, Sink, is_among, put_all, put_each};
 use vet_base::KeyId;
 
 /// A register that may lead to a label at a node, by a path.

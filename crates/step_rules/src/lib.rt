@@ -8,10 +8,4 @@ mod reached;
 mod rules;
 mod statics;
 
-pub use rules::{StepRules, step_consequences, step_missing};
-
-/// The registers RES and EXC, which hold the result of the last call or filled array and the
-/// exception.
-const RESULT: u32 = 65_536;
-
-const EXCEPTION: u32 = 65_537;
+pub use rules::StepRules;

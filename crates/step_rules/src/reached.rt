@@ -3,13 +3,11 @@ ghost use Rattle.std.specs.Prelude.{◌≡◌, OnOk, fold};
 ghost use Rattle.app_machine.specs.Sound.{SoundApp};
 ghost use Rattle.step_rules.specs.StepGiven.{goes_on, made, reached_on, step_here};
 
-use crate::RESULT;
 use crate::statics::read_statics;
 use app_machine::{Act, App};
 use app_model::step_at;
 use fact_rows::{Node, Row, Site};
-use rule_ground::{Conclusion, Content, Facts, Inference, Premises, Sink, put_each};
-use rule_nodes::at_pc;
+use rule_ground::{Conclusion, Content, Facts, Inference, Premises, RESULT, Sink, at_pc, put_each};
 
 /// Control goes on to each of the pcs.
 fn go_on<S: Sink>(pcs: &[u32], node: Node, out: &mut S) -> Result<(), S::Refusal>

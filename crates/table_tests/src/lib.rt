@@ -7,4 +7,4 @@ mod of_fact_rows;
 #[cfg(test)]
 mod of_hashed_rows;
 #[cfg(test)]
-mod of_rule_nodes;
+mod of_rule_ground;

@@ -1,0 +1,18 @@
+use Rattle.std.proofs.Common.{◌≡◌, ◌↔◌, IsTrue, List, sym, ap, subst, ◌∙◌}
+use Rattle.fact_rows.specs.declared.field.Field.{Field}
+use Rattle.fact_rows.specs.declared.parts.Parts.{Parts}
+use Rattle.fact_rows.specs.InApp.{FieldsIn, InApp}
+use Rattle.fact_rows.specs.Parts.{parts_of}
+use Rattle.app_rows.specs.Tests.{are_fields_in}
+use Rattle.app_rows.proofs.TestsTell.{fields_tell}
+use Rattle.app_rows.proofs.rows.is_in_app.Goals as goal
+
+pub returns : goal.returns
+returns c =
+    let app = c.args.app.now in
+    let lists = c.args.lists.now in
+    let row = c.args.row.now in
+    let fields : List Field = (parts_of row).fields in
+    let same : c.are_fields_in.result ≡ are_fields_in app lists fields =
+    c.are_fields_in.ensures ∙ ap (are_fields_in app lists) (c.as_slice.ensures ∙ ap (λ (p : Parts). p.fields) c.parts.ensures) in
+    subst (λ b. IsTrue b ↔ InApp app lists row) (sym same) (fields_tell app lists (c.events_are_exact.ensures app lists c.requires) fields)

@@ -1,0 +1,4 @@
+pub mod Application
+pub mod StartLaws
+pub mod StartRows
+pub mod Tests

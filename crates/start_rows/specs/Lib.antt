@@ -1,3 +1,0 @@
-pub mod Application
-pub mod StartLaws
-pub mod StartRows
