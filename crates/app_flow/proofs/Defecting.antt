@@ -8,18 +8,18 @@ use Rattle.app_machine.specs.declared.app.App.{App}
 use Rattle.app_machine.specs.declared.lists.Lists.{Lists}
 use Rattle.cert_checker.specs.Defects.{LacksStart as LacksStartBy, LacksConsequence}
 use Rattle.cert_checker.specs.Least.{FollowsFrom, IsLeastFailing}
-use Rattle.chained_rows.specs.Chains.{IsGrown}
 use Rattle.fact_rows.specs.declared.row.Row.{Row}
 use Rattle.fact_rows.specs.InApp.{InApp}
 use Rattle.fact_rows.specs.Order.{RowOrder, row_cmp}
 use Rattle.flow_rules.specs.Rules.{Each, Follows, Starts, GoodTable}
 use Rattle.rule_ground.specs.declared.conclusion.Conclusion.{Conclusion}
 use Rattle.rule_ground.specs.Hits.{Among}
+use Rattle.rule_sets.specs.Growing.{IsNew}
 use Rattle.vet_base.specs.Members.{In}
 use Rattle.vet_base.proofs.Members.{in_front, in_back, in_either}
 use Rattle.vet_base.proofs.Orders.{turned}
-use Rattle.app_flow.specs.declared.defect.TableDefect.{TableDefect}
-use Rattle.app_flow.specs.declared.defect.TableDefect.TheVariants.{Stranger, NoStart, NotClosed}
+use Rattle.cert_checker.specs.declared.defect.TableDefect.{TableDefect}
+use Rattle.cert_checker.specs.declared.defect.TableDefect.TheVariants.{Stranger, NoStart, NotClosed}
 use Rattle.app_flow.specs.Defect.{SameRows, LacksStart, IsNotClosed, IsChecked, OneDefect}
 use Rattle.app_flow.proofs.Accepting.{each_there}
 
@@ -43,7 +43,7 @@ module _ (app : App) (lists : Lists) (rows : List Row) where
   all_closed : (row : Row) → IsNotClosed app lists rows row → GoodTable app lists rows → ⊥
   all_closed row open_at good = let due = open_at.lacks.due in open_at.lacks.fails (good.closed due.0 due.1.0 row due.1.1.0 due.1.1.1)
 
-  one_of : RowOrder → (one other : Option TableDefect) → IsChecked app lists rows one → IsChecked app lists rows other → one ≡ other
+  one_of : RowOrder → (one other : Option (TableDefect Row)) → IsChecked app lists rows one → IsChecked app lists rows other → one ≡ other
   one_of order None None a b = refl
   one_of order None (Some (Stranger x)) a b = absurd (all_there x b a.in_app)
   one_of order None (Some (NoStart x)) a b = absurd (all_started x b a.starts)
@@ -76,7 +76,7 @@ consequence_is app lists rows c lacking = record { in_app = lacking.in_app; star
 
 -- one row more of a list, and of the rows that have their keys
 pub one_more : (rows : List Row) (i : ℕ) (row : Row) (old new : List Row) (fresh : Bool) → i < length rows → row ≡ get_or rows i row →
-    MatchBool fresh (IsGrown old row new) (In row old × (new ≡ old)) → SameRows old (take i rows) → SameRows new (take (i + 1) rows)
+    MatchBool fresh (IsNew old row new) (In row old × (new ≡ old)) → SameRows old (take i rows) → SameRows new (take (i + 1) rows)
 one_more rows i row old new fresh within is added same =
     let front : take (i + 1) rows ≡ take i rows ++ row ∷ [] = take_more rows i row within ∙ ap (λ y. take i rows ++ y ∷ []) (sym is) in
     subst (SameRows new) (sym front) (grown fresh added)
@@ -94,7 +94,7 @@ one_more rows i row old new fresh within is added same =
     back x (inl k) = in_front x old (row ∷ []) ((same x).1 k)
     back x (inr k) = in_back x old (row ∷ []) k
 
-    grown : (b : Bool) → MatchBool b (IsGrown old row new) (In row old × (new ≡ old)) → SameRows new (take i rows ++ row ∷ [])
+    grown : (b : Bool) → MatchBool b (IsNew old row new) (In row old × (new ≡ old)) → SameRows new (take i rows ++ row ∷ [])
     grown true g = λ x. (
       λ there. onward x (in_either x old (row ∷ []) (subst (λ (ys : List Row). In x ys) g.is there)),
       λ there. subst (λ (ys : List Row). In x ys) (sym g.is) (back x (in_either x (take i rows) (row ∷ []) there)),
@@ -115,7 +115,7 @@ module _ (app : App) (lists : Lists) (rows others : List Row) (same : SameRows r
   follows_on : (x : Row) → FollowsFrom (Follows app lists) rows x → FollowsFrom (Follows app lists) others x
   follows_on x due = (due.0, (due.1.0, (due.1.1.0, each_there (Among rows) (Among others) (λ y. (same y).0) due.1.0 due.1.1.1)))
 
-  pub moved_checked : (found : Option TableDefect) → IsChecked app lists rows found → IsChecked app lists others found
+  pub moved_checked : (found : Option (TableDefect Row)) → IsChecked app lists rows found → IsChecked app lists others found
   moved_checked None good = record {
     in_app = λ x there. good.in_app x ((same x).1 there);
     starts = λ x start. (same x).0 (good.starts x start);
@@ -145,7 +145,7 @@ module _ (app : App) (lists : Lists) (rows others : List Row) (same : SameRows r
   }
 
 -- and so are rows of an app and lists that are the same
-pub checked_as : (app same_app : App) (lists same_lists : Lists) (rows : List Row) (found : Option TableDefect) → same_app ≡ app → same_lists ≡ lists → IsChecked same_app same_lists rows found → IsChecked app lists rows found
+pub checked_as : (app same_app : App) (lists same_lists : Lists) (rows : List Row) (found : Option (TableDefect Row)) → same_app ≡ app → same_lists ≡ lists → IsChecked same_app same_lists rows found → IsChecked app lists rows found
 checked_as app same_app lists same_lists rows found is_app is_lists checked =
     let first : IsChecked app same_lists rows found = subst (λ (a : App). IsChecked a same_lists rows found) is_app checked in
     subst (λ (ls : Lists). IsChecked app ls rows found) is_lists first

@@ -6,9 +6,11 @@
 #![tactic(auto)]
 
 mod checking;
+mod defect;
 mod found;
 mod least;
 mod starts;
 
-pub use checking::{Defect, check, check_with};
+pub use checking::{check, check_with};
+pub use defect::TableDefect;
 pub use starts::missing_start;

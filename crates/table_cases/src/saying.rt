@@ -1,14 +1,15 @@
-use cert_checker::Defect;
+use cert_checker::TableDefect;
 use fact_rows::Row;
+use rule_ground::Conclusion;
 use std::io;
 
 /// Prints what the checker says of a table.
-pub fn say<R: Print + AllocGlobal>(rt: &R, what: &str, said: Result<(), Defect>) -> io::Result<()> {
+pub fn say<R: Print + AllocGlobal>(rt: &R, what: &str, said: Result<(), TableDefect<Conclusion>>) -> io::Result<()> {
     match said {
         Ok(()) => println!(rt; "{what}: good"),
-        Err(Defect::Stranger(row)) => println!(rt; "{what}: stranger {row:?}"),
-        Err(Defect::MissingStart(row)) => println!(rt; "{what}: missing start {row:?}"),
-        Err(Defect::MissingConsequence(found)) => {
+        Err(TableDefect::Stranger(row)) => println!(rt; "{what}: stranger {row:?}"),
+        Err(TableDefect::NoStart(row)) => println!(rt; "{what}: missing start {row:?}"),
+        Err(TableDefect::NotClosed(found)) => {
             let (row, rule) = (found.row, found.rule);
             println!(rt; "{what}: missing consequence {row:?} by rule {rule}")
         }

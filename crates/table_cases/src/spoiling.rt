@@ -6,15 +6,20 @@ use crate::saying::{count, say};
 use app_index::{LibraryIndex, StaticReaders};
 use app_model::{App, Lists};
 use app_rules::AppRules;
-use cert_checker::{Defect, check};
+use cert_checker::{TableDefect, check};
 use fact_rows::{Row, Table};
 use hashed_rows::HashedRows;
+use rule_ground::Conclusion;
 use std::alloc::{AllocError, Global};
 use std::io;
-use taint_solver::{Solved, solve};
+use taint_solver::{Solved, Unsolved, solve};
 use vet_base::Memory;
 
 pub fn want(_memory: Memory) -> AllocError {
+    AllocError
+}
+
+pub fn unsolved(_unsolved: Unsolved) -> AllocError {
     AllocError
 }
 
@@ -23,7 +28,7 @@ fn solved(alloc: Global, rules: &AppRules, limit: u32) -> Result<Option<Vec<Row>
     requires { RulesReady rules.now.app.now rules.now.lists.now rules.now.starts }
 {
     let mut rows = HashedRows::new(alloc, 1);
-    match solve(alloc, rules, &mut rows, limit).map_err(want)? {
+    match solve(alloc, rules, &mut rows, limit).map_err(unsolved)? {
         Solved::Whole => Ok(Some(rows.into_table(alloc).map_err(want)?)),
         Solved::TooLarge(_) => Ok(None),
     }
@@ -49,9 +54,9 @@ fn table_of(
 }
 
 /// Whether the checker says that a row which no table starts with is missing.
-fn is_missing(said: Result<(), Defect>, row: &Row) -> bool {
+fn is_missing(said: Result<(), TableDefect<Conclusion>>, row: &Row) -> bool {
     match said {
-        Err(Defect::MissingConsequence(found)) => found.row == *row,
+        Err(TableDefect::NotClosed(found)) => found.row == *row,
         _ => false,
     }
 }

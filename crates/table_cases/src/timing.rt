@@ -3,12 +3,12 @@ ghost use Rattle.app_machine.specs.Sound.{SoundApp};
 ghost use Rattle.app_machine.specs.SoundLists.{SoundLists};
 ghost use Rattle.app_rules.specs.Ready.{RulesReady};
 
-use crate::spoiling::want;
 use app_index::{LibraryIndex, StaticReaders};
+use crate::spoiling::unsolved;
 use app_model::{App, Lists};
 use app_rules::AppRules;
 use hashed_rows::HashedRows;
-use row_store::Listed;
+use rule_sets::Listed;
 use std::io;
 use std::marker::Sync;
 use std::sync::Wait;
@@ -30,7 +30,7 @@ fn by_solver<R: AllocGlobal + Clock>(rt: &R, rules: &AppRules, limit: u32) -> io
 {
     let begin = Instant::now(rt)?;
     let mut rows = HashedRows::new(rt.alloc(), 1);
-    solve(rt.alloc(), rules, &mut rows, limit).map_err(want)?;
+    solve(rt.alloc(), rules, &mut rows, limit).map_err(unsolved)?;
     let millis = begin.elapsed(rt)?.as_millis();
     Ok(Found {
         rows: rows.count(),
@@ -55,7 +55,7 @@ fn by_workers<R: AllocGlobal + Clock + Threads + Wait + Sync>(
     };
     let begin = Instant::now(rt)?;
     let mut rows = HashedRows::new(rt.alloc(), 1);
-    solve_with(rt.alloc(), rules, &mut rows, limit, &crew).map_err(want)?;
+    solve_with(rt.alloc(), rules, &mut rows, limit, &crew).map_err(unsolved)?;
     let millis = begin.elapsed(rt)?.as_millis();
     Ok(Found {
         rows: rows.count(),

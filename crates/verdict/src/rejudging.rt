@@ -28,7 +28,7 @@ fn rechecked_by(
     app: &App,
     papers: &Papers,
     rows: &[Row],
-    found: Option<TableDefect>,
+    found: Option<TableDefect<Row>>,
 ) -> Result<Rechecked, Memory>
     requires sound { SoundApp app.now }
     requires found { IsChecked app.now papers.now.lists rows.now found }

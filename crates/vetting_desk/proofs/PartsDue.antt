@@ -3,7 +3,7 @@ use Rattle.std.proofs.Common.{◌≡◌, ◌≢◌, ◌≤◌, ◌⊎◌, inl, i
 use Rattle.std.specs.Prelude.{IsErr}
 use Rattle.vet_base.specs.declared.stop.Stop.{Stop}
 use Rattle.vet_base.specs.declared.stop.Stop.TheVariants as stops
-use Rattle.app_flow.specs.declared.defect.TableDefect.{TableDefect}
+use Rattle.cert_checker.specs.declared.defect.TableDefect.{TableDefect}
 use Rattle.fact_rows.specs.declared.row.Row.{Row}
 use Rattle.certificate.specs.declared.fault.CertFault.{CertFault}
 use Rattle.certificate.specs.Cert.{IsCert}

@@ -7,8 +7,8 @@ use Rattle.certificate.specs.declared.fault.CertFault.{CertFault}
 use Rattle.certificate.specs.Cert.{IsCert}
 use Rattle.certificate.specs.Digests.{parts_bytes}
 use Rattle.certificate.specs.Reading.{FirstCertFault}
-use Rattle.app_flow.specs.declared.defect.TableDefect.{TableDefect}
-use Rattle.app_flow.specs.declared.defect.TableDefect.TheVariants.{Stranger, NoStart, NotClosed}
+use Rattle.cert_checker.specs.declared.defect.TableDefect.{TableDefect}
+use Rattle.cert_checker.specs.declared.defect.TableDefect.TheVariants.{Stranger, NoStart, NotClosed}
 use Rattle.cert_report.specs.declared.refusal.CertRefusal.{CertRefusal}
 use Rattle.cert_report.specs.declared.refusal.CertRefusal.TheVariants as refusals
 use Rattle.verdict.specs.declared.outcome.Outcome.{Outcome}
@@ -42,7 +42,7 @@ pub data Certifies (path : List ℕ) (parts : Parts) : Due → Type 0 where
   table : (outcome : Outcome) (rows : List Row) (bytes : List ℕ) → Judgement parts (record { outcome = outcome; table = Some rows }) → IsCert bytes (digest_of parts) rows → Certifies path parts (certified outcome path bytes)
 
 -- a certificate is refused with the defect of its table
-abbrev pub refusal_of : TableDefect → CertRefusal
+abbrev pub refusal_of : TableDefect Row → CertRefusal
 refusal_of (Stranger row) = refusals.Stranger row
 refusal_of (NoStart row) = refusals.NoStart row
 refusal_of (NotClosed row) = refusals.NotClosed row

@@ -12,6 +12,7 @@ use crate::answer::Answer;
 use crate::certificates::{certificate_of, digest_of, same_digest};
 use cert_report::CertRefusal;
 use certificate::{Cert, CertFault, certificates_keep_their_laws, read_cert};
+use fact_rows::Row;
 use std::alloc::Global;
 use std::marker::Sync;
 use std::sync::Wait;
@@ -70,7 +71,7 @@ pub fn certified<T: Threads + Wait + Sync, G: Gate>(
 }
 
 /// Why the certificate of a table with this defect is refused.
-fn refusal_for(defect: TableDefect) -> CertRefusal
+fn refusal_for(defect: TableDefect<Row>) -> CertRefusal
     ensures { result ≡ refusal_of defect }
 {
     match defect {
