@@ -102,6 +102,32 @@ fn arguments(alloc: Global, insn: &Insn) -> Result<Seq<u32>, AllocError>
     }
 }
 
+/// The act of one that makes a value of one register.
+fn join_of_one(alloc: Global, wide: bool, to: u32, from: u32) -> Result<Act, AllocError>
+    requires { to < 65536 }
+    ensures { IfOk result (λ a. a ≡ Act.Join (written wide to) (from ∷ [])) }
+{
+    let to = written_to(alloc, wide, to)?;
+    let from = one(alloc, from)?;
+    Ok(Act::Join(to, from))
+}
+
+/// The act of one that makes a value of two.
+fn join_of_two(
+    alloc: Global,
+    wide: bool,
+    to: u32,
+    first: u32,
+    second: u32,
+) -> Result<Act, AllocError>
+    requires { to < 65536 }
+    ensures { IfOk result (λ a. a ≡ Act.Join (written wide to) (first ∷ second ∷ [])) }
+{
+    let to = written_to(alloc, wide, to)?;
+    let from = two(alloc, first, second)?;
+    Ok(Act::Join(to, from))
+}
+
 /// The act of an instruction without a name.
 fn plain(alloc: Global, kind: Kind, wide: bool, r: (u32, u32, u32)) -> Result<Act, AllocError>
     requires { r.0 < 65536 }
@@ -115,16 +141,16 @@ fn plain(alloc: Global, kind: Kind, wide: bool, r: (u32, u32, u32)) -> Result<Ac
         Kind::Return => Ok(Act::Return(Some(r.0))),
         Kind::Const => Ok(Act::Blank(written_to(alloc, wide, r.0)?)),
         Kind::InstanceOf => Ok(Act::Blank(one(alloc, r.0)?)),
-        Kind::ArrayLength => Ok(Act::Join(one(alloc, r.0)?, one(alloc, r.1)?)),
+        Kind::ArrayLength => join_of_one(alloc, false, r.0, r.1),
         Kind::Throw => Ok(Act::Throw(r.0)),
         Kind::Goto | Kind::PackedSwitch | Kind::SparseSwitch | Kind::If => Ok(Act::Go),
-        Kind::Compare => Ok(Act::Join(one(alloc, r.0)?, two(alloc, r.1, r.2)?)),
+        Kind::Compare => join_of_two(alloc, false, r.0, r.1, r.2),
         Kind::ArrayGet => Ok(Act::Get(written_to(alloc, wide, r.0)?, r.1, KeyId(0))),
         Kind::ArrayPut => Ok(Act::Put(r.1, KeyId(0), r.0)),
-        Kind::Unary => Ok(Act::Join(written_to(alloc, wide, r.0)?, one(alloc, r.1)?)),
-        Kind::Binary => Ok(Act::Join(written_to(alloc, wide, r.0)?, two(alloc, r.1, r.2)?)),
-        Kind::BinaryInPlace => Ok(Act::Join(written_to(alloc, wide, r.0)?, two(alloc, r.0, r.1)?)),
-        Kind::BinaryLiteral => Ok(Act::Join(one(alloc, r.0)?, one(alloc, r.1)?)),
+        Kind::Unary => join_of_one(alloc, wide, r.0, r.1),
+        Kind::Binary => join_of_two(alloc, wide, r.0, r.1, r.2),
+        Kind::BinaryInPlace => join_of_two(alloc, wide, r.0, r.0, r.1),
+        Kind::BinaryLiteral => join_of_one(alloc, false, r.0, r.1),
         _ => Ok(Act::Skip),
     }
 }

@@ -27,7 +27,7 @@ pub struct Counts {
 }
 
 /// The code of a method: each line with the pc of its first unit, by ascending pc, and the try items as the file has them.
-#[derive(Debug, Drop)]
+#[derive(Drop)]
 pub struct Decoded {
     pub lines: Seq<(u32, Insn)>,
     pub tries: Shared<RawTry>,

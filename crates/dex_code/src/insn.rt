@@ -6,7 +6,7 @@ use vet_base::Seq;
 
 /// An instruction or a payload, each variant of an instruction named as its format: first its opcode, then its registers,
 /// and then its literal, index or target. A literal is the signed number that the units hold, a target a pc.
-#[derive(Debug, Drop)]
+#[derive(Drop)]
 pub enum Insn {
     F10x(u8),
     F12x(u8, u16, u16),

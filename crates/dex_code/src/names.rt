@@ -17,7 +17,7 @@ pub enum Naming {
 }
 
 /// What an act names, resolved.
-#[derive(Debug, Drop)]
+#[derive(Drop)]
 pub enum Named {
     Nothing,
     Class(Name),

@@ -5,7 +5,7 @@ use crate::units::{long_at, unit_at};
 use dalvik_formats::{Format, format_of};
 
 /// What begins at a unit: an instruction of a format, or a payload.
-#[derive(Clone, Copy, Debug, PartialEq, Eq)]
+#[derive(Clone, Copy)]
 pub enum Shape {
     Instruction(Format),
     Packed,

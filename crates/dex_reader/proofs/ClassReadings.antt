@@ -1,11 +1,12 @@
 -- A class that is read stands there with its class data, and one that stands there is read.
-use Rattle.std.proofs.Common.{◌≡◌, ℕ, zero, suc, ◌+◌, ◌<◌, ◌≤◌, List, [], length, Some, Ok, refl, sym, ap, subst, ◌∙◌, arith}
+use Rattle.std.proofs.Common.{◌≡◌, ℕ, zero, suc, ◌+◌, ◌<◌, ◌≤◌, List, [], length, Option, Some, Ok, refl, sym, ap, subst, ◌∙◌, arith}
 use Rattle.std.proofs.lemmas.Bool.{ltb-true, lt-ltb}
 use Rattle.vet_base.specs.Numbers.{uleb}
 use Rattle.vet_base.specs.Script.{run}
 use Rattle.dex_reader.specs.declared.dex.Body.{Body}
 use Rattle.dex_reader.specs.declared.dex.ClassDef.{ClassDef}
 use Rattle.dex_reader.specs.declared.dex.Member.{Member}
+use Rattle.dex_reader.specs.declared.dex.RawCode.{RawCode}
 use Rattle.dex_reader.specs.declared.class_data.Counts.{Counts}
 use Rattle.dex_reader.specs.declared.class_data.ClassData.{ClassData}
 use Rattle.dex_reader.specs.declared.class_data.Walk.{Walk}
@@ -83,6 +84,38 @@ members_again file fields class at t xs adds to follow fit =
     repeat_again no_totals plus WithinTotals (IsMember file fields) (λ q t. walk_at q.0 q.1 t) (member_row file fields class) totals_add
     (λ q t x adds to. member_again file fields class q t x adds to) (at, 0) t xs adds to follow fit
 
+-- a method by what stands in its row
+body_from : (file : List ℕ) (sizes : Sizes) (q : Spot) (t : Totals) (a c d : ℕ × ℕ) (g : Option RawCode × Totals) → WithinTotals t
+    → uleb file q.0 ≡ Some a → q.1 + a.0 < sizes.methods → uleb file a.1 ≡ Some c → uleb file c.1 ≡ Some d → t.members < 400000 → run (maybe_code_at file sizes.types d.0 (one_more t)) ≡ Ok g
+    → OneRead plus WithinTotals (IsBody file sizes) spot q t (body_of (q.1 + a.0) c.0 g.0) (walk_at d.1 (q.1 + a.0) g.1)
+unfolding spot
+body_from file sizes q t a c d g fit difference-is below flags-is offset-is under code-is =
+    let more = more_is t under in
+    let code-read : run (maybe_code_at file sizes.types d.0 (plus t one_member)) ≡ Ok g = subst (λ (u : Totals). run (maybe_code_at file sizes.types d.0 u) ≡ Ok g) more.0 code-is in
+    let code = maybe_code_is file sizes.types d.0 (plus t one_member) g.0 g.1 (more.1 fit) code-read in
+    let grouped : plus (plus t one_member) code.adds ≡ plus t (plus one_member code.adds) = totals_add.regroup t one_member code.adds in
+    record {
+      to = (d.1, q.1 + a.0);
+      adds = plus one_member code.adds;
+      stands = record {
+        difference = a.0;
+        mid = a.1;
+        next = c.1;
+        offset = d.0;
+        coded = code.adds;
+        difference_is = difference-is;
+        index_is = refl;
+        index_below = below;
+        flags_is = flags-is;
+        offset_is = offset-is;
+        code = code.stands;
+        sum = refl;
+        one_and_code = refl;
+      };
+      is = ap (λ (u : Totals). walk_at d.1 (q.1 + a.0) u) (code.is ∙ grouped);
+      fits = subst WithinTotals grouped code.fits;
+    }
+
 body_is : (file : List ℕ) (sizes : Sizes) (class : ℕ) (q : Spot) (t : Totals) (x : Body) (s : Walk) → WithinTotals t → run (body_row file sizes class (spot q t)) ≡ Ok (x, s)
     → OneRead plus WithinTotals (IsBody file sizes) spot q t x s
 unfolding body_row sum_below counted spot
@@ -93,32 +126,8 @@ body_is file sizes class q t x s fit e =
     let d = there_ok (uleb file c.0.1) _ _ _ _ c.2 in
     let f = test_ok _ _ _ _ d.2 in
     let g = bind_ok (maybe_code_at file sizes.types d.0.0 (one_more t)) _ _ f.1 in
-    let more = more_is t (ltb-true _ _ f.0) in
-    let code-read : run (maybe_code_at file sizes.types d.0.0 (plus t one_member)) ≡ Ok (g.0.0, g.0.1) = subst (λ (u : Totals). run (maybe_code_at file sizes.types d.0.0 u) ≡ Ok (g.0.0, g.0.1)) more.0 g.1 in
-    let code = maybe_code_is file sizes.types d.0.0 (plus t one_member) g.0.0 g.0.1 (more.1 fit) code-read in
-    let grouped : plus (plus t one_member) code.adds ≡ plus t (plus one_member code.adds) = totals_add.regroup t one_member code.adds in
-    subst (λ (p : Body × Walk). OneRead plus WithinTotals (IsBody file sizes) (λ q t. walk_at q.0 q.1 t) q t p.0 p.1) (value_is _ _ g.2)
-    (record {
-      to = (d.0.1, q.1 + a.0.0);
-      adds = plus one_member code.adds;
-      stands = record {
-        difference = a.0.0;
-        mid = a.0.1;
-        next = c.0.1;
-        offset = d.0.0;
-        coded = code.adds;
-        difference_is = a.1;
-        index_is = refl;
-        index_below = ltb-true _ _ b.0;
-        flags_is = c.1;
-        offset_is = d.1;
-        code = code.stands;
-        sum = refl;
-        one_and_code = refl;
-      };
-      is = ap (λ (u : Totals). walk_at d.0.1 (q.1 + a.0.0) u) (code.is ∙ grouped);
-      fits = subst WithinTotals grouped code.fits;
-    })
+    subst (λ (p : Body × Walk). OneRead plus WithinTotals (IsBody file sizes) spot q t p.0 p.1) (value_is _ _ g.2)
+    (body_from file sizes q t a.0 c.0 d.0 g.0 fit a.1 (ltb-true _ _ b.0) c.1 d.1 (ltb-true _ _ f.0) g.1)
 
 body_again : (file : List ℕ) (sizes : Sizes) (class : ℕ) (q : Spot) (t : Totals) (x : Body) (adds : Totals) (to : Spot) → IsBody file sizes q x adds to → WithinTotals (plus t adds)
     → run (body_row file sizes class (spot q t)) ≡ Ok (x, spot to (plus t adds))
@@ -199,33 +208,30 @@ pub record DataRead (file : List ℕ) (sizes : Sizes) (at : ℕ) (t : Totals) (r
   pub is : s ≡ plus t adds
   pub fits : WithinTotals (plus t adds)
 
-pub class_data_is : (file : List ℕ) (sizes : Sizes) (class at : ℕ) (t : Totals) (row : ClassRow) (lists : ClassData) (s : Totals) → WithinTotals t → run (some_class_data_at file sizes class at t) ≡ Ok (lists, s)
-    → DataRead file sizes at t row lists s
-unfolding some_class_data_at spot
-class_data_is file sizes class at t row lists s fit e =
-    let n = bind_ok (counts_at file at) _ _ e in
-    let a = bind_ok (members_at file sizes.fields class n.0.statics n.0.at t) _ _ n.2 in
-    let b = bind_ok (members_at file sizes.fields class n.0.instances a.0.1.at a.0.1.totals) _ _ a.2 in
-    let c = bind_ok (bodies_at file sizes class n.0.directs b.0.1.at b.0.1.totals) _ _ b.2 in
-    let d = bind_ok (bodies_at file sizes class n.0.virtuals c.0.1.at c.0.1.totals) _ _ c.2 in
-    let counts = counts_are file at n.0 n.1 in
-    let statics = members_are file sizes.fields class n.0.statics n.0.at t a.0.0 a.0.1 fit a.1 in
-    let b-at : run (members_at file sizes.fields class n.0.instances statics.to.0 (plus t statics.adds)) ≡ Ok (b.0.0, b.0.1) =
-    subst (λ (w : Walk). run (members_at file sizes.fields class n.0.instances w.at w.totals) ≡ Ok (b.0.0, b.0.1)) statics.is b.1 in
-    let instances = members_are file sizes.fields class n.0.instances statics.to.0 (plus t statics.adds) b.0.0 b.0.1 statics.fits b-at in
-    let c-at : run (bodies_at file sizes class n.0.directs instances.to.0 (plus (plus t statics.adds) instances.adds)) ≡ Ok (c.0.0, c.0.1) =
-    subst (λ (w : Walk). run (bodies_at file sizes class n.0.directs w.at w.totals) ≡ Ok (c.0.0, c.0.1)) instances.is c.1 in
-    let directs = bodies_are file sizes class n.0.directs instances.to.0 (plus (plus t statics.adds) instances.adds) c.0.0 c.0.1 instances.fits c-at in
-    let d-at : run (bodies_at file sizes class n.0.virtuals directs.to.0 (plus (plus (plus t statics.adds) instances.adds) directs.adds)) ≡ Ok (d.0.0, d.0.1) =
-    subst (λ (w : Walk). run (bodies_at file sizes class n.0.virtuals w.at w.totals) ≡ Ok (d.0.0, d.0.1)) directs.is d.1 in
-    let virtuals = bodies_are file sizes class n.0.virtuals directs.to.0 (plus (plus (plus t statics.adds) instances.adds) directs.adds) d.0.0 d.0.1 directs.fits d-at in
+-- the same of its parts: the counts and the four lists
+class_data_from : (file : List ℕ) (sizes : Sizes) (class at : ℕ) (t : Totals) (row : ClassRow) (n : Counts) (a b : List Member × Walk) (c d : List Body × Walk) → WithinTotals t → run (counts_at file at) ≡ Ok n
+    → run (members_at file sizes.fields class n.statics n.at t) ≡ Ok a → run (members_at file sizes.fields class n.instances a.1.at a.1.totals) ≡ Ok b
+    → run (bodies_at file sizes class n.directs b.1.at b.1.totals) ≡ Ok c → run (bodies_at file sizes class n.virtuals c.1.at c.1.totals) ≡ Ok d
+    → DataRead file sizes at t row (class_data_of a.0 b.0 c.0 d.0) d.1.totals
+unfolding spot
+class_data_from file sizes class at t row n a b c d fit counts-read a-read b-read c-read d-read =
+    let counts = counts_are file at n counts-read in
+    let statics = members_are file sizes.fields class n.statics n.at t a.0 a.1 fit a-read in
+    let b-at : run (members_at file sizes.fields class n.instances statics.to.0 (plus t statics.adds)) ≡ Ok b =
+    subst (λ (w : Walk). run (members_at file sizes.fields class n.instances w.at w.totals) ≡ Ok b) statics.is b-read in
+    let instances = members_are file sizes.fields class n.instances statics.to.0 (plus t statics.adds) b.0 b.1 statics.fits b-at in
+    let c-at : run (bodies_at file sizes class n.directs instances.to.0 (plus (plus t statics.adds) instances.adds)) ≡ Ok c =
+    subst (λ (w : Walk). run (bodies_at file sizes class n.directs w.at w.totals) ≡ Ok c) instances.is c-read in
+    let directs = bodies_are file sizes class n.directs instances.to.0 (plus (plus t statics.adds) instances.adds) c.0 c.1 instances.fits c-at in
+    let d-at : run (bodies_at file sizes class n.virtuals directs.to.0 (plus (plus (plus t statics.adds) instances.adds) directs.adds)) ≡ Ok d =
+    subst (λ (w : Walk). run (bodies_at file sizes class n.virtuals w.at w.totals) ≡ Ok d) directs.is d-read in
+    let virtuals = bodies_are file sizes class n.virtuals directs.to.0 (plus (plus (plus t statics.adds) instances.adds) directs.adds) d.0 d.1 directs.fits d-at in
     let parts = four_parts t statics.adds instances.adds directs.adds virtuals.adds in
-    let total : d.0.1.totals ≡ plus (plus (plus (plus t statics.adds) instances.adds) directs.adds) virtuals.adds = ap (λ (w : Walk). w.totals) virtuals.is in
-    subst (λ (p : ClassData × Totals). DataRead file sizes at t row p.0 p.1) (value_is _ _ d.2)
-    (record {
+    let total : d.1.totals ≡ plus (plus (plus (plus t statics.adds) instances.adds) directs.adds) virtuals.adds = ap (λ (w : Walk). w.totals) virtuals.is in
+    record {
       adds = plus (plus (plus statics.adds instances.adds) directs.adds) virtuals.adds;
       stands = record {
-        counts = (counts.one, counts.two, counts.three, n.0.at);
+        counts = (counts.one, counts.two, counts.three, n.at);
         statics_to = statics.to;
         instances_to = instances.to;
         directs_to = directs.to;
@@ -234,7 +240,7 @@ class_data_is file sizes class at t row lists s fit e =
         statics_count = subst (λ (k : ℕ). IsLeb file at k counts.one) (sym statics.count) counts.statics;
         instances_count = subst (λ (k : ℕ). IsLeb file counts.one k counts.two) (sym instances.count) counts.instances;
         directs_count = subst (λ (k : ℕ). IsLeb file counts.two k counts.three) (sym directs.count) counts.directs;
-        virtuals_count = subst (λ (k : ℕ). IsLeb file counts.three k n.0.at) (sym virtuals.count) counts.virtuals;
+        virtuals_count = subst (λ (k : ℕ). IsLeb file counts.three k n.at) (sym virtuals.count) counts.virtuals;
         statics = statics.stand;
         instances = instances.stand;
         directs = directs.stand;
@@ -243,7 +249,19 @@ class_data_is file sizes class at t row lists s fit e =
       };
       is = total ∙ parts;
       fits = subst WithinTotals parts virtuals.fits;
-    })
+    }
+
+pub class_data_is : (file : List ℕ) (sizes : Sizes) (class at : ℕ) (t : Totals) (row : ClassRow) (lists : ClassData) (s : Totals) → WithinTotals t → run (some_class_data_at file sizes class at t) ≡ Ok (lists, s)
+    → DataRead file sizes at t row lists s
+unfolding some_class_data_at
+class_data_is file sizes class at t row lists s fit e =
+    let n = bind_ok (counts_at file at) _ _ e in
+    let a = bind_ok (members_at file sizes.fields class n.0.statics n.0.at t) _ _ n.2 in
+    let b = bind_ok (members_at file sizes.fields class n.0.instances a.0.1.at a.0.1.totals) _ _ a.2 in
+    let c = bind_ok (bodies_at file sizes class n.0.directs b.0.1.at b.0.1.totals) _ _ b.2 in
+    let d = bind_ok (bodies_at file sizes class n.0.virtuals c.0.1.at c.0.1.totals) _ _ c.2 in
+    subst (λ (p : ClassData × Totals). DataRead file sizes at t row p.0 p.1) (value_is _ _ d.2)
+    (class_data_from file sizes class at t row n.0 a.0 b.0 c.0 d.0 fit n.1 a.1 b.1 c.1 d.1)
 
 unfoldable pub lists_of : ClassDef → ClassData
 lists_of class = class_data_of class.statics class.instances class.directs class.virtuals

@@ -100,58 +100,65 @@ pub record IsHead (file : List ℕ) (types at : ℕ) (row : ClassRow) : Type 0 w
 unfoldable pub in_row : ClassRow → ℕ
 in_row row = length row.interfaces
 
+-- a row by what stands in it
+head_from : (file : List ℕ) (types table i at t : ℕ) (a c : ℕ × ℕ) (d : Option ℕ × ℕ) (f : ℕ × ℕ) (g : List ℕ × ℕ) (k : ℕ × ℕ) → t ≤ 4000000
+    → u4 file at ≡ Some a → a.0 < types → u4 file a.1 ≡ Some c → run (superclass_at file types table i c.1) ≡ Ok d → u4 file d.1 ≡ Some f
+    → run (type_list_at file types tables.ClassDefs i f.0 t) ≡ Ok g → run (data_offset_at file table f.1) ≡ Ok k
+    → OneRead (λ a b. a + b) (λ a. a ≤ 4000000) (λ at row adds to. IsHead file types at row × (adds ≡ in_row row) × (to ≡ at + 32)) place at t (class_row_of i a.0 c.0 d.0 g.0 k.0) (place k.1 g.1)
+unfolding in_row
+head_from file types table i at t a c d f g k fit class-read below flags-read above-read list-read interfaces-read offset-read =
+    let class = u4_is file at a class-read in
+    let flags = u4_behind file (at + 4) a.1 c flags-read class.1 in
+    let flags-end : c.1 ≡ at + 8 = (let o : c.1 ≡ at + 4 + 4 = flags.1 in omega arith) in
+    let above = superclass_is file types table i c.1 d above-read in
+    let above-end : d.1 ≡ at + 12 = (let o : d.1 ≡ c.1 + 4 = above.3 in omega arith) in
+    let list = u4_behind file (at + 12) d.1 f list-read above-end in
+    let list-end : f.1 ≡ at + 16 = (let o : f.1 ≡ at + 12 + 4 = list.1 in omega arith) in
+    let interfaces = maybe_list_is file types tables.ClassDefs i f.0 t g.0 g.1 fit interfaces-read in
+    let offset = data_offset_is file table f.1 k offset-read in
+    let end : k.1 ≡ at + 32 = (let o : k.1 ≡ f.1 + 16 = offset.1 in omega arith) in
+    let data-at : f.1 + 8 ≡ at + 24 = omega arith in
+    let within : at + 32 ≤ length file = (let o : f.1 + 16 ≤ length file = offset.2 in let p : at + 16 + 16 ≤ length file = subst (λ (u : ℕ). u + 16 ≤ length file) list-end o in omega (arith, p)) in
+    let total : g.1 ≡ t + length g.0 = interfaces.1 in
+    let fits : t + length g.0 ≤ 4000000 = (let o : g.1 ≤ 4000000 = interfaces.2 in omega arith) in
+    record {
+      to = k.1;
+      adds = length g.0;
+      stands = (
+        record {
+          index = above.0;
+          list = f.0;
+          class_is = class.0;
+          class_below = below;
+          flags_is = flags.0;
+          index_is = subst (λ (o : ℕ). Is4 file o above.0) flags-end above.1;
+          superclass = above.2;
+          list_is = list.0;
+          interfaces = interfaces.0;
+          class_data_is = subst (λ (o : ℕ). Is4 file o k.0) data-at offset.0;
+          whole = within;
+        },
+        refl,
+        end,
+      );
+      is = ap (λ (u : ℕ). place k.1 u) total;
+      fits = fits;
+    }
+
 head_is : (file : List ℕ) (types table i at t : ℕ) (x : ClassRow) (s : Place) → t ≤ 4000000 → run (class_row file types table i (place at t)) ≡ Ok (x, s)
-    → OneRead (λ a b. a + b) (λ a. a ≤ 4000000) (λ at row adds to. IsHead file types at row × (adds ≡ in_row row) × (to ≡ at + 32)) place at t x s × (i < 65536)
-unfolding class_row in_row
+    → OneRead (λ a b. a + b) (λ a. a ≤ 4000000) (λ at row adds to. IsHead file types at row × (adds ≡ in_row row) × (to ≡ at + 32)) place at t x s
+unfolding class_row
 head_is file types table i at t x s fit e =
     let a = there_ok (u4 file at) _ _ _ _ e in
-    let b = test_ok _ _ _ _ a.2 in
+    let b = test_ok (nat_lt a.0.0 types) _ _ _ a.2 in
     let c = there_ok (u4 file a.0.1) _ _ _ _ b.1 in
     let d = bind_ok (superclass_at file types table i c.0.1) _ _ c.2 in
     let f = there_ok (u4 file d.0.1) _ _ _ _ d.2 in
     let g = bind_ok (type_list_at file types tables.ClassDefs i f.0.0 t) _ _ f.2 in
     let h = test_ok (nat_lt i 65536) _ _ _ g.2 in
     let k = bind_ok (data_offset_at file table f.0.1) _ _ h.1 in
-    let class = u4_is file at a.0 a.1 in
-    let flags = u4_behind file (at + 4) a.0.1 c.0 c.1 class.1 in
-    let flags-end : c.0.1 ≡ at + 8 = (let o : c.0.1 ≡ at + 4 + 4 = flags.1 in omega arith) in
-    let above = superclass_is file types table i c.0.1 d.0 d.1 in
-    let above-end : d.0.1 ≡ at + 12 = (let o : d.0.1 ≡ c.0.1 + 4 = above.3 in omega arith) in
-    let list = u4_behind file (at + 12) d.0.1 f.0 f.1 above-end in
-    let list-end : f.0.1 ≡ at + 16 = (let o : f.0.1 ≡ at + 12 + 4 = list.1 in omega arith) in
-    let interfaces = maybe_list_is file types tables.ClassDefs i f.0.0 t g.0.0 g.0.1 fit g.1 in
-    let offset = data_offset_is file table f.0.1 k.0 k.1 in
-    let end : k.0.1 ≡ at + 32 = (let o : k.0.1 ≡ f.0.1 + 16 = offset.1 in omega arith) in
-    let data-at : f.0.1 + 8 ≡ at + 24 = omega arith in
-    let within : at + 32 ≤ length file = (let o : f.0.1 + 16 ≤ length file = offset.2 in let p : at + 16 + 16 ≤ length file = subst (λ (u : ℕ). u + 16 ≤ length file) list-end o in omega (arith, p)) in
-    let total : g.0.1 ≡ t + length g.0.0 = interfaces.1 in
-    let fits : t + length g.0.0 ≤ 4000000 = (let o : g.0.1 ≤ 4000000 = interfaces.2 in omega arith) in (
-      subst (λ (p : ClassRow × Place). OneRead (λ a b. a + b) (λ a. a ≤ 4000000) (λ at row adds to. IsHead file types at row × (adds ≡ length row.interfaces) × (to ≡ at + 32)) place at t p.0 p.1) (value_is _ _ k.2)
-          (record {
-            to = k.0.1;
-            adds = length g.0.0;
-            stands = (
-              record {
-                index = above.0;
-                list = f.0.0;
-                class_is = class.0;
-                class_below = ltb-true _ _ b.0;
-                flags_is = flags.0;
-                index_is = subst (λ (o : ℕ). Is4 file o above.0) flags-end above.1;
-                superclass = above.2;
-                list_is = list.0;
-                interfaces = interfaces.0;
-                class_data_is = subst (λ (o : ℕ). Is4 file o k.0.0) data-at offset.0;
-                whole = within;
-              },
-              refl,
-              end,
-            );
-            is = ap (λ (u : ℕ). place k.0.1 u) total;
-            fits = fits;
-          }),
-      ltb-true _ _ h.0,
-    )
+    subst (λ (p : ClassRow × Place). OneRead (λ a b. a + b) (λ a. a ≤ 4000000) (λ at row adds to. IsHead file types at row × (adds ≡ in_row row) × (to ≡ at + 32)) place at t p.0 p.1) (value_is _ _ k.2)
+    (head_from file types table i at t a.0 c.0 d.0 f.0 g.0 k.0 fit a.1 (ltb-true _ _ b.0) c.1 d.1 f.1 g.1 k.1)
 
 pub head_again : (file : List ℕ) (types table i at t : ℕ) (x : ClassRow) → IsHead file types at x → x.row ≡ i → t + length x.interfaces ≤ 4000000 → i < 65536
     → run (class_row file types table i (place at t)) ≡ Ok (x, place (at + 32) (t + length x.interfaces))
@@ -206,7 +213,7 @@ pub class_rows_are : (file : List ℕ) (types : ℕ) (table : Section) (t : ℕ)
 unfolding class_rows_at
 class_rows_are file types table t rs s fit e =
     let read = follow_read 0 (λ a b. a + b) (λ a. a ≤ 4000000) (λ at row adds to. IsHead file types at row × (adds ≡ in_row row) × (to ≡ at + 32)) place (class_row file types table.at) (number_adds 4000000)
-    (λ i q t x s fit e. (head_is file types table.at i q t x s fit e).0) table.size 0 table.at t rs s fit e in
+    (λ i q t x s fit e. head_is file types table.at i q t x s fit e) table.size 0 table.at t rs s fit e in
     let rows = rows_from_follow (IsHead file types) in_row 32 table.at rs read.adds read.to read.stand in
     let adds : read.adds ≡ sum_by in_row rs = rows.1 in
     let fits : t + read.adds ≤ 4000000 = read.fits in

@@ -4,6 +4,8 @@ use Rattle.vet_base.specs.Script.{Script, Value, ◌>>=◌, tests, IsFirst}
 use Rattle.dex_reader.specs.declared.fault.Fault.{Fault}
 use Rattle.dex_reader.specs.declared.dex.Dex.{Dex}
 use Rattle.dex_reader.specs.declared.dex.ClassDef.{ClassDef}
+use Rattle.dex_reader.specs.declared.dex.FieldId.{FieldId}
+use Rattle.dex_reader.specs.declared.dex.MethodRow.{MethodRow}
 use Rattle.dex_reader.specs.declared.header.Header.{Header}
 use Rattle.dex_reader.specs.declared.place.Sizes.{Sizes}
 use Rattle.dex_reader.specs.declared.reading.Ids.{Ids}
@@ -17,20 +19,32 @@ use Rattle.dex_reader.specs.ClassData.{classes_at}
 abbrev pub sizes_of : Header → Sizes
 sizes_of header = record { strings = header.strings.size; types = header.types.size; protos = header.protos.size; fields = header.fields.size; methods = header.methods.size }
 
--- the five id tables, and the entries of type lists that they name
-unfoldable pub ids_at : List ℕ → Header → Sizes → Script Fault Ids
-ids_at file header sizes = do
+-- the strings, and the string that describes each type
+unfoldable pub names_at : List ℕ → Header → Sizes → Script Fault (List (List ℕ) × List ℕ)
+names_at file header sizes = do
   _ ← table_test file header.strings.size header.strings.at 4
   strings ← strings_at file header.strings
   _ ← table_test file header.types.size header.types.at 4
   types ← types_at file sizes header.types
-  _ ← table_test file header.protos.size header.protos.at 12
-  protos ← protos_at file sizes header.protos 0
+  Value (strings.0, types.0)
+
+-- the ids of fields and of methods
+unfoldable pub member_ids_at : List ℕ → Header → Sizes → Script Fault (List FieldId × List MethodRow)
+member_ids_at file header sizes = do
   _ ← table_test file header.fields.size header.fields.at 8
   fields ← fields_at file sizes header.fields
   _ ← table_test file header.methods.size header.methods.at 8
   methods ← methods_at file sizes header.methods
-  Value (record { strings = strings.0; types = types.0; protos = protos.0; fields = fields.0; methods = methods.0; listed = protos.1.total })
+  Value (fields.0, methods.0)
+
+-- the five id tables, and the entries of type lists that they name
+unfoldable pub ids_at : List ℕ → Header → Sizes → Script Fault Ids
+ids_at file header sizes = do
+  names ← names_at file header sizes
+  _ ← table_test file header.protos.size header.protos.at 12
+  protos ← protos_at file sizes header.protos 0
+  members ← member_ids_at file header sizes
+  Value (record { strings = names.0; types = names.1; protos = protos.0; fields = members.0; methods = members.1; listed = protos.1.total })
 
 abbrev pub dex_of : Ids → List ClassDef → Dex
 dex_of ids classes = record { strings = ids.strings; types = ids.types; protos = ids.protos; fields = ids.fields; methods = ids.methods; classes = classes }

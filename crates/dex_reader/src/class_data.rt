@@ -78,7 +78,6 @@ fn member_of(file: &[u8], fields: u32, class: u32, walk: Walk) -> Result<(Member
     Ok((Member { index, flags }, Walk { at, index, totals }))
 }
 
-#[tactic(auto, unfolding(crate::specs::ClassData::members_at), using(vet_base::proofs::Repeats::repeat_begins, vet_base::proofs::Repeats::repeat_goes_on, vet_base::proofs::Repeats::repeat_fails, vet_base::proofs::Repeats::repeat_is_done))]
 fn members_of(
     alloc: Global,
     file: &[u8],
@@ -120,7 +119,6 @@ fn body_of(
     Ok((Body { index, flags, code }, Walk { at, index, totals }))
 }
 
-#[tactic(auto, unfolding(crate::specs::ClassData::bodies_at), using(vet_base::proofs::Repeats::repeat_begins, vet_base::proofs::Repeats::repeat_goes_on, vet_base::proofs::Repeats::repeat_fails, vet_base::proofs::Repeats::repeat_is_done))]
 fn bodies_of(
     alloc: Global,
     file: &[u8],

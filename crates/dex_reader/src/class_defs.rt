@@ -101,7 +101,6 @@ fn class_row_of(
 }
 
 /// The rows of a table that lies within the file, and the entries of type lists with theirs.
-#[tactic(auto, unfolding(crate::specs::ClassDefs::class_rows_at), using(vet_base::proofs::Scripts::begins, vet_base::proofs::Scripts::goes_on, vet_base::proofs::Scripts::ends, vet_base::proofs::Scripts::is_done))]
 pub fn class_rows_of(
     alloc: Global,
     file: &[u8],

@@ -3,7 +3,7 @@ use vet_base::{Name, Seq, Shared};
 /// What stands in a DEX file: its five id tables and its classes, each in the file's order.
 ///
 /// An index of a string, type, proto, field or method is a row of the table of that name.
-#[derive(Debug, Drop)]
+#[derive(Drop)]
 pub struct Dex {
     /// The bytes of each string up to its first 0, in MUTF-8 as the file has them.
     pub strings: Seq<Name>,
@@ -16,7 +16,7 @@ pub struct Dex {
 }
 
 /// A prototype: the types of its result and of its parameters.
-#[derive(Debug, Drop)]
+#[derive(Drop)]
 pub struct ProtoId {
     pub ret: u32,
     pub params: Seq<u32>,
@@ -39,7 +39,7 @@ pub struct MethodRow {
 }
 
 /// A class with its class data. `class`, `superclass` and `interfaces` are types.
-#[derive(Debug, Drop)]
+#[derive(Drop)]
 pub struct ClassDef {
     pub class: u32,
     pub flags: u32,
@@ -59,7 +59,7 @@ pub struct Member {
 }
 
 /// A method of a class: its row of `method_ids`, its access flags, and its code where it has any.
-#[derive(Debug, Drop)]
+#[derive(Drop)]
 pub struct Body {
     pub index: u32,
     pub flags: u32,
@@ -67,7 +67,7 @@ pub struct Body {
 }
 
 /// A code item: its numbers of registers, its code units of 16 bits, and its try items in their order.
-#[derive(Debug, Drop)]
+#[derive(Drop)]
 pub struct RawCode {
     pub registers: u16,
     pub ins: u16,
@@ -78,7 +78,7 @@ pub struct RawCode {
 
 /// A try item with the handler that it names: `count` units from `start` on, pairs of type and address of a unit, and
 /// the address of the catch-all handler where there is one.
-#[derive(Debug, Drop)]
+#[derive(Drop)]
 pub struct RawTry {
     pub start: u32,
     pub count: u16,

@@ -41,7 +41,6 @@ fn pair_of(
     Ok(((kind, address), Place { at, total }))
 }
 
-#[tactic(auto, unfolding(crate::specs::Handlers::pairs_at), using(vet_base::proofs::Repeats::repeat_begins, vet_base::proofs::Repeats::repeat_goes_on, vet_base::proofs::Repeats::repeat_fails, vet_base::proofs::Repeats::repeat_is_done))]
 fn pairs_of(
     alloc: Global,
     file: &[u8],
@@ -147,7 +146,6 @@ fn handler_of(
 }
 
 /// So many handlers one behind the other, by rising offsets.
-#[tactic(auto, unfolding(crate::specs::Handlers::handler_rows_at), using(vet_base::proofs::Repeats::repeat_begins, vet_base::proofs::Repeats::repeat_goes_on, vet_base::proofs::Repeats::repeat_fails, vet_base::proofs::Repeats::repeat_is_done, crate::proofs::RisingHandlers::none_rise, crate::proofs::RisingHandlers::rising_push))]
 pub fn handlers_of(
     alloc: Global,
     file: &[u8],

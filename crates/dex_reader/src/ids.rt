@@ -28,7 +28,6 @@ fn type_of(
 }
 
 /// The type ids of a table that lies within the file.
-#[tactic(auto, unfolding(crate::specs::Tables::types_at), using(vet_base::proofs::Scripts::begins, vet_base::proofs::Scripts::goes_on, vet_base::proofs::Scripts::ends, vet_base::proofs::Scripts::is_done))]
 pub fn types_of(
     alloc: Global,
     file: &[u8],
@@ -75,7 +74,6 @@ fn proto_of(
 }
 
 /// The proto ids of a table that lies within the file, and the entries of type lists with theirs.
-#[tactic(auto, unfolding(crate::specs::Tables::protos_at), using(vet_base::proofs::Scripts::begins, vet_base::proofs::Scripts::goes_on, vet_base::proofs::Scripts::ends, vet_base::proofs::Scripts::is_done))]
 pub fn protos_of(
     alloc: Global,
     file: &[u8],
@@ -122,7 +120,6 @@ fn field_of(
 }
 
 /// The field ids of a table that lies within the file.
-#[tactic(auto, unfolding(crate::specs::Tables::fields_at), using(vet_base::proofs::Scripts::begins, vet_base::proofs::Scripts::goes_on, vet_base::proofs::Scripts::ends, vet_base::proofs::Scripts::is_done))]
 pub fn fields_of(
     alloc: Global,
     file: &[u8],
@@ -165,7 +162,6 @@ fn method_of(
 }
 
 /// The method ids of a table that lies within the file.
-#[tactic(auto, unfolding(crate::specs::Tables::methods_at), using(vet_base::proofs::Scripts::begins, vet_base::proofs::Scripts::goes_on, vet_base::proofs::Scripts::ends, vet_base::proofs::Scripts::is_done))]
 pub fn methods_of(
     alloc: Global,
     file: &[u8],

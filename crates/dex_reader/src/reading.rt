@@ -1,10 +1,10 @@
 ghost use Rattle.std.specs.Prelude.{◌≡◌, ◌<◌, ◌^◌, length};
 ghost use Rattle.vet_base.specs.Script.{Gives};
-ghost use Rattle.dex_reader.specs.Whole.{sizes_of, ids_at, file_at, dex_at};
+ghost use Rattle.dex_reader.specs.Whole.{sizes_of, names_at, member_ids_at, ids_at, file_at, dex_at, dex_of as whole_of};
 
 use crate::class_defs::class_rows_of;
 use crate::classes::classes_of;
-use crate::dex::{Dex, FieldId, MethodRow, ProtoId};
+use crate::dex::{ClassDef, Dex, FieldId, MethodRow, ProtoId};
 use crate::fault::ReadError;
 use crate::header::{Header, header_of};
 use crate::ids::{fields_of, methods_of, protos_of, types_of};
@@ -37,21 +37,51 @@ fn sizes_in(header: Header) -> Sizes
     }
 }
 
-#[tactic(auto, unfolding(crate::specs::Whole::ids_at), using(vet_base::proofs::Scripts::run_bind))]
-fn ids_of(alloc: Global, file: &[u8], header: Header, sizes: Sizes) -> Result<Ids, ReadError>
+/// The strings, and the string that describes each type.
+#[tactic(auto, unfolding(crate::specs::Whole::names_at), using(vet_base::proofs::Scripts::run_bind))]
+fn names_of(
+    alloc: Global,
+    file: &[u8],
+    header: Header,
+    sizes: Sizes,
+) -> Result<(Seq<Name>, Seq<u32>), ReadError>
     requires { length file.now < 2 ^ 32 }
-    ensures { Gives (λ x. x) result (ids_at file.now header sizes) }
+    ensures { Gives (λ x. x) result (names_at file.now header sizes) }
 {
     test_table(file, header.strings.size, header.strings.at, 4)?;
     let (strings, _) = strings_of(alloc, file, header.strings)?;
     test_table(file, header.types.size, header.types.at, 4)?;
     let (types, _) = types_of(alloc, file, sizes, header.types)?;
-    test_table(file, header.protos.size, header.protos.at, 12)?;
-    let (protos, end) = protos_of(alloc, file, sizes, header.protos, 0)?;
+    Ok((strings, types))
+}
+
+/// The ids of fields and of methods.
+#[tactic(auto, unfolding(crate::specs::Whole::member_ids_at), using(vet_base::proofs::Scripts::run_bind))]
+fn member_ids_of(
+    alloc: Global,
+    file: &[u8],
+    header: Header,
+    sizes: Sizes,
+) -> Result<(Seq<FieldId>, Seq<MethodRow>), ReadError>
+    requires { length file.now < 2 ^ 32 }
+    ensures { Gives (λ x. x) result (member_ids_at file.now header sizes) }
+{
     test_table(file, header.fields.size, header.fields.at, 8)?;
     let (fields, _) = fields_of(alloc, file, sizes, header.fields)?;
     test_table(file, header.methods.size, header.methods.at, 8)?;
     let (methods, _) = methods_of(alloc, file, sizes, header.methods)?;
+    Ok((fields, methods))
+}
+
+#[tactic(auto, unfolding(crate::specs::Whole::ids_at), using(vet_base::proofs::Scripts::run_bind))]
+fn ids_of(alloc: Global, file: &[u8], header: Header, sizes: Sizes) -> Result<Ids, ReadError>
+    requires { length file.now < 2 ^ 32 }
+    ensures { Gives (λ x. x) result (ids_at file.now header sizes) }
+{
+    let (strings, types) = names_of(alloc, file, header, sizes)?;
+    test_table(file, header.protos.size, header.protos.at, 12)?;
+    let (protos, end) = protos_of(alloc, file, sizes, header.protos, 0)?;
+    let (fields, methods) = member_ids_of(alloc, file, header, sizes)?;
     Ok(Ids {
         strings,
         types,
@@ -60,6 +90,20 @@ fn ids_of(alloc: Global, file: &[u8], header: Header, sizes: Sizes) -> Result<Id
         methods,
         listed: end.total,
     })
+}
+
+/// The id tables and the classes as one value.
+fn dex_with(ids: Ids, classes: Seq<ClassDef>) -> Dex
+    ensures { result ≡ whole_of ids classes }
+{
+    Dex {
+        strings: ids.strings,
+        types: ids.types,
+        protos: ids.protos,
+        fields: ids.fields,
+        methods: ids.methods,
+        classes,
+    }
 }
 
 #[tactic(auto, unfolding(crate::specs::Whole::file_at), using(vet_base::proofs::Scripts::run_bind))]
@@ -72,14 +116,7 @@ fn file_of(alloc: Global, file: &[u8], header: Header, sizes: Sizes) -> Result<D
     test_table(file, table.size, table.at, 32)?;
     let (rows, _) = class_rows_of(alloc, file, sizes.types, table, ids.listed)?;
     let (classes, _) = classes_of(alloc, file, sizes, rows)?;
-    Ok(Dex {
-        strings: ids.strings,
-        types: ids.types,
-        protos: ids.protos,
-        fields: ids.fields,
-        methods: ids.methods,
-        classes,
-    })
+    Ok(dex_with(ids, classes))
 }
 
 /// What stands in the bytes of a file, of which those behind the file's size are not there.

@@ -33,7 +33,6 @@ fn string_of(
 }
 
 /// The names of a table that lies within the file.
-#[tactic(auto, unfolding(crate::specs::Tables::strings_at), using(vet_base::proofs::Repeats::repeat_begins, vet_base::proofs::Repeats::repeat_goes_on, vet_base::proofs::Repeats::repeat_fails, vet_base::proofs::Repeats::repeat_is_done))]
 pub fn strings_of(
     alloc: Global,
     file: &[u8],

@@ -52,7 +52,6 @@ fn try_item_of(file: &[u8], code: u32, place: Place) -> Result<(TryItem, Place),
     Ok((item, Place { at, total }))
 }
 
-#[tactic(auto, unfolding(crate::specs::Tries::try_rows_at), using(vet_base::proofs::Repeats::repeat_begins, vet_base::proofs::Repeats::repeat_goes_on, vet_base::proofs::Repeats::repeat_fails, vet_base::proofs::Repeats::repeat_is_done))]
 fn try_items_of(
     alloc: Global,
     file: &[u8],
@@ -121,7 +120,6 @@ fn raw_try_of(
     Ok((found, total as u32))
 }
 
-#[tactic(auto, unfolding(crate::specs::Tries::joined_at), using(vet_base::proofs::Scripts::walk_begins, vet_base::proofs::Scripts::walk_goes_on_at, vet_base::proofs::Scripts::walk_fails_at, vet_base::proofs::Scripts::walk_is_done))]
 fn joined_of(
     alloc: Global,
     list: HandlerList<'_>,

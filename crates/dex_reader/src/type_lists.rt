@@ -37,7 +37,6 @@ fn entry_of(
     Ok((u32::from(index), Place { at, total }))
 }
 
-#[tactic(auto, unfolding(crate::specs::TypeLists::entries_at), using(vet_base::proofs::Repeats::repeat_begins, vet_base::proofs::Repeats::repeat_goes_on, vet_base::proofs::Repeats::repeat_fails, vet_base::proofs::Repeats::repeat_is_done))]
 fn entries_of(
     alloc: Global,
     file: &[u8],

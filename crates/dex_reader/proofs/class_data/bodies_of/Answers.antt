@@ -1,0 +1,21 @@
+use Rattle.vet_base.specs.Script.{run, Fails}
+use Rattle.vet_base.proofs.Repeats.{repeat_begins, repeat_goes_on, repeat_fails, repeat_is_done}
+use Rattle.dex_reader.specs.ClassData.{bodies_at}
+use Rattle.std.proofs.Common.{rules}
+use Rattle.dex_reader.proofs.class_data.bodies_of.Goals as goal
+
+pub loop-init : goal.loop-init
+unfolding bodies_at
+loop-init c = rw c.new-bodies.ensures.items (repeat_begins _ _ _)
+
+pub returns-in_err-body : goal.returns-in_err-body
+returns-in_err-body c =
+    let stopped : Fails c.in_err-body.field-0.0 (run (bodies_at c.args.file.now c.args.sizes c.args.class c.args.count c.args.before.at c.args.before.totals)) =
+    repeat_fails _ _ _ _ _ _ _ c.loop-test.true c.in_err-body.ensures c.loop.invariant in
+    search rules
+
+pub loop-preserved : goal.loop-preserved
+loop-preserved c = rw c.in_ok-push.ensures.items (repeat_goes_on _ _ _ _ _ _ _ _ c.loop-test.true c.in_ok-body.ensures c.loop.invariant)
+
+pub returns : goal.returns
+returns c = rw c.from_vec.ensures (repeat_is_done _ _ _ _ _ _ c.loop-test.false c.loop.invariant)
