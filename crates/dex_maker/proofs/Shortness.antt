@@ -2,12 +2,12 @@
 use Rattle.std.proofs.Common.{◌≡◌, ℕ, suc, ◌+◌, ◌≤◌, cond, ltb, List, [], ◌∷◌, length, Option, Some, None, refl, ap, arith}
 use Rattle.std.proofs.lemmas.Bool.{ltb-false}
 use Rattle.dex_reader.specs.declared.dex.ClassDef.{ClassDef}
-use Rattle.dex_maker.specs.declared.tables.Tables.{Tables}
+use Rattle.dex_writer.specs.declared.tables.Tables.{Tables}
 use Rattle.dex_maker.specs.declared.fault.IdTable.{IdTable}
 use Rattle.dex_maker.specs.declared.fault.IdTable.TheVariants as ids
 use Rattle.dex_maker.specs.declared.listing.ListedClass.{ListedClass}
 use Rattle.dex_maker.specs.Classes.{class_defs_from}
-use Rattle.dex_maker.specs.File.{AreShort}
+use Rattle.dex_writer.specs.File.{AreShort}
 use Rattle.dex_maker.specs.Fits.{first_misfit}
 use Rattle.dex_maker.specs.Naming.{tables_of}
 use Rattle.dex_maker.specs.Made.{long_table, no_file, fault_of, TablesAreShort}

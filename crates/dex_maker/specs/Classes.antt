@@ -6,12 +6,12 @@ use Rattle.std.specs.List.{sum_by}
 use Rattle.dex_reader.specs.declared.dex.Member.{Member}
 use Rattle.dex_reader.specs.declared.dex.Body.{Body}
 use Rattle.dex_reader.specs.declared.dex.ClassDef.{ClassDef}
-use Rattle.dex_maker.specs.declared.tables.Tables.{Tables}
+use Rattle.dex_writer.specs.declared.tables.Tables.{Tables}
 use Rattle.dex_maker.specs.declared.listing.ListedClass.{ListedClass}
 use Rattle.dex_maker.specs.declared.listing.ListedField.{ListedField}
 use Rattle.dex_maker.specs.declared.listing.ListedMethod.{ListedMethod}
 use Rattle.dex_maker.specs.declared.listing.ListedCode.{ListedCode}
-use Rattle.dex_maker.specs.Tables.{type_index}
+use Rattle.dex_writer.specs.Tables.{type_index}
 use Rattle.dex_maker.specs.Lines.{width_sum}
 use Rattle.dex_maker.specs.Codes.{raw_code}
 

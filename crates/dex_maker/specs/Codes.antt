@@ -8,14 +8,14 @@ use Rattle.dalvik_formats.specs.declared.format.Pool.TheVariants.{Methods}
 use Rattle.dalvik_formats.specs.Layouts.{layout_of}
 use Rattle.dex_reader.specs.declared.dex.RawCode.{RawCode}
 use Rattle.dex_reader.specs.declared.dex.RawTry.{RawTry}
-use Rattle.dex_maker.specs.declared.tables.Tables.{Tables}
+use Rattle.dex_writer.specs.declared.tables.Tables.{Tables}
 use Rattle.dex_maker.specs.declared.listing.ListedCode.{ListedCode}
 use Rattle.dex_maker.specs.declared.listing.ListedTry.{ListedTry}
 use Rattle.dex_maker.specs.declared.listing.ListedLine.{ListedLine}
 use Rattle.dex_maker.specs.declared.listing.ListedLine.TheVariants.{Plain, Packed, Sparse, Filled}
 use Rattle.dex_maker.specs.declared.listing.Operand.{Operand}
 use Rattle.dex_maker.specs.declared.listing.Operand.TheVariants.{Nothing, Text, Class, Field, Method}
-use Rattle.dex_maker.specs.Tables.{string_index, type_index, field_index, method_index}
+use Rattle.dex_writer.specs.Tables.{string_index, type_index, field_index, method_index}
 use Rattle.dex_maker.specs.Spelling.{unit_of, plain_units}
 use Rattle.dex_maker.specs.Payloads.{distance_bits, packed_units, sparse_units, filled_units}
 use Rattle.dex_maker.specs.Lines.{width_of, starts_from}

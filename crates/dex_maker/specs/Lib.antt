@@ -1,16 +1,9 @@
 pub mod Budget
-pub mod Bytes
-pub mod ClassData
 pub mod Classes
-pub mod CodeItem
 pub mod Codes
-pub mod File
 pub mod Fits
 pub mod Lines
 pub mod Made
 pub mod Naming
 pub mod Payloads
-pub mod Placed
-pub mod Rows
 pub mod Spelling
-pub mod Tables

@@ -1,6 +1,6 @@
 -- What is made of a listing, which listings have a file, and when there is none.
 use Rattle.std.specs.Prelude.{ℕ, ◌≡◌, ◌≤◌, codes, List, length, Option, Some, None, nat_lt, if◌then◌else◌}
-use Rattle.dex_maker.specs.declared.tables.Tables.{Tables}
+use Rattle.dex_writer.specs.declared.tables.Tables.{Tables}
 use Rattle.dex_maker.specs.declared.fault.IdTable.{IdTable}
 use Rattle.dex_maker.specs.declared.fault.IdTable.TheVariants as ids
 use Rattle.dex_maker.specs.declared.fault.MakeFault.{MakeFault}
@@ -9,7 +9,7 @@ use Rattle.dex_maker.specs.declared.listing.Listing.{Listing}
 use Rattle.dex_maker.specs.Naming.{tables_of}
 use Rattle.dex_maker.specs.Classes.{class_defs_from, unit_count, member_total}
 use Rattle.dex_maker.specs.Fits.{first_misfit}
-use Rattle.dex_maker.specs.File.{file_bytes, AreShort}
+use Rattle.dex_writer.specs.File.{file_bytes, AreShort}
 
 -- the file of a listing
 unfoldable pub dex_bytes : Listing → List ℕ

@@ -1,6 +1,6 @@
 -- The id tables of a listing: first what its classes and their members name, in its order, and then what its code names.
 use Rattle.std.specs.Prelude.{ℕ, List, [], ◌∷◌, Option, Some, None}
-use Rattle.dex_maker.specs.declared.tables.Tables.{Tables}
+use Rattle.dex_writer.specs.declared.tables.Tables.{Tables}
 use Rattle.dex_maker.specs.declared.listing.Listing.{Listing}
 use Rattle.dex_maker.specs.declared.listing.ListedClass.{ListedClass}
 use Rattle.dex_maker.specs.declared.listing.ListedField.{ListedField}
@@ -11,7 +11,7 @@ use Rattle.dex_maker.specs.declared.listing.ListedLine.{ListedLine}
 use Rattle.dex_maker.specs.declared.listing.ListedLine.TheVariants.{Plain, Packed, Sparse, Filled}
 use Rattle.dex_maker.specs.declared.listing.Operand.{Operand}
 use Rattle.dex_maker.specs.declared.listing.Operand.TheVariants.{Nothing, Text, Class, Field, Method}
-use Rattle.dex_maker.specs.Tables.{no_tables, with_string, with_type, with_types, with_field, with_method, and_field, and_method}
+use Rattle.dex_writer.specs.Tables.{no_tables, with_string, with_type, with_types, with_field, with_method, and_field, and_method}
 
 abbrev pub with_fields : Tables → List ℕ → List ListedField → Tables
 with_fields t class [] = t

@@ -2,13 +2,13 @@ ghost use Rattle.std.specs.Prelude.{◌≡◌, ◌≤◌, ◌++◌, ◌+◌, ◌
 ghost use Rattle.std.specs.Option.{option_map};
 ghost use Rattle.std.specs.List.{sum_by};
 ghost use Rattle.dex_maker.specs.Codes.{raw_code};
-ghost use Rattle.dex_maker.specs.Tables.{type_index};
+ghost use Rattle.dex_writer.specs.Tables.{type_index};
 ghost use Rattle.dex_maker.specs.Classes.{has_flag, begins_with_angle, is_static, is_direct, is_of, members_from, bodies_from, class_def, class_defs_from, code_width, method_width, unit_count, member_total};
 
 use crate::codes::code_of;
 use crate::listing::{ListedClass, ListedCode, ListedField, ListedMethod};
-use crate::tables::Tables;
 use dex_reader::{Body, ClassDef, Member, RawCode};
+use dex_writer::Tables;
 use std::alloc::Global;
 use vet_base::{Memory, Name, Seq};
 

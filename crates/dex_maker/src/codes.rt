@@ -7,10 +7,10 @@ ghost use Rattle.dex_maker.specs.Codes.{index_for, target_bits, line_units, unit
 use crate::listing::{ListedCode, ListedLine, ListedTry, Operand};
 use crate::payloads::{distance_bits, put_filled, put_packed, put_sparse};
 use crate::spelling::{put_plain, register, unit_of};
-use crate::tables::Tables;
 use crate::widths::{start_of, starts_of, width_of};
 use dalvik_formats::{Format, Pool, format_of};
 use dex_reader::{RawCode, RawTry};
+use dex_writer::Tables;
 use std::alloc::Global;
 use vet_base::{Memory, Name, Seq, Shared};
 

@@ -5,7 +5,7 @@ use std::alloc::{AllocError, AllocFailed};
 use vet_base::{Memory, Name};
 
 /// An id table of a DEX file.
-#[derive(Clone, Copy, Debug, PartialEq, Eq)]
+#[derive(Clone, Copy)]
 pub enum IdTable {
     Strings,
     Types,
@@ -15,7 +15,7 @@ pub enum IdTable {
 }
 
 /// Why no file was made of a listing.
-#[derive(Debug, Drop)]
+#[derive(Drop)]
 pub enum MakeFault {
     /// The table of that name, the first such one in the order of the header, needs more rows than it may have.
     TooMany(Name),

@@ -1,16 +1,10 @@
 //! Writes DEX files of version 035 from a listing of their classes.
 #![tactic(auto)]
 
-mod bytes;
-mod class_data;
 mod classes;
-mod code_item;
 mod codes;
 mod fault;
-mod file;
 mod fits;
-mod id_row;
-mod interner;
 mod law;
 mod limits;
 mod listing;
@@ -18,7 +12,6 @@ mod make;
 mod naming;
 mod payloads;
 mod spelling;
-mod tables;
 mod widths;
 
 pub use fault::MakeFault;

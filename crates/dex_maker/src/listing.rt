@@ -3,13 +3,13 @@ use vet_base::{Name, Seq};
 /// The classes of a DEX file, each with its members and its code as instructions that name what they use.
 ///
 /// No name may hold a 0 byte.
-#[derive(Debug, Drop)]
+#[derive(Drop)]
 pub struct Listing {
     pub classes: Seq<ListedClass>,
 }
 
 /// A class; `name`, `superclass` and `interfaces` are type descriptors, as `La/Main;`.
-#[derive(Debug, Drop)]
+#[derive(Drop)]
 pub struct ListedClass {
     pub name: Name,
     /// Access flags, as in a class_def_item.
@@ -21,7 +21,7 @@ pub struct ListedClass {
 }
 
 /// A field; it is static where its flags have 0x8.
-#[derive(Debug, Drop)]
+#[derive(Drop)]
 pub struct ListedField {
     pub name: Name,
     /// The descriptor of its type.
@@ -31,7 +31,7 @@ pub struct ListedField {
 
 /// A method; it is direct where its flags have 0x8 (static) or 0x2 (private) or its name begins with `<`, otherwise
 /// virtual.
-#[derive(Debug, Drop)]
+#[derive(Drop)]
 pub struct ListedMethod {
     pub name: Name,
     /// The descriptors of its parameters' types.
@@ -42,7 +42,7 @@ pub struct ListedMethod {
 }
 
 /// A method's code; its lines are numbered from 0.
-#[derive(Debug, Drop)]
+#[derive(Drop)]
 pub struct ListedCode {
     pub registers: u16,
     pub ins: u16,
@@ -52,7 +52,7 @@ pub struct ListedCode {
 
 /// The lines from `start` up to `end`, which is not of them, with pairs of an exception's type and the line that
 /// handles it, and the line that handles any exception.
-#[derive(Debug, Drop)]
+#[derive(Drop)]
 pub struct ListedTry {
     pub start: u32,
     pub end: u32,
@@ -61,7 +61,7 @@ pub struct ListedTry {
 }
 
 /// An instruction or a payload.
-#[derive(Debug, Drop)]
+#[derive(Drop)]
 pub enum ListedLine {
     /// The opcode, the registers in the order of the format, the literal as the units hold it, what the index names,
     /// and the line of the target. A part that the format does not have is empty, `Nothing`, `None` or 0. A line of
@@ -76,7 +76,7 @@ pub enum ListedLine {
 }
 
 /// What an instruction's index names.
-#[derive(Debug, Drop)]
+#[derive(Drop)]
 pub enum Operand {
     Nothing,
     Text(Name),

@@ -1,16 +1,15 @@
 ghost use Rattle.std.specs.Prelude.{◌≡◌, ◌≤◌, ◌⊎◌, length, codes, Some, None, IfOk, OnOk, IfErr};
 ghost use Rattle.dex_maker.specs.declared.fault.MakeFault.TheVariants.{Memory as want_of_memory};
-ghost use Rattle.dex_maker.specs.File.{AreShort};
+ghost use Rattle.dex_writer.specs.File.{AreShort};
 ghost use Rattle.dex_maker.specs.Naming.{tables_of};
 ghost use Rattle.dex_maker.specs.Made.{dex_bytes, long_table, table_name, fault_of, Makeable};
 
 use crate::classes::classes_of;
 use crate::fault::{IdTable, MakeFault};
-use crate::file::file_of;
 use crate::fits::first_misfit;
 use crate::listing::Listing;
 use crate::naming::tables_of;
-use crate::tables::Tables;
+use dex_writer::{Tables, write_dex};
 use std::alloc::Global;
 use vet_base::{Memory, Name};
 
@@ -82,7 +81,7 @@ fn bytes_of(alloc: Global, listing: &Listing, tables: &Tables) -> Result<Vec<u8>
     ensures { IfOk result (λ v. v.items ≡ dex_bytes listing.now) }
 {
     let classes = classes_of(alloc, tables, listing.classes.as_slice())?;
-    file_of(alloc, tables, &classes)
+    write_dex(alloc, tables, &classes)
 }
 
 /// The bytes of a DEX file with the classes of the listing, in its order. Checksum, signature and map offset are zero,

@@ -4,7 +4,7 @@ ghost use Rattle.dex_maker.specs.Naming.{with_fields, with_methods, with_supercl
 use crate::listing::{
     ListedClass, ListedCode, ListedField, ListedLine, ListedMethod, ListedTry, Listing, Operand,
 };
-use crate::tables::Tables;
+use dex_writer::Tables;
 use std::alloc::Global;
 use vet_base::{Memory, Name};
 

@@ -11,9 +11,9 @@ use Rattle.dex_reader.specs.Sequences.{Follow}
 use Rattle.dex_reader.specs.ClassesStand.{one_member, IsMember, IsBody, HasClassData, MaybeClassData}
 use Rattle.dex_reader.specs.Sound.{body_units, class_members, class_units}
 use Rattle.dex_reader.specs.Totals.{no_totals, plus}
-use Rattle.dex_maker.specs.Bytes.{uleb_bytes, type_list, padding_of}
-use Rattle.dex_maker.specs.Placed.{offset_of}
-use Rattle.dex_maker.specs.ClassData.{members_bytes, body_code, bodies_bytes, virtuals_at, class_code, class_item, class_data, code_and_data, code_begin, data_begin, class_bytes}
+use Rattle.dex_writer.specs.Bytes.{uleb_bytes, type_list, padding_of}
+use Rattle.dex_writer.specs.Placed.{offset_of}
+use Rattle.dex_writer.specs.ClassData.{members_bytes, body_code, bodies_bytes, virtuals_at, class_code, class_item, class_data, code_and_data, code_begin, data_begin, class_bytes}
 use Rattle.dex_round_trip.proofs.Fits.{MembersRise, BodiesRise, DataFits, code_total, members_total, bodies_total, class_total}
 use Rattle.dex_round_trip.proofs.Standing.{Stands, stands_front, stands_back, stands_as, stands_moved, stands_three, uleb_reads}
 use Rattle.dex_round_trip.proofs.Texts.{offset_small, at_some}

@@ -10,9 +10,9 @@ use Rattle.dex_reader.specs.ClassesStand.{IsSuperclass, IsClass, IsClassRow}
 use Rattle.dex_reader.specs.Dex.{interfaces_of}
 use Rattle.dex_reader.specs.Sound.{class_members, class_units}
 use Rattle.dex_reader.specs.Totals.{no_totals, plus}
-use Rattle.dex_maker.specs.Bytes.{u4_bytes, type_list, padding_of}
-use Rattle.dex_maker.specs.Placed.{pieces, placed_rows, offset_of}
-use Rattle.dex_maker.specs.ClassData.{class_bytes, placed_row, class_row, class_head, index_or_none, data_begin, code_begin, code_and_data, class_code, class_data}
+use Rattle.dex_writer.specs.Bytes.{u4_bytes, type_list, padding_of}
+use Rattle.dex_writer.specs.Placed.{pieces, placed_rows, offset_of}
+use Rattle.dex_writer.specs.ClassData.{class_bytes, placed_row, class_row, class_head, index_or_none, data_begin, code_begin, code_and_data, class_code, class_data}
 use Rattle.dex_round_trip.proofs.ClassDataReads.{class_stands}
 use Rattle.dex_round_trip.proofs.Fits.{DataFits, class_total, classes_total}
 use Rattle.dex_round_trip.proofs.IdTables.{type_list_stands}

@@ -7,10 +7,10 @@ use Rattle.dex_reader.specs.declared.dex.RawTry.{RawTry}
 use Rattle.dex_reader.specs.Sequences.{Is2, Is4, RowsStand}
 use Rattle.dex_reader.specs.CodeStands.{MaybeTries, padded, IsCode, MaybeCode}
 use Rattle.dex_reader.specs.Sound.{code_units}
-use Rattle.dex_maker.specs.Bytes.{u2_bytes, u4_bytes, padding_of}
-use Rattle.dex_maker.specs.Placed.{offset_of}
-use Rattle.dex_maker.specs.CodeItem.{before_tries, try_items, handlers_bytes, tries_bytes, code_head, code_item, code_bytes}
-use Rattle.dex_maker.specs.ClassData.{maybe_code}
+use Rattle.dex_writer.specs.Bytes.{u2_bytes, u4_bytes, padding_of}
+use Rattle.dex_writer.specs.Placed.{offset_of}
+use Rattle.dex_writer.specs.CodeItem.{before_tries, try_items, handlers_bytes, tries_bytes, code_head, code_item, code_bytes}
+use Rattle.dex_writer.specs.ClassData.{maybe_code}
 use Rattle.dex_round_trip.specs.Costs.{try_cost}
 use Rattle.dex_round_trip.proofs.Fits.{TryFits, CodeFits, code_total}
 use Rattle.dex_round_trip.proofs.Standing.{Stands, stands_front, stands_back, stands_as, stands_moved, stands_three, u2_reads, u4_reads}

@@ -9,9 +9,9 @@ use Rattle.std.specs.Ordering.{is_eq, nat_cmp}
 use Rattle.std.proofs.lemmas.List.{append-nil}
 use Rattle.std.proofs.lemmas.Map.Lookups.{exact_unsigned, exact_bytes}
 use Rattle.std.proofs.lemmas.Cmp.{nat_cmp_total, nat_list_cmp_total, tied_itself}
-use Rattle.dex_maker.specs.declared.tables.Tables.{Tables}
-use Rattle.dex_maker.specs.Rows.{place, with_row}
-use Rattle.dex_maker.specs.Tables.{list_cmp, string_index, type_index, shorty, proto_row, proto_index}
+use Rattle.dex_writer.specs.declared.tables.Tables.{Tables}
+use Rattle.dex_writer.specs.Rows.{place, with_row}
+use Rattle.dex_writer.specs.Tables.{list_cmp, string_index, type_index, shorty, proto_row, proto_index}
 use Rattle.std.proofs.lemmas.Bool.{cases_Bool}
 use Rattle.vet_base.proofs.Lists.{slice_get-append}
 use Rattle.vet_base.proofs.Orders.{is_equal}

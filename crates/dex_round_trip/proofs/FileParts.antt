@@ -3,12 +3,12 @@ use Rattle.std.proofs.Common.{◌≡◌, ℕ, suc, ◌+◌, ◌*◌, List, [], �
 use Rattle.std.specs.List.{flat_map}
 use Rattle.std.proofs.lemmas.List.{append-nil}
 use Rattle.dex_reader.specs.declared.dex.ClassDef.{ClassDef}
-use Rattle.dex_maker.specs.declared.tables.Tables.{Tables}
-use Rattle.dex_maker.specs.Bytes.{u4_bytes, string_item}
-use Rattle.dex_maker.specs.Placed.{offsets_of, rows_of, placed_rows}
-use Rattle.dex_maker.specs.ClassData.{class_bytes, placed_row}
-use Rattle.dex_maker.specs.File.{params_bytes, proto_row_bytes, member_row_bytes, types_at, protos_at, fields_at, methods_at, classes_at, data_at, params_data, class_begin, classes_data, strings_begin, strings_data}
-use Rattle.dex_maker.specs.File.{data_bytes, string_ids, proto_ids, class_defs, tables_bytes, section_bytes, header_begin, header_ids, header_bytes, file_bytes}
+use Rattle.dex_writer.specs.declared.tables.Tables.{Tables}
+use Rattle.dex_writer.specs.Bytes.{u4_bytes, string_item}
+use Rattle.dex_writer.specs.Placed.{offsets_of, rows_of, placed_rows}
+use Rattle.dex_writer.specs.ClassData.{class_bytes, placed_row}
+use Rattle.dex_writer.specs.File.{params_bytes, proto_row_bytes, member_row_bytes, types_at, protos_at, fields_at, methods_at, classes_at, data_at, params_data, class_begin, classes_data, strings_begin, strings_data}
+use Rattle.dex_writer.specs.File.{data_bytes, string_ids, proto_ids, class_defs, tables_bytes, section_bytes, header_begin, header_ids, header_bytes, file_bytes}
 use Rattle.dex_round_trip.proofs.ClassRows.{placed_length}
 use Rattle.dex_round_trip.proofs.IdTables.{proto_length, member_length}
 use Rattle.dex_round_trip.proofs.Standing.{Stands, stands_front, stands_back, stands_as, stands_moved, stands_three}

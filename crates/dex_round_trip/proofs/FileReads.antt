@@ -14,12 +14,12 @@ use Rattle.dex_reader.specs.ClassesStand.{IsClassRow}
 use Rattle.dex_reader.specs.Dex.{IsSection, IsHeader, HasTables, interfaces_of}
 use Rattle.dex_reader.specs.Totals.{no_totals, plus}
 use Rattle.dex_reader.specs.Whole.{sizes_of}
-use Rattle.dex_maker.specs.declared.tables.Tables.{Tables}
-use Rattle.dex_maker.specs.Bytes.{u4_bytes, string_item}
-use Rattle.dex_maker.specs.Placed.{offsets_of, rows_of, pieces, placed_rows}
-use Rattle.dex_maker.specs.ClassData.{class_bytes, placed_row}
-use Rattle.dex_maker.specs.File.{params_bytes, proto_row_bytes, member_row_bytes, types_at, protos_at, fields_at, methods_at, classes_at, data_at, params_data, class_begin, classes_data, strings_begin, strings_data}
-use Rattle.dex_maker.specs.File.{string_ids, proto_ids, class_defs, section_bytes, header_begin, header_ids, header_bytes, file_bytes, AreShort}
+use Rattle.dex_writer.specs.declared.tables.Tables.{Tables}
+use Rattle.dex_writer.specs.Bytes.{u4_bytes, string_item}
+use Rattle.dex_writer.specs.Placed.{offsets_of, rows_of, pieces, placed_rows}
+use Rattle.dex_writer.specs.ClassData.{class_bytes, placed_row}
+use Rattle.dex_writer.specs.File.{params_bytes, proto_row_bytes, member_row_bytes, types_at, protos_at, fields_at, methods_at, classes_at, data_at, params_data, class_begin, classes_data, strings_begin, strings_data}
+use Rattle.dex_writer.specs.File.{string_ids, proto_ids, class_defs, section_bytes, header_begin, header_ids, header_bytes, file_bytes, AreShort}
 use Rattle.dex_round_trip.specs.Values.{field_value, method_value, proto_value, dex_value}
 use Rattle.dex_round_trip.proofs.ClassRows.{ClassFits, SmallSizes, classes_follow}
 use Rattle.dex_round_trip.proofs.FileParts.{map_length, strings_length, protos_length, classes_length, tabled, body, parted, data_parts}

@@ -11,12 +11,12 @@ use Rattle.dex_reader.specs.declared.dex.RawCode.{RawCode}
 use Rattle.dex_reader.specs.declared.dex.RawTry.{RawTry}
 use Rattle.dex_reader.specs.Dex.{interfaces_of}
 use Rattle.dex_reader.specs.Sound.{code_units, body_units, class_members, class_units}
-use Rattle.dex_maker.specs.declared.tables.Tables.{Tables}
-use Rattle.dex_maker.specs.Bytes.{u2_bytes, u4_bytes, uleb_bytes, padding_of, string_item, type_list, text_len}
-use Rattle.dex_maker.specs.Placed.{pieces, rows_of, offset_of}
-use Rattle.dex_maker.specs.CodeItem.{handler_bytes, try_bytes, handlers_bytes, try_items, before_tries, tries_bytes, code_head, code_item, code_bytes}
-use Rattle.dex_maker.specs.ClassData.{members_bytes, maybe_code, body_code, bodies_bytes, virtuals_at, class_code, class_item, class_data, code_and_data, code_begin, class_bytes}
-use Rattle.dex_maker.specs.File.{params_bytes, data_at, params_data, class_begin, classes_data, strings_data, data_bytes, file_bytes, AreShort}
+use Rattle.dex_writer.specs.declared.tables.Tables.{Tables}
+use Rattle.dex_writer.specs.Bytes.{u2_bytes, u4_bytes, uleb_bytes, padding_of, string_item, type_list, text_len}
+use Rattle.dex_writer.specs.Placed.{pieces, rows_of, offset_of}
+use Rattle.dex_writer.specs.CodeItem.{handler_bytes, try_bytes, handlers_bytes, try_items, before_tries, tries_bytes, code_head, code_item, code_bytes}
+use Rattle.dex_writer.specs.ClassData.{members_bytes, maybe_code, body_code, bodies_bytes, virtuals_at, class_code, class_item, class_data, code_and_data, code_begin, class_bytes}
+use Rattle.dex_writer.specs.File.{params_bytes, data_at, params_data, class_begin, classes_data, strings_data, data_bytes, file_bytes, AreShort}
 use Rattle.dex_round_trip.specs.Costs.{body_cost, class_cost, code_cost, try_cost}
 use Rattle.dex_round_trip.proofs.CodeReads.{length_u2s}
 use Rattle.dex_round_trip.proofs.TryReads.{groups_short, handler_short, items_bytes}

@@ -6,9 +6,9 @@ use Rattle.std.proofs.lemmas.List.Sums.{sum_by-cons}
 use Rattle.dex_reader.specs.declared.place.Sizes.{Sizes}
 use Rattle.dex_reader.specs.Sequences.{Is2, RowsStand}
 use Rattle.dex_reader.specs.TablesStand.{IsName, IsType, MaybeTypeList, IsProto, IsField, IsMethod}
-use Rattle.dex_maker.specs.Bytes.{u2_bytes, u4_bytes, uleb_bytes, text_len, string_item, type_list, padding_of}
-use Rattle.dex_maker.specs.Placed.{offsets_of, rows_of, offset_of}
-use Rattle.dex_maker.specs.File.{params_bytes, proto_row_bytes, member_row_bytes}
+use Rattle.dex_writer.specs.Bytes.{u2_bytes, u4_bytes, uleb_bytes, text_len, string_item, type_list, padding_of}
+use Rattle.dex_writer.specs.Placed.{offsets_of, rows_of, offset_of}
+use Rattle.dex_writer.specs.File.{params_bytes, proto_row_bytes, member_row_bytes}
 use Rattle.dex_round_trip.specs.Listings.{AreNames}
 use Rattle.dex_round_trip.specs.Values.{field_value, method_value, proto_value}
 use Rattle.dex_round_trip.proofs.Standing.{Stands, stands_front, stands_back, stands_as, stands_moved, stands_three, u2_reads, u4_reads, uleb_reads, dropped}

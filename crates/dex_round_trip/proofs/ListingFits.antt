@@ -6,13 +6,13 @@ use Rattle.std.specs.List.{AllByRecursion}
 use Rattle.std.proofs.lemmas.List.Sums.{sum_by-cons}
 use Rattle.dex_reader.specs.declared.place.Sizes.{Sizes}
 use Rattle.dex_reader.specs.Sound.{code_units, body_units, class_members, class_units}
-use Rattle.dex_maker.specs.declared.tables.Tables.{Tables}
+use Rattle.dex_writer.specs.declared.tables.Tables.{Tables}
 use Rattle.dex_maker.specs.declared.listing.ListedClass.{ListedClass}
 use Rattle.dex_maker.specs.declared.listing.ListedField.{ListedField}
 use Rattle.dex_maker.specs.declared.listing.ListedMethod.{ListedMethod}
 use Rattle.dex_maker.specs.declared.listing.ListedCode.{ListedCode}
 use Rattle.dex_maker.specs.declared.listing.ListedTry.{ListedTry}
-use Rattle.dex_maker.specs.Tables.{type_index}
+use Rattle.dex_writer.specs.Tables.{type_index}
 use Rattle.dex_maker.specs.Lines.{width_sum, starts_from}
 use Rattle.dex_maker.specs.Codes.{handler_pair, raw_try, raw_code}
 use Rattle.dex_maker.specs.Classes.{is_static, is_direct, is_of, member_of, members_from, body_of, bodies_from, class_def, class_defs_from, code_width, method_width, class_width, member_count}

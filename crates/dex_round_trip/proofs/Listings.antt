@@ -1,5 +1,5 @@
 -- The file of a listing is read as the listing.
-use Rattle.std.proofs.Common.{◌≡◌, ℕ, ◌+◌, ◌<◌, ◌≤◌, List, [], ◌∷◌, length, map, None, refl, sym, subst, arith}
+use Rattle.std.proofs.Common.{◌≡◌, ℕ, suc, ◌+◌, ◌<◌, ◌≤◌, List, [], ◌∷◌, length, map, None, refl, sym, ap, subst, arith}
 use Rattle.std.specs.Prelude.{sum_by}
 use Rattle.std.specs.List.{AllByRecursion}
 use Rattle.std.proofs.lemmas.List.Sums.{sum_by-cons}
@@ -8,13 +8,13 @@ use Rattle.dex_reader.specs.declared.place.Sizes.{Sizes}
 use Rattle.dex_reader.specs.Dex.{params_of, interfaces_of, IsDex}
 use Rattle.dex_reader.specs.Sound.{class_members, class_units}
 use Rattle.dex_reader.specs.Whole.{sizes_of}
-use Rattle.dex_maker.specs.declared.tables.Tables.{Tables}
+use Rattle.dex_writer.specs.declared.tables.Tables.{Tables}
 use Rattle.dex_maker.specs.declared.listing.Listing.{Listing}
 use Rattle.dex_maker.specs.declared.listing.ListedClass.{ListedClass}
 use Rattle.dex_maker.specs.Naming.{tables_of}
 use Rattle.dex_maker.specs.Classes.{class_defs_from, class_width, unit_count, member_total}
 use Rattle.dex_maker.specs.Made.{dex_bytes, fault_of, TablesAreShort}
-use Rattle.dex_round_trip.specs.Listings.{ClassCanBeRead, dex_of, CanBeRead, ListingsReadAgain}
+use Rattle.dex_round_trip.specs.Listings.{ClassCanBeRead, dex_of, CanBeRead, ListingsReadAgain, EachClassIsReadBack}
 use Rattle.dex_round_trip.specs.Values.{proto_value}
 use Rattle.dex_round_trip.proofs.ClassRows.{ClassRowFits, ClassFits}
 use Rattle.dex_round_trip.proofs.FileReads.{header_value}
@@ -71,3 +71,11 @@ listings_again short listing can none = record { stands = read_again short listi
 
 pub made_stands : ListingsReadAgain → (bytes : List ℕ) (listing : Listing) → bytes ≡ dex_bytes listing → CanBeRead listing → fault_of listing ≡ None → IsDex bytes (dex_of listing)
 made_stands read bytes listing e can none = subst (λ (b : List ℕ). IsDex b (dex_of listing)) (sym e) (read listing can none).stands
+
+as_many : (t : Tables) (field method : ℕ) (cs : List ListedClass) → length (class_defs_from t field method cs) ≡ length cs
+as_many t field method [] = refl
+as_many t field method (c ∷ cs) = ap (λ (n : ℕ). suc n) (as_many t (field + length c.fields) (method + length c.methods) cs)
+
+pub classes_read_back : EachClassIsReadBack
+unfolding dex_of
+classes_read_back listing dex is = rw is (as_many (tables_of listing) 0 0 listing.classes)

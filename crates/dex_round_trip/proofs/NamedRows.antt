@@ -2,7 +2,7 @@
 use Rattle.std.proofs.Common.{◌≡◌, ℕ, ◌+◌, List, [], ◌∷◌, length, Option, Some, None, refl, subst, arith}
 use Rattle.std.specs.Prelude.{IfSome, slice_get}
 use Rattle.std.specs.List.{AllByRecursion}
-use Rattle.dex_maker.specs.declared.tables.Tables.{Tables}
+use Rattle.dex_writer.specs.declared.tables.Tables.{Tables}
 use Rattle.dex_maker.specs.declared.listing.Listing.{Listing}
 use Rattle.dex_maker.specs.declared.listing.ListedClass.{ListedClass}
 use Rattle.dex_maker.specs.declared.listing.ListedField.{ListedField}
@@ -13,7 +13,7 @@ use Rattle.dex_maker.specs.declared.listing.ListedLine.{ListedLine}
 use Rattle.dex_maker.specs.declared.listing.ListedLine.TheVariants.{Plain, Packed, Sparse, Filled}
 use Rattle.dex_maker.specs.declared.listing.Operand.{Operand}
 use Rattle.dex_maker.specs.declared.listing.Operand.TheVariants.{Nothing, Text, Class, Field, Method}
-use Rattle.dex_maker.specs.Tables.{list_cmp, field_row, method_row, no_tables, with_string, with_type, with_types, with_field, with_method, and_field, and_method}
+use Rattle.dex_writer.specs.Tables.{list_cmp, field_row, method_row, no_tables, with_string, with_type, with_types, with_field, with_method, and_field, and_method}
 use Rattle.dex_maker.specs.Naming.{with_fields, with_methods, with_superclass, with_class, with_classes, with_operand, with_line, with_lines, with_handlers, with_tries, with_code, with_bodies, with_all_bodies, tables_of}
 use Rattle.dex_round_trip.proofs.Extensions.{placed_more, get_prefix, Extends, extends_same, extends_more, HasString, HasType, HasTypes, has_string, has_type, has_types, string_stays, type_stays, proto_index_stays}
 use Rattle.dex_round_trip.proofs.NamingSteps.{Adds, adds_none, adds_more, string_adds, string_there, type_adds, type_there, types_add, types_there, FieldNames, MethodNames, field_names, method_names, FieldThere, MethodThere, with_field_named, with_method_named, and_field_pushed, and_method_pushed}

@@ -3,7 +3,7 @@ use Rattle.std.proofs.Common.{◌≡◌, ℕ, ◌+◌, ◌<◌, ◌≤◌, List,
 use Rattle.std.specs.Prelude.{IfSome, sum_by}
 use Rattle.std.specs.List.{AllByRecursion}
 use Rattle.std.proofs.lemmas.List.Sums.{sum_by-cons}
-use Rattle.dex_maker.specs.declared.tables.Tables.{Tables}
+use Rattle.dex_writer.specs.declared.tables.Tables.{Tables}
 use Rattle.dex_maker.specs.declared.listing.Listing.{Listing}
 use Rattle.dex_maker.specs.declared.listing.ListedClass.{ListedClass}
 use Rattle.dex_maker.specs.declared.listing.ListedField.{ListedField}
@@ -14,7 +14,7 @@ use Rattle.dex_maker.specs.declared.listing.ListedLine.{ListedLine}
 use Rattle.dex_maker.specs.declared.listing.ListedLine.TheVariants.{Plain, Packed, Sparse, Filled}
 use Rattle.dex_maker.specs.declared.listing.Operand.{Operand}
 use Rattle.dex_maker.specs.declared.listing.Operand.TheVariants.{Nothing, Text, Class, Field, Method}
-use Rattle.dex_maker.specs.Tables.{no_tables, with_type, with_types, and_field, and_method}
+use Rattle.dex_writer.specs.Tables.{no_tables, with_type, with_types, and_field, and_method}
 use Rattle.dex_maker.specs.Naming.{with_fields, with_methods, with_superclass, with_class, with_classes, with_operand, with_line, with_lines, with_handlers, with_tries, with_code, with_bodies, with_all_bodies, tables_of}
 use Rattle.dex_round_trip.specs.Listings.{IsName, FieldCanBeRead, OperandCanBeRead, LineCanBeRead, TryCanBeRead, CodeCanBeRead, MethodCanBeRead, ClassCanBeRead}
 use Rattle.dex_round_trip.proofs.TableGrowth.{Sound, Grown, stays, then_grown, string_grown, type_grown, type_some, types_grown, with_field_grown, and_field_grown, with_method_grown, and_method_grown}

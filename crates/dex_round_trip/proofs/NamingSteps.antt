@@ -2,9 +2,9 @@
 use Rattle.std.proofs.Common.{◌≡◌, ℕ, ◌+◌, List, [], ◌∷◌, ◌++◌, length, Some, refl, length-append, arith}
 use Rattle.std.specs.Prelude.{slice_get}
 use Rattle.std.specs.Ordering.{nat_cmp}
-use Rattle.dex_maker.specs.declared.tables.Tables.{Tables}
-use Rattle.dex_maker.specs.Rows.{with_row}
-use Rattle.dex_maker.specs.Tables.{list_cmp, string_index, type_index, shorty, proto_row, proto_index, field_row, method_row, with_string, add_type, with_type, with_types, add_proto, proto_types, with_proto, for_field, for_method, add_field, with_field, add_method, with_method, push_field, and_field, push_method, and_method}
+use Rattle.dex_writer.specs.declared.tables.Tables.{Tables}
+use Rattle.dex_writer.specs.Rows.{with_row}
+use Rattle.dex_writer.specs.Tables.{list_cmp, string_index, type_index, shorty, proto_row, proto_index, field_row, method_row, with_string, add_type, with_type, with_types, add_proto, proto_types, with_proto, for_field, for_method, add_field, with_field, add_method, with_method, push_field, and_field, push_method, and_method}
 use Rattle.dex_round_trip.proofs.Extensions.{Prefix, prefix_same, Placed, nat_tells, list_tells, row_placed, row_prefix, Extends, extends_same, extends_more, HasString, HasType, HasTypes, HasProto, has_string, has_type, has_types, has_proto}
 use Rattle.vet_base.proofs.Lists.{slice_get_push}
 

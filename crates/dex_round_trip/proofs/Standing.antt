@@ -3,7 +3,7 @@ use Rattle.std.proofs.Common.{◌≡◌, ℕ, zero, suc, ◌+◌, ◌*◌, ◌/�
 use Rattle.std.proofs.lemmas.Bool.{lt-ltb, le-leb, le-ltb, ltb-false, cases_Bool}
 use Rattle.std.proofs.lemmas.List.{get_or-append-add, drop_at}
 use Rattle.vet_base.specs.Numbers.{u2, u4, uleb, groups}
-use Rattle.dex_maker.specs.Bytes.{u2_bytes, u4_bytes, uleb_bytes, groups_of}
+use Rattle.dex_writer.specs.Bytes.{u2_bytes, u4_bytes, uleb_bytes, groups_of}
 
 -- a piece of a file that begins at an offset
 pub record Stands (file : List ℕ) (at : ℕ) (piece : List ℕ) : Type 0 where

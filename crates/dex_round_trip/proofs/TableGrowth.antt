@@ -5,9 +5,9 @@ use Rattle.std.specs.Option.{option_map}
 use Rattle.std.specs.List.{AllByRecursion, flat_map}
 use Rattle.std.specs.declared.cmp.Ordering.{Ordering}
 use Rattle.std.specs.Ordering.{is_eq, nat_cmp}
-use Rattle.dex_maker.specs.declared.tables.Tables.{Tables}
-use Rattle.dex_maker.specs.Rows.{place, with_row}
-use Rattle.dex_maker.specs.Tables.{list_cmp, string_index, type_index, letter, shorty, proto_row, proto_index, field_row, method_row, with_string, add_type, with_type, with_types, add_proto, proto_types, with_proto, for_field, for_method, add_field, with_field, add_method, with_method, push_field, and_field, push_method, and_method}
+use Rattle.dex_writer.specs.declared.tables.Tables.{Tables}
+use Rattle.dex_writer.specs.Rows.{place, with_row}
+use Rattle.dex_writer.specs.Tables.{list_cmp, string_index, type_index, letter, shorty, proto_row, proto_index, field_row, method_row, with_string, add_type, with_type, with_types, add_proto, proto_types, with_proto, for_field, for_method, add_field, with_field, add_method, with_method, push_field, and_field, push_method, and_method}
 use Rattle.dex_round_trip.specs.Listings.{IsName, AreNames}
 
 -- ---- lists of which each is so

@@ -13,9 +13,9 @@ use Rattle.dex_reader.specs.declared.tries.TryItem.{TryItem}
 use Rattle.dex_reader.specs.Handlers.{pair_count, catches_all, handler_of, handler_at}
 use Rattle.dex_reader.specs.Sequences.{RowsStand, Follow}
 use Rattle.dex_reader.specs.CodeStands.{IsPair, IsHandler, IsTryItem, AreTries, pairs_of, HasTries}
-use Rattle.dex_maker.specs.Bytes.{u2_bytes, u4_bytes, uleb_bytes, groups_of}
-use Rattle.dex_maker.specs.Placed.{rows_of}
-use Rattle.dex_maker.specs.CodeItem.{pair_bytes, handler_size, catch_all_bytes, handler_bytes, try_bytes, try_items, handlers_bytes}
+use Rattle.dex_writer.specs.Bytes.{u2_bytes, u4_bytes, uleb_bytes, groups_of}
+use Rattle.dex_writer.specs.Placed.{rows_of}
+use Rattle.dex_writer.specs.CodeItem.{pair_bytes, handler_size, catch_all_bytes, handler_bytes, try_bytes, try_items, handlers_bytes}
 use Rattle.dex_round_trip.specs.Costs.{try_cost}
 use Rattle.dex_round_trip.proofs.Fits.{PairFits, TryFits}
 use Rattle.dex_round_trip.proofs.Standing.{Stands, stands_front, stands_back, stands_moved, stands_three, dropped, u2_reads, u4_reads, uleb_reads}

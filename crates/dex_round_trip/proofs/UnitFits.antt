@@ -8,7 +8,7 @@ use Rattle.dalvik_formats.specs.declared.format.Format.{Format}
 use Rattle.dalvik_formats.specs.declared.format.Format.TheVariants.{Unused, F10x, F12x, F11n, F11x, F10t, F20t, F22x, F21t, F21s, F21h, F21c, F23x, F22b, F22t, F22s, F22c, F32x, F30t, F31t, F31i, F31c, F35c, F3rc, F51l}
 use Rattle.dalvik_formats.specs.declared.format.Pool.TheVariants.{Methods}
 use Rattle.dalvik_formats.specs.Layouts.{layout_of, units_of}
-use Rattle.dex_maker.specs.declared.tables.Tables.{Tables}
+use Rattle.dex_writer.specs.declared.tables.Tables.{Tables}
 use Rattle.dex_maker.specs.declared.listing.ListedLine.{ListedLine}
 use Rattle.dex_maker.specs.declared.listing.ListedLine.TheVariants.{Plain, Packed, Sparse, Filled}
 use Rattle.dex_maker.specs.Spelling.{unit_of, with_byte, with_halves, two_units, four_halves, plain_units}

@@ -7,8 +7,8 @@ use Rattle.dex_reader.specs.declared.dex.ClassDef.{ClassDef}
 use Rattle.dex_reader.specs.Dex.{params_of, interfaces_of, HasTables, IsDex}
 use Rattle.dex_reader.specs.Sound.{class_members, class_units}
 use Rattle.dex_reader.specs.Whole.{sizes_of}
-use Rattle.dex_maker.specs.declared.tables.Tables.{Tables}
-use Rattle.dex_maker.specs.File.{file_bytes, AreShort}
+use Rattle.dex_writer.specs.declared.tables.Tables.{Tables}
+use Rattle.dex_writer.specs.File.{file_bytes, AreShort}
 use Rattle.dex_round_trip.specs.Costs.{class_cost}
 use Rattle.dex_round_trip.specs.Values.{proto_value, dex_value}
 use Rattle.dex_round_trip.proofs.ClassRows.{ClassFits}

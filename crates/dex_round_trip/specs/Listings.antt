@@ -95,3 +95,7 @@ pub record IsReadBack (listing : Listing) : Type 0 where
 
 abbrev pub ListingsReadAgain : Type 0
 ListingsReadAgain = (listing : Listing) → CanBeRead listing → fault_of listing ≡ None → IsReadBack listing
+
+-- What is read of a listing's file has a class for each class of the listing.
+abbrev pub EachClassIsReadBack : Type 0
+EachClassIsReadBack = (listing : Listing) (dex : Dex) → dex ≡ dex_of listing → length dex.classes ≡ length listing.classes

@@ -9,7 +9,7 @@ use Rattle.dex_reader.specs.declared.dex.ClassDef.{ClassDef}
 use Rattle.dex_reader.specs.declared.dex.Member.{Member}
 use Rattle.dex_reader.specs.declared.dex.Body.{Body}
 use Rattle.dex_reader.specs.declared.dex.RawCode.{RawCode}
-use Rattle.dex_maker.specs.declared.tables.Tables.{Tables}
+use Rattle.dex_writer.specs.declared.tables.Tables.{Tables}
 use Rattle.dex_maker.specs.declared.listing.ListedClass.{ListedClass}
 use Rattle.dex_maker.specs.declared.listing.ListedField.{ListedField}
 use Rattle.dex_maker.specs.declared.listing.ListedMethod.{ListedMethod}
@@ -21,7 +21,7 @@ use Rattle.dex_maker.specs.declared.listing.Operand.{Operand}
 use Rattle.dex_maker.specs.declared.listing.Operand.TheVariants.{Nothing, Text, Class, Field, Method}
 use Rattle.dex_maker.specs.Classes.{is_static, is_direct}
 use Rattle.dex_maker.specs.Codes.{index_for, raw_code}
-use Rattle.dex_maker.specs.Tables.{type_index}
+use Rattle.dex_writer.specs.Tables.{type_index}
 
 -- a row of string_ids, or of type_ids
 abbrev pub IsString : Dex → ℕ → List ℕ → Type 0

@@ -5,7 +5,7 @@ use Rattle.dex_reader.specs.declared.dex.Dex.{Dex}
 use Rattle.dex_reader.specs.declared.dex.ProtoId.{ProtoId}
 use Rattle.dex_reader.specs.declared.dex.FieldId.{FieldId}
 use Rattle.dex_reader.specs.declared.dex.MethodRow.{MethodRow}
-use Rattle.dex_maker.specs.declared.tables.Tables.{Tables}
+use Rattle.dex_writer.specs.declared.tables.Tables.{Tables}
 
 -- the rows of protos, fields and methods, as numbers
 abbrev pub proto_value : List ℕ → ProtoId

@@ -1,4 +1,4 @@
-ghost use Rattle.dex_round_trip.specs.Listings.{ListingsReadAgain};
+ghost use Rattle.dex_round_trip.specs.Listings.{ListingsReadAgain, EachClassIsReadBack};
 
 use dex_maker::tables_are_short;
 
@@ -9,3 +9,8 @@ pub fn listings_read_again()
 {
     tables_are_short();
 }
+
+/// What is read of a listing's file has a class for each class of the listing.
+pub fn each_class_is_read_back()
+    ensures { EachClassIsReadBack }
+{}

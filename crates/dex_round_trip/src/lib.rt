@@ -5,4 +5,4 @@ mod back;
 mod law;
 
 pub use back::read_back;
-pub use law::listings_read_again;
+pub use law::{each_class_is_read_back, listings_read_again};

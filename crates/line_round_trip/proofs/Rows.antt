@@ -7,13 +7,13 @@ use Rattle.std.specs.Ordering.{is_eq, nat_cmp}
 use Rattle.std.proofs.lemmas.Option.{none-some, same_Some}
 use Rattle.vet_base.proofs.Options.{unwrap_below}
 use Rattle.dex_reader.specs.declared.dex.ClassDef.{ClassDef}
-use Rattle.dex_maker.specs.declared.tables.Tables.{Tables}
+use Rattle.dex_writer.specs.declared.tables.Tables.{Tables}
 use Rattle.dex_maker.specs.declared.listing.Operand.{Operand}
 use Rattle.dex_maker.specs.declared.listing.Operand.TheVariants.{Nothing, Text, Class, Field, Method}
 use Rattle.dex_maker.specs.Codes.{index_for}
-use Rattle.dex_maker.specs.File.{AreShort}
-use Rattle.dex_maker.specs.Rows.{place}
-use Rattle.dex_maker.specs.Tables.{list_cmp, string_index, type_index, field_row, field_index, method_row, method_index}
+use Rattle.dex_writer.specs.File.{AreShort}
+use Rattle.dex_writer.specs.Rows.{place}
+use Rattle.dex_writer.specs.Tables.{list_cmp, string_index, type_index, field_row, field_index, method_row, method_index}
 
 -- a row that is found is one of the rows
 place_within : {K : Type 0} (cmp : K → K → Ordering) (rows : List K) (row : K) (j : ℕ) → place cmp rows row ≡ Some j → j < length rows

@@ -10,7 +10,7 @@ use Rattle.dalvik_formats.specs.Layouts.{layout_of}
 use Rattle.dex_reader.specs.declared.dex.ClassDef.{ClassDef}
 use Rattle.dex_reader.specs.declared.dex.RawCode.{RawCode}
 use Rattle.dex_maker.specs.declared.fault.IdTable.{IdTable}
-use Rattle.dex_maker.specs.declared.tables.Tables.{Tables}
+use Rattle.dex_writer.specs.declared.tables.Tables.{Tables}
 use Rattle.dex_maker.specs.declared.listing.ListedClass.{ListedClass}
 use Rattle.dex_maker.specs.declared.listing.ListedMethod.{ListedMethod}
 use Rattle.dex_maker.specs.declared.listing.ListedCode.{ListedCode}
@@ -18,7 +18,7 @@ use Rattle.dex_maker.specs.declared.listing.ListedLine.{ListedLine}
 use Rattle.dex_maker.specs.declared.listing.ListedLine.TheVariants.{Plain, Packed, Sparse, Filled}
 use Rattle.dex_maker.specs.Classes.{class_defs_from, code_width, method_width, class_width, unit_count}
 use Rattle.dex_maker.specs.Codes.{index_for, line_units, units_from, raw_code}
-use Rattle.dex_maker.specs.File.{AreShort}
+use Rattle.dex_writer.specs.File.{AreShort}
 use Rattle.dex_maker.specs.Fits.{registers_fit, literal_fits, operand_fits, reach_of, target_fits, is_line, pair_stands, line_fits, misfit_from, code_misfit, at_line, misfit_in, first_of_two, first_misfit}
 use Rattle.dex_maker.specs.Lines.{width_of, width_sum, starts_from}
 use Rattle.dex_maker.specs.Made.{long_table, no_file, fault_of, TablesAreShort}

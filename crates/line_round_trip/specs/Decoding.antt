@@ -4,7 +4,7 @@ use Rattle.std.specs.Int.{w32, w64}
 use Rattle.std.specs.Int.RustNames.{FitsSigned}
 use Rattle.std.specs.List.{AllByRecursion}
 use Rattle.vet_base.specs.Members.{In}
-use Rattle.dex_maker.specs.declared.tables.Tables.{Tables}
+use Rattle.dex_writer.specs.declared.tables.Tables.{Tables}
 use Rattle.dex_maker.specs.declared.listing.Listing.{Listing}
 use Rattle.dex_maker.specs.declared.listing.ListedClass.{ListedClass}
 use Rattle.dex_maker.specs.declared.listing.ListedMethod.{ListedMethod}

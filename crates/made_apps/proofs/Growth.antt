@@ -3,9 +3,9 @@ use Rattle.std.proofs.Common.{ℕ, suc, ◌+◌, ◌≤◌, true, false, cond, L
 use Rattle.std.specs.Prelude.{is_some}
 use Rattle.std.specs.declared.cmp.Ordering.{Ordering}
 use Rattle.std.specs.Ordering.{nat_cmp}
-use Rattle.dex_maker.specs.declared.tables.Tables.{Tables}
-use Rattle.dex_maker.specs.Rows.{place, with_row}
-use Rattle.dex_maker.specs.Tables.{list_cmp, string_index, proto_row, field_row, method_row, shorty, with_string, with_type, with_types, proto_types, with_proto, for_field, for_method, with_field, with_method, and_field, and_method}
+use Rattle.dex_writer.specs.declared.tables.Tables.{Tables}
+use Rattle.dex_writer.specs.Rows.{place, with_row}
+use Rattle.dex_writer.specs.Tables.{list_cmp, string_index, proto_row, field_row, method_row, shorty, with_string, with_type, with_types, proto_types, with_proto, for_field, for_method, with_field, with_method, and_field, and_method}
 
 -- each table has at most so many rows
 pub record AtMost (n : ℕ) (t : Tables) : Type 0 where

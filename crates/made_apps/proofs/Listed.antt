@@ -1,7 +1,7 @@
 -- The tables of a generated app.
 use Rattle.std.proofs.Common.{ℕ, zero, suc, ◌+◌, ◌*◌, ◌≤◌, List, [], ◌∷◌, arith}
-use Rattle.dex_maker.specs.declared.tables.Tables.{Tables}
-use Rattle.dex_maker.specs.Tables.{no_tables, with_type, with_field, with_method, and_field, and_method}
+use Rattle.dex_writer.specs.declared.tables.Tables.{Tables}
+use Rattle.dex_writer.specs.Tables.{no_tables, with_type, with_field, with_method, and_field, and_method}
 use Rattle.dex_maker.specs.Naming.{with_methods, with_class, with_lines, with_bodies, tables_of}
 use Rattle.made_apps.specs.declared.body.Body.{Body}
 use Rattle.made_apps.specs.declared.body.Body.TheVariants.{Returned, PassedOn, ThroughArray, Stored}

@@ -1,7 +1,7 @@
 -- Each generated app has a DEX file.
 use Rattle.std.proofs.Common.{◌≡◌, ℕ, ◌≤◌, false, ltb, length, None, refl, arith}
 use Rattle.std.proofs.lemmas.Bool.{le-ltb}
-use Rattle.dex_maker.specs.declared.tables.Tables.{Tables}
+use Rattle.dex_writer.specs.declared.tables.Tables.{Tables}
 use Rattle.dex_maker.specs.Naming.{tables_of}
 use Rattle.dex_maker.specs.Made.{long_table, fault_of}
 use Rattle.made_apps.specs.Law.{MadeListingsHaveFiles}

@@ -1,5 +1,5 @@
 /// What a drawn method does with its argument.
-#[derive(Clone, Copy, Debug, PartialEq, Eq)]
+#[derive(Clone, Copy)]
 pub enum Body {
     /// It returns it.
     Returned,

@@ -6,13 +6,21 @@ use crate::body::Body;
 const MODULUS: u64 = 2147483648;
 
 /// Draws from a linear congruential generator modulo 2^31.
-#[derive(Debug, Drop)]
+#[derive(Drop)]
 pub struct Draws {
     pub state: u32,
     ghost in_range: { state < 2147483648 },
 }
 
 impl Draws {
+    /// The draws that follow a seed.
+    pub fn from_seed(seed: u32) -> Draws
+        requires { seed < 2147483648 }
+        ensures { result.state ≡ seed }
+    {
+        Draws { state: seed }
+    }
+
     /// A number below `below`.
     #[tactic(auto, unfolding(crate::specs::Draws::next_state, crate::specs::Draws::drawn))]
     pub fn draw(&mut self, below: u32) -> u32
@@ -28,7 +36,7 @@ impl Draws {
 
     /// The body of the method of number `i` of `size`.
     #[tactic(auto, unfolding(crate::specs::Draws::body_drawn, crate::specs::Draws::state_behind))]
-    pub fn draw_body(&mut self, size: u32, i: u32) -> Body
+    pub(crate) fn draw_body(&mut self, size: u32, i: u32) -> Body
         requires { i < size }
         ensures state { self.new.state ≡ state_behind size i self.old.state }
         ensures body { result ≡ body_drawn size i self.old.state }

@@ -11,10 +11,8 @@ mod listing;
 mod made;
 mod names;
 
+pub use draws::Draws;
 pub use forms::{declaration_text, layouts_text, lists_text, manifest_text};
 pub use law::made_listings_have_files;
 pub use listing::made_listing;
 pub use made::made_dex;
-
-#[cfg(test)]
-mod tests;

@@ -69,7 +69,7 @@ fn methods_drawn(alloc: Global, seed: u32, size: u32) -> Result<Vec<ListedMethod
     requires { seed < 2147483648 }
     ensures { IfOk result (λ v. v.items ≡ methods_from size size 0 seed) }
 {
-    let mut draws = Draws { state: seed };
+    let mut draws = Draws::from_seed(seed);
     let mut methods = Vec::new(alloc);
     for i in 0..size {
         let body = draws.draw_body(size, i);

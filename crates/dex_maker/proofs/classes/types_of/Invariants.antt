@@ -1,5 +1,5 @@
 use Rattle.std.proofs.Common.{◌≡◌, map, take}
-use Rattle.dex_maker.specs.Tables.{type_index}
+use Rattle.dex_writer.specs.Tables.{type_index}
 use Rattle.dex_maker.proofs.classes.types_of.Given as goal
 
 abbrev pub invariant-loop-name : goal.invariant-loop-name

@@ -1,8 +1,0 @@
-//! Tests of opcodes and of the decoder. They stand apart from the crates that they test, which would be
-//! proved once more with them.
-#![tactic(auto)]
-
-#[cfg(test)]
-mod of_dalvik_formats;
-#[cfg(test)]
-mod of_dex_code;
