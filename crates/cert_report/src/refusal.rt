@@ -2,7 +2,7 @@ use certificate::CertFault;
 use fact_rows::Row;
 
 /// Why a certificate is refused.
-#[derive(Clone, Copy, Debug)]
+#[derive(Clone, Copy)]
 pub enum CertRefusal {
     /// The file is no certificate.
     Fault(CertFault),

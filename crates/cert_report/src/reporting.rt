@@ -9,25 +9,18 @@ use crate::CertRefusal;
 use crate::spelled::spelled;
 use certificate::CertFault;
 use fact_rows::Row;
+use printed_text::{put, put_number};
 use std::alloc::Global;
 use vet_base::Memory;
 
 type Text = Vec<u8>;
-
-fn put(text: &mut Text, bytes: &[u8]) -> Result<(), Memory>
-    ensures { OnOk result (text.new.items ≡ text.old.items ++ bytes.now) }
-{
-    text.extend_from_slice(bytes)?;
-    Ok(())
-}
 
 /// Adds a word, and an offset in decimal digits.
 fn put_at(alloc: Global, text: &mut Text, word: &[u8], at: usize) -> Result<(), Memory>
     ensures { OnOk result (text.new.items ≡ text.old.items ++ (word.now ++ decimal at)) }
 {
     put(text, word)?;
-    let digits = format!(in alloc; "{at}")?;
-    put(text, digits.as_bytes())
+    put_number(alloc, text, at)
 }
 
 /// Adds bytes, each as two hexadecimal digits.

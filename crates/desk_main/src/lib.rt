@@ -8,7 +8,7 @@ ghost use Rattle.std.specs.Process.{exit_status};
 ghost use Rattle.desk_serving.specs.Obeying.{TellsDocket};
 ghost use Rattle.desk_service.specs.Saying.{status};
 ghost use Rattle.desk_service.specs.Serving.{seen, Answers};
-ghost use Rattle.desk_service.specs.Words.{parse};
+ghost use Rattle.desk_words.specs.Serve.{parse};
 
 mod keepers;
 

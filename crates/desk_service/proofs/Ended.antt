@@ -24,7 +24,7 @@ use Rattle.desk_service.specs.Opening.{opened_of, OpensDesk, Leaves, paper_path}
 use Rattle.desk_service.specs.Saying.{PutsText, Says, HaltSays, TakenSays, SaysAs}
 use Rattle.desk_service.specs.Serving.{Seen, seen, ServesDesk, Serves, ComesToSay, RunsOut, Ends}
 use Rattle.desk_service.specs.Texts.{refused_text, read_fault_text, served_text, door_fault_text}
-use Rattle.desk_service.specs.Words.{Serve}
+use Rattle.desk_words.specs.Serve.{Serve}
 
 module _ (asked : Serve) (today : Option ℕ) where
   -- status and text are these

@@ -4,4 +4,3 @@ pub mod Safety
 pub mod Saying
 pub mod Serving
 pub mod Texts
-pub mod Words

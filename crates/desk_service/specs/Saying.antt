@@ -12,7 +12,7 @@ use Rattle.desk_service.specs.declared.outside.Status.{Status}
 use Rattle.desk_service.specs.Opening.{paper_path}
 use Rattle.desk_service.specs.Serving.{Seen, ComesToSay, RunsOut}
 use Rattle.desk_service.specs.Texts.{refused_text, read_fault_text, served_text, door_fault_text}
-use Rattle.desk_service.specs.Words.{Serve}
+use Rattle.desk_words.specs.Serve.{Serve}
 
 abbrev pub status : ℕ → Status
 status n = record { 0 = n }

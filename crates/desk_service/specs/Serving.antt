@@ -16,7 +16,7 @@ use Rattle.desk_service.specs.Judging.{FindsBy}
 use Rattle.desk_service.specs.Opening.{Opened, Refusal, OpensAs, ReadFails, paper_path}
 use Rattle.desk_service.specs.Safety.{StaysSafe}
 use Rattle.desk_service.specs.Texts.{refused_text, read_fault_text, served_text, door_fault_text}
-use Rattle.desk_service.specs.Words.{Serve}
+use Rattle.desk_words.specs.Serve.{Serve}
 
 -- what is told of the outside at one moment, and how often its calls failed
 pub record Seen : Type 0 where

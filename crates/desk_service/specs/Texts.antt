@@ -1,7 +1,7 @@
 -- What is printed: one line, which ends with one line feed.
 use Rattle.std.specs.Prelude.{ℕ, List, ◌++◌, codes}
 use Rattle.std.specs.Fmt.{decimal}
-use Rattle.verdict.specs.Printed.{escaped}
+use Rattle.printed_text.specs.Printed.{escaped}
 use Rattle.verdict.specs.Reasons.{form_reason}
 use Rattle.desk_service.specs.declared.opening.Paper.{Paper}
 use Rattle.desk_service.specs.declared.opening.Unfit.{Unfit}

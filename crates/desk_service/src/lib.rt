@@ -9,9 +9,8 @@ mod outside;
 mod run;
 mod saying;
 mod texts;
-mod words;
 
+pub use desk_words::database_path;
 pub use laws::a_clear_decision_is_of_a_safe_app;
 pub use outside::{Outside, Status};
 pub use run::serve;
-pub use words::database_path;

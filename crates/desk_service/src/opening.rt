@@ -5,12 +5,10 @@ ghost use Rattle.desk_service.specs.Opening.{paper_name, paper_path, ReadsPaper,
 use crate::lists_judge::OfficeLists;
 use desk_serving::Desk;
 use office_forms::{FormFault, one_form_or_fault, read_lists, read_office};
+use printed_text::FILE_LIMIT;
 use std::alloc::{AllocError, Global};
 use store_office::Office;
 use vet_base::{FileFault, Files, Memory};
-
-/// A file has at most so many bytes.
-const FILE_LIMIT: u64 = 16_777_216;
 
 /// A file of the office.
 #[derive(Clone, Copy, Debug, PartialEq, Eq)]

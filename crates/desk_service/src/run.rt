@@ -3,13 +3,13 @@ ghost use Rattle.std.specs.Prelude.{map, string_bytes};
 ghost use Rattle.desk_serving.specs.Obeying.{TellsDocket};
 ghost use Rattle.desk_service.specs.Saying.{PutsText};
 ghost use Rattle.desk_service.specs.Serving.{seen, Answers, Ends};
-ghost use Rattle.desk_service.specs.Words.{asked_words, parse};
+ghost use Rattle.desk_words.specs.Serve.{asked_words, parse};
 
 use crate::outside::{Outside, Status};
 use crate::saying::said;
-use crate::words::{Asked, asked_in};
 use case_keeper::Keeper;
 use desk_links::{Clock, Door};
+use desk_words::{Serving, serving_in};
 use std::alloc::Global;
 use std::marker::Sync;
 use std::sync::Wait;
@@ -30,7 +30,7 @@ fn printed<O: Sink>(alloc: Global, out: &mut O, status: Status, text: &[u8]) -> 
 /// Serves as the words ask, and prints what it came to.
 fn run<F, O, K, D, C, T, G>(
     alloc: Global,
-    asked: &Asked,
+    asked: &Serving,
     outside: &mut Outside<F, O, K, D, C>,
     crew: &Crew<'_, T, G>,
 ) -> Status
@@ -106,6 +106,6 @@ where
         (K.told outside.new.keeper) (K.fault_count outside.new.keeper) (D.Link.told outside.new.door) (D.Link.fault_count outside.new.door)) result }
     ensures docket { TellsDocket (K.told outside.new.keeper) }
 {
-    let asked = asked_in(words)?;
+    let asked = serving_in(words)?;
     Some(run(alloc, &asked, outside, crew))
 }

@@ -8,17 +8,17 @@ ghost use Rattle.desk_service.specs.Judging.{IsJudged};
 ghost use Rattle.desk_service.specs.Opening.{opened_of};
 ghost use Rattle.desk_service.specs.Saying.{HaltSays, TakenSays, SaysAs, Says};
 ghost use Rattle.desk_service.specs.Serving.{seen, ServesDesk};
-ghost use Rattle.desk_service.specs.Words.{asked_words};
+ghost use Rattle.desk_words.specs.Serve.{asked_words};
 
 use crate::laws::a_clear_decision_is_of_a_safe_app;
 use crate::lists_judge::{ListsJudge, OfficeLists, judged};
 use crate::opening::{Halt, desk_in, path_of};
 use crate::outside::{Outside, Status};
 use crate::texts::{door_fault, read_fault, refused, served};
-use crate::words::Asked;
 use case_keeper::Keeper;
 use desk_links::{Clock, Door, DoorFault};
 use desk_serving::{Desk, serve_door};
+use desk_words::Serving;
 use std::alloc::Global;
 use std::marker::Sync;
 use std::sync::Wait;
@@ -103,7 +103,7 @@ where
 /// What a run comes to before it prints: its status and its text.
 pub(crate) fn said<F, O, K, D, C, T, G>(
     alloc: Global,
-    asked: &Asked,
+    asked: &Serving,
     outside: &mut Outside<F, O, K, D, C>,
     crew: &Crew<'_, T, G>,
 ) -> Result<(Status, Vec<u8>), Memory>

@@ -4,17 +4,10 @@ ghost use Rattle.std.specs.Fmt.{decimal};
 ghost use Rattle.desk_service.specs.Texts.{unfit_text, refused_text, read_fault_text, served_text, door_fault_text};
 
 use crate::opening::{Paper, Unfit, name_of};
+use printed_text::{put, put_name};
 use std::alloc::Global;
-use verdict::{put_form_reason, put_name};
+use verdict::put_form_reason;
 use vet_base::Memory;
-
-/// Adds bytes as they are.
-fn put(text: &mut Vec<u8>, bytes: &[u8]) -> Result<(), Memory>
-    ensures { OnOk result (text.new.items ≡ text.old.items ++ bytes.now) }
-{
-    text.extend_from_slice(bytes)?;
-    Ok(())
-}
 
 /// Adds why a file is refused.
 #[tactic(auto, unfolding(crate::specs::Texts::unfit_text))]

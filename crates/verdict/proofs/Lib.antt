@@ -1,3 +1,4 @@
+pub mod Clear
 pub mod Halting
 pub mod OneReading
 pub mod OneVerdict

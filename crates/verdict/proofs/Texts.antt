@@ -1,21 +1,11 @@
 -- Escaped texts, part by part.
 use Rattle.std.proofs.Common.{◌≡◌, ℕ, zero, suc, ◌+◌, ◌<◌, List, [], ◌∷◌, ◌++◌, length, take, get_or, append_assoc, add-one, refl, sym, ap, ◌∙◌, arith}
-use Rattle.std.specs.List.{flat_map}
 use Rattle.std.proofs.lemmas.List.{append-nil}
 use Rattle.std.specs.Prelude.{codes}
 use Rattle.app_machine.specs.declared.call.Proto.{Proto}
 use Rattle.app_machine.specs.Names.{Name, joined, descriptor_of}
-use Rattle.verdict.specs.Printed.{escaped, escaped_byte}
-
-pub escaped_append : (a b : Name) → escaped (a ++ b) ≡ escaped a ++ escaped b
-unfolding escaped
-escaped_append [] b = refl
-escaped_append (x ∷ xs) b = rw (escaped_append xs b) (sym (append_assoc (escaped_byte x) (flat_map escaped_byte xs) (flat_map escaped_byte b)))
-
--- nothing is added before the first name
-pub escaped_nothing : (t : List ℕ) → t ≡ t ++ escaped []
-unfolding escaped
-escaped_nothing t = sym (append-nil t)
+use Rattle.printed_text.specs.Printed.{escaped}
+use Rattle.printed_text.proofs.Names.{escaped_append}
 
 -- one more of the names
 pub joined_take : (names : List Name) (i : ℕ) (d : Name) → i < length names → escaped (joined (take (i + 1) names)) ≡ escaped (joined (take i names)) ++ escaped (get_or names i d)

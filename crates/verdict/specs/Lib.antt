@@ -1,3 +1,4 @@
+pub mod Clear
 pub mod Halts
 pub mod Linked
 pub mod OneVerdict

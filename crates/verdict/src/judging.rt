@@ -15,7 +15,7 @@ ghost use Rattle.verdict.specs.Tells.{IsFollowed, TellsAll, TellsOfApp};
 ghost use Rattle.verdict.specs.Verdict.{ComesTo, Judgement, IsSafeApp, judged_by};
 
 use crate::laws::lower_laws;
-use crate::linking::linked_parts;
+use crate::linking::{Linked, linked_parts};
 use crate::papers::{Halt, Papers};
 use crate::{Cause, Finding, Judged, Outcome, Parts};
 use app_flow::{Flow, flow_of};
@@ -83,23 +83,25 @@ fn judged_by(alloc: Global, app: &App, papers: &Papers, flow: Flow) -> Result<Ju
     }
 }
 
-/// What an app comes to.
-fn judged_app<T: Threads + Wait + Sync, G: Gate>(
+/// What a linked app comes to, as `judge` says of its parts: the app, the lists and the declaration are those that `linked_parts`
+/// gave, so nothing is linked a second time.
+pub fn judge_linked<T: Threads + Wait + Sync, G: Gate>(
     alloc: Global,
-    app: &App,
-    papers: &Papers,
+    linked: &Linked,
     crew: &Crew<'_, T, G>,
 ) -> Result<Judged, Memory>
-    requires sound { SoundApp app.now }
-    requires lists { SoundLists papers.now.lists }
-    ensures value { IfOk result (λ j. ComesTo app.now papers.now.lists papers.now.declaration j) }
-    ensures told { IfOk result (λ j. IsFollowed j.outcome → TellsAll app.now papers.now.lists papers.now.declaration j.outcome) }
+    requires sound { SoundApp linked.now.app }
+    requires lists { SoundLists linked.now.papers.lists }
+    ensures value { IfOk result (λ j. ComesTo linked.now.app linked.now.papers.lists linked.now.papers.declaration j) }
+
+    // Unless the app is too large, the outcome leaves out nothing that a run does.
+    ensures told { IfOk result (λ j. IsFollowed j.outcome → TellsAll linked.now.app linked.now.papers.lists linked.now.papers.declaration j.outcome) }
     ensures table { IfOk result (λ j. IfSome j.table IsTable) }
 {
     nothing_is_left_out();
     every_good_table_covers_every_run();
-    let flow = flow_of(alloc, app, &papers.lists, crew)?;
-    let judged = judged_by(alloc, app, papers, flow)?;
+    let flow = flow_of(alloc, &linked.app, &linked.papers.lists, crew)?;
+    let judged = judged_by(alloc, &linked.app, &linked.papers, flow)?;
     Ok(judged)
 }
 
@@ -117,7 +119,7 @@ fn judged_parts<T: Threads + Wait + Sync, G: Gate>(
 {
     lower_laws();
     let linked = linked_parts(alloc, parts)?;
-    match judged_app(alloc, &linked.app, &linked.papers, crew) {
+    match judge_linked(alloc, &linked, crew) {
         Ok(judged) => Ok(judged),
         Err(Memory) => Err(Stop::Memory),
     }

@@ -14,11 +14,13 @@ mod rejudging;
 mod reporting;
 
 pub use app_flow::TableDefect;
-pub use judging::judge;
+pub use judging::{judge, judge_linked};
+pub use laws::a_clear_verdict_is_of_a_safe_app;
+pub use linking::{Linked, linked_parts};
 pub use outcome::{Judged, Outcome, Part, Reason, Rechecked, status_for};
 pub use outcomes::{Cause, Finding, Place};
+pub use papers::{Halt, Papers, Refusal};
 pub use parts::Parts;
-pub use printed::put_name;
-pub use reasons::put_form_reason;
+pub use reasons::{push_part_name, put_form_reason};
 pub use rejudging::judge_table;
 pub use reporting::report;

@@ -25,7 +25,7 @@ pub enum Part {
 }
 
 /// Why it is refused.
-#[derive(Debug, Drop)]
+#[derive(Drop)]
 pub enum Reason {
     /// The file is not there.
     Absent,
@@ -37,7 +37,7 @@ pub enum Reason {
 }
 
 /// What the parts of an app come to.
-#[derive(Debug, Drop)]
+#[derive(Drop)]
 pub enum Outcome {
     /// No run brings a value of a source category to a sink category, unless that pair is declared.
     Clear,
@@ -57,7 +57,7 @@ pub struct Judged {
 }
 
 /// What the parts of an app come to by rows that anyone made.
-#[derive(Debug, Drop)]
+#[derive(Drop)]
 pub enum Rechecked {
     /// The parts are refused, whatever the rows are.
     Refused(Part, Reason),

@@ -1,7 +1,7 @@
 use vet_base::Seq;
 
 /// The bytes of the files of an app, and those of the lists by which it is judged.
-#[derive(Debug, Drop)]
+#[derive(Drop)]
 pub struct Parts {
     pub manifest: Seq<u8>,
     pub layouts: Seq<u8>,

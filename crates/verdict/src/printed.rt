@@ -1,73 +1,18 @@
-//! What is printed: names escaped, places, and the lines of a report. Each function adds its text at the end; after
-//! want of memory a part of it may be there.
+//! What is printed: methods, places, and the lines of a report. Each function adds its text at the end; after want of
+//! memory a part of it may be there.
 
-ghost use Rattle.std.specs.Prelude.{◌≡◌, ◌<◌, ◌++◌, [], ◌∷◌, codes, take, flat_map, OnOk, IfOk};
-ghost use Rattle.std.specs.Fmt.{decimal};
+ghost use Rattle.std.specs.Prelude.{◌≡◌, ◌++◌, codes, take, OnOk};
 ghost use Rattle.app_machine.specs.Names.{joined, descriptor_of};
-ghost use Rattle.verdict.specs.Printed.{hexadecimal, is_plain, escaped_byte, escaped, method_text, place_text, finding_line, place_line, class_line, counted_line};
+ghost use Rattle.printed_text.specs.Printed.{escaped};
+ghost use Rattle.verdict.specs.Printed.{method_text, place_text, finding_line, place_line, class_line, counted_line};
 
 use crate::{Finding, Place};
 use app_model::{MethodRef, Proto};
+use printed_text::{put, put_name, put_number};
 use std::alloc::Global;
 use vet_base::{Memory, Name};
 
 type Text = Vec<u8>;
-
-#[tactic(auto, unfolding(crate::specs::Printed::hexadecimal))]
-fn hexadecimal_digit(n: u8) -> u8
-    requires { n < 16 }
-    ensures { result ≡ hexadecimal n }
-{
-    if n < 10 { b'0' + n } else { b'a' - 10 + n }
-}
-
-#[tactic(auto, unfolding(crate::specs::Printed::is_plain))]
-fn is_plain_byte(byte: u8) -> bool
-    ensures { result ≡ is_plain byte }
-{
-    byte >= 0x21 && byte <= 0x7E && byte != b'\\'
-}
-
-/// Adds bytes as they are.
-pub fn put(text: &mut Text, bytes: &[u8]) -> Result<(), Memory>
-    ensures { OnOk result (text.new.items ≡ text.old.items ++ bytes.now) }
-{
-    text.extend_from_slice(bytes)?;
-    Ok(())
-}
-
-#[tactic(auto, unfolding(crate::specs::Printed::escaped_byte))]
-fn put_escaped_byte(text: &mut Text, byte: u8) -> Result<(), Memory>
-    ensures { OnOk result (text.new.items ≡ text.old.items ++ escaped_byte byte) }
-{
-    if is_plain_byte(byte) {
-        put(text, &[byte])
-    } else {
-        let high = hexadecimal_digit(byte / 16);
-        let low = hexadecimal_digit(byte % 16);
-        put(text, &[b'\\', b'x', high, low])
-    }
-}
-
-/// Adds a name at the end: a byte that is no visible ASCII, and the backslash, as `\x` and two hexadecimal digits. After want
-/// of memory a part of it may be there.
-#[tactic(auto, unfolding(crate::specs::Printed::escaped))]
-pub fn put_name(text: &mut Vec<u8>, name: &[u8]) -> Result<(), Memory>
-    ensures { OnOk result (text.new.items ≡ text.old.items ++ escaped name.now) }
-{
-    for byte in name {
-        put_escaped_byte(text, *byte)?;
-    }
-    Ok(())
-}
-
-/// Adds a number in decimal digits.
-pub fn put_number(alloc: Global, text: &mut Text, n: usize) -> Result<(), Memory>
-    ensures { OnOk result (text.new.items ≡ text.old.items ++ decimal n) }
-{
-    let digits = format!(in alloc; "{n}")?;
-    put(text, digits.as_bytes())
-}
 
 fn put_types(text: &mut Text, types: &[Name]) -> Result<(), Memory>
     ensures { OnOk result (text.new.items ≡ text.old.items ++ escaped (joined types.now)) }

@@ -1,54 +1,56 @@
 //! What is printed of a refusal: the part and the reason.
 
-ghost use Rattle.std.specs.Prelude.{◌≡◌, ◌++◌, codes, OnOk};
+ghost use Rattle.std.specs.Prelude.{◌≡◌, ◌++◌, codes, string_bytes, OnOk};
 ghost use Rattle.std.specs.Fmt.{decimal};
-ghost use Rattle.verdict.specs.Printed.{escaped};
-ghost use Rattle.verdict.specs.Reasons.{first_dex_name, numbered_dex_name, dex_name, part_name, form_reason, dex_reason, code_reason, member_name, link_reason, reason_text};
+ghost use Rattle.printed_text.specs.Printed.{escaped};
+ghost use Rattle.verdict.specs.Reasons.{dex_name, part_name, form_reason, dex_reason, code_reason, member_name, link_reason, reason_text};
 
-use crate::printed::{put, put_method, put_name, put_number};
+use crate::printed::put_method;
 use crate::{Part, Reason};
 use app_link::LinkFault;
 use dex_code::CodeFault;
 use dex_reader::DexFault;
 use office_forms::FormFault;
-use std::alloc::Global;
+use printed_text::{put, put_name, put_number};
+use std::alloc::{AllocError, Global};
 use vet_base::{Memory, Name};
 
 type Text = Vec<u8>;
 
-#[tactic(auto, unfolding(crate::specs::Reasons::numbered_dex_name))]
-fn put_numbered_dex(alloc: Global, text: &mut Text, n: usize) -> Result<(), Memory>
-    ensures { OnOk result (text.new.items ≡ text.old.items ++ numbered_dex_name n) }
-{
-    put(text, b"classes".as_slice())?;
-    put_number(alloc, text, n)?;
-    put(text, b".dex".as_slice())
-}
-
-#[tactic(auto, unfolding(crate::specs::Reasons::dex_name, crate::specs::Reasons::first_dex_name))]
-fn put_dex_name(alloc: Global, text: &mut Text, i: u32) -> Result<(), Memory>
-    ensures { OnOk result (text.new.items ≡ text.old.items ++ dex_name i) }
+#[tactic(auto, unfolding(crate::specs::Reasons::dex_name, crate::specs::Reasons::first_dex_name, crate::specs::Reasons::numbered_dex_name))]
+fn push_dex_name(alloc: Global, name: &mut String, i: u32) -> Result<(), AllocError>
+    ensures { OnOk result (string_bytes name.new ≡ string_bytes name.old ++ dex_name i) }
 {
     if i == 0 {
-        put(text, b"classes.dex".as_slice())
-    } else {
-        put_numbered_dex(alloc, text, i as usize + 1)
+        return name.push_str("classes.dex");
+    }
+    let number = u64::from(i) + 1;
+    let file = format!(in alloc; "classes{number}.dex")?;
+    name.push_str(file.as_str())
+}
+
+/// Adds the name of the part's file, or `app`, at the end. After want of memory a part of it may be there.
+#[tactic(auto, unfolding(crate::specs::Reasons::part_name))]
+pub fn push_part_name(alloc: Global, name: &mut String, part: Part) -> Result<(), AllocError>
+    ensures { OnOk result (string_bytes name.new ≡ string_bytes name.old ++ part_name part) }
+{
+    match part {
+        Part::Manifest => name.push_str("manifest.toml"),
+        Part::Layouts => name.push_str("layouts.toml"),
+        Part::Declaration => name.push_str("declaration.toml"),
+        Part::Lists => name.push_str("lists.toml"),
+        Part::Dex(i) => push_dex_name(alloc, name, i),
+        Part::App => name.push_str("app"),
     }
 }
 
-/// Adds the name of the part's file.
-#[tactic(auto, unfolding(crate::specs::Reasons::part_name))]
+/// Adds the name of the part's file to a text.
 pub fn put_part(alloc: Global, text: &mut Text, part: Part) -> Result<(), Memory>
     ensures { OnOk result (text.new.items ≡ text.old.items ++ part_name part) }
 {
-    match part {
-        Part::Manifest => put(text, b"manifest.toml".as_slice()),
-        Part::Layouts => put(text, b"layouts.toml".as_slice()),
-        Part::Declaration => put(text, b"declaration.toml".as_slice()),
-        Part::Lists => put(text, b"lists.toml".as_slice()),
-        Part::Dex(i) => put_dex_name(alloc, text, i),
-        Part::App => put(text, b"app".as_slice()),
-    }
+    let mut name = String::new(alloc);
+    push_part_name(alloc, &mut name, part)?;
+    put(text, name.as_bytes())
 }
 
 /// Adds a word and a name.

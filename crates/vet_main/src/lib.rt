@@ -4,9 +4,9 @@
 
 ghost use Rattle.std.specs.Prelude.{◌≡◌, map, string_bytes, IfErr};
 ghost use Rattle.std.specs.Process.{exit_status};
-ghost use Rattle.vetting_desk.specs.Words.{parse};
+ghost use Rattle.desk_words.specs.Words.{parse};
 ghost use Rattle.vetting_desk.specs.Answer.{SaysClear, IsSafe, SaysFound};
-ghost use Rattle.vetting_desk.specs.Outside.{outside};
+ghost use Rattle.app_folder.specs.Outside.{outside};
 ghost use Rattle.vetting_desk.specs.Top.{EndsAsDue, EndsAsOnlyDue, PrintsFullReport};
 
 use std::alloc::Global;

@@ -1,5 +1,5 @@
 -- What is found of parts by the certificate in a file.
-use Rattle.std.proofs.Common.{◌≡◌, ◌≤◌, ◌<◌, ◌⊎◌, inl, inr, ℕ, List, length, Option, Some, None, Result, Ok, Err, refl, sym, ◌∙◌, ap, subst, arith}
+use Rattle.std.proofs.Common.{◌≡◌, ◌≤◌, ◌<◌, ◌⊎◌, inl, inr, ℕ, List, length, Option, Some, None, Result, Ok, Err, refl, sym, subst, arith}
 use Rattle.std.specs.Prelude.{IfOk, IsSomeAnd, IsTrue, is_some, String, string_bytes, Vec}
 use Rattle.std.specs.declared.alloc.Global.{Global}
 use Rattle.vet_base.specs.Outside.{Told, held_by, AnswersRead, told_after_read, FileCause}
@@ -8,10 +8,11 @@ use Rattle.vet_base.specs.declared.outside.FileFault.TheVariants as faults
 use Rattle.vet_base.specs.declared.memory.Memory.{Memory as NoMemory}
 use Rattle.verdict.specs.declared.parts.Parts.{Parts}
 use Rattle.vetting_desk.specs.declared.answer.Answer.{Answer}
-use Rattle.vetting_desk.specs.Due.{Due, no_certificate, long_certificate, due_of}
-use Rattle.vetting_desk.specs.FolderDue.{FileTold, RechecksBy, Rechecks}
+use Rattle.app_folder.specs.Due.{Due}
+use Rattle.vetting_desk.specs.Due.{no_certificate, long_certificate, due_of}
+use Rattle.vetting_desk.specs.PartsDue.{FileTold, RechecksBy, Rechecks}
 use Rattle.vetting_desk.specs.Found.{FindsOfParts, FindsByFile, said, unread}
-use Rattle.vetting_desk.specs.Reading.{TellsRead, SameFiles}
+use Rattle.app_folder.specs.Reading.{TellsRead, SameFiles}
 
 -- a status from 3 on is none of a finding
 no_finding : (n : ℕ) → 3 ≤ n → (n ≡ 1) ⊎ (n ≡ 2) → ⊥

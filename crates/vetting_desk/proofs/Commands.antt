@@ -11,18 +11,20 @@ use Rattle.verdict.specs.declared.parts.Parts.{Parts}
 use Rattle.vetting_desk.specs.declared.answer.Answer.{Answer}
 use Rattle.vetting_desk.specs.declared.finding.Found.{Found}
 use Rattle.vetting_desk.specs.declared.finding.Found.TheVariants.{Said, ReadFault, Memory}
-use Rattle.vetting_desk.specs.declared.folder.Halt.{Halt}
-use Rattle.vetting_desk.specs.declared.folder.Halt.TheVariants as halts
-use Rattle.vetting_desk.specs.declared.words.Words.{Words}
-use Rattle.vetting_desk.specs.declared.words.Words.TheVariants.{Check, Certify, Recheck}
-use Rattle.vetting_desk.specs.Answer.{Answers, HasSafeApp, SaysClear, IsSafe, HasFullReport, SaysFound, IsFullReport, IsFileIn, IsFileOf}
-use Rattle.vetting_desk.specs.Due.{Due, usage, reported, due_of}
-use Rattle.vetting_desk.specs.FolderDue.{FolderDue, Checks, Certifies, Rechecks}
+use Rattle.app_folder.specs.declared.folder.Halt.{Halt}
+use Rattle.app_folder.specs.declared.folder.Halt.TheVariants as halts
+use Rattle.desk_words.specs.Words.{Words, Check, Certify, Recheck}
+use Rattle.app_folder.specs.Folder.{IsFileIn}
+use Rattle.vetting_desk.specs.Answer.{Answers, HasSafeApp, SaysClear, IsSafe, HasFullReport, SaysFound, IsFullReport, IsFileOf}
+use Rattle.app_folder.specs.Due.{Due, reported}
+use Rattle.vetting_desk.specs.Due.{usage, due_of}
+use Rattle.app_folder.specs.FolderDue.{FolderDue, Checks}
+use Rattle.vetting_desk.specs.PartsDue.{Certifies, Rechecks}
 use Rattle.vetting_desk.specs.Found.{FindsOfParts, FindsDue, IsFound, FindsByFile, said, halted}
-use Rattle.vetting_desk.specs.Outside.{Tells}
-use Rattle.vetting_desk.specs.Reading.{GathersTold, GathersAs, Leaves, FailsAt}
-use Rattle.vetting_desk.proofs.Holding.{holds_parts}
-use Rattle.vetting_desk.proofs.OneFolder.{only_of_parts, only_of_refusal}
+use Rattle.app_folder.specs.Outside.{Tells}
+use Rattle.app_folder.specs.Reading.{GathersTold, GathersAs, Leaves, FailsAt}
+use Rattle.app_folder.proofs.Holding.{holds_parts}
+use Rattle.app_folder.proofs.OneFolder.{only_of_parts, only_of_refusal}
 
 abbrev tells_of : Option Told → Option (List ℕ) → Tells
 tells_of told printed = record { files = told; printed = printed }

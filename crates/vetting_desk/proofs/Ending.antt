@@ -7,12 +7,12 @@ use Rattle.vetting_desk.specs.declared.answer.Status.{Status}
 use Rattle.vetting_desk.specs.declared.answer.Answer.{Answer}
 use Rattle.vetting_desk.specs.declared.finding.Found.{Found}
 use Rattle.vetting_desk.specs.declared.finding.Found.TheVariants.{Said, ReadFault, Memory}
-use Rattle.vetting_desk.specs.declared.words.Words.{Words}
-use Rattle.vetting_desk.specs.declared.words.Words.TheVariants.{Check, Certify, Recheck, Make}
+use Rattle.desk_words.specs.Words.{Words, Check, Certify, Recheck, Make}
 use Rattle.vetting_desk.specs.Answer.{SaysClear, IsSafe, SaysFound, IsFullReport}
-use Rattle.vetting_desk.specs.Due.{Due, NewFile, due_of, read_fault_text}
+use Rattle.app_folder.specs.Due.{Due, NewFile}
+use Rattle.vetting_desk.specs.Due.{due_of, read_fault_text}
 use Rattle.vetting_desk.specs.Found.{TheDue, ReadFails, IsFound, Says, file_of}
-use Rattle.vetting_desk.specs.Outside.{Tells, Outside, outside}
+use Rattle.app_folder.specs.Outside.{Tells, Outside, outside}
 use Rattle.vetting_desk.specs.Top.{status, Finishes, Writes, NoFault, ComesToSay, RunsOut, Ends, EndsAsDue, EndsAsOnlyDue, PrintsFullReport, PutsText, NotWritten}
 
 -- the file that is due was written, if any, and nothing else changed

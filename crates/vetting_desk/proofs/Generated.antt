@@ -1,5 +1,5 @@
 -- What is found of a generated app.
-use Rattle.std.proofs.Common.{◌≡◌, ◌⊎◌, inl, inr, ℕ, List, length, Option, Some, None, Result, Ok, refl, sym, ◌∙◌, ap, subst, arith}
+use Rattle.std.proofs.Common.{◌≡◌, ◌⊎◌, inl, inr, ℕ, List, length, Option, Some, Result, Ok, refl, sym, ◌∙◌, ap, subst, arith}
 use Rattle.std.specs.Option.{option_map}
 use Rattle.std.specs.Prelude.{IsErr}
 use Rattle.vet_base.specs.Outside.{Told}
@@ -8,15 +8,13 @@ use Rattle.verdict.specs.declared.outcome.Judged.{Judged}
 use Rattle.verdict.specs.declared.outcome.Outcome.{Outcome}
 use Rattle.verdict.specs.declared.outcome.Outcome.TheVariants.{Clear, Flagged, Undecided, Refused}
 use Rattle.verdict.specs.declared.parts.Parts.{Parts}
-use Rattle.verdict.specs.Outcome.{status_of}
 use Rattle.verdict.specs.Verdict.{Judgement, IsSafeApp}
-use Rattle.vetting_desk.specs.declared.words.Words.{Words}
-use Rattle.vetting_desk.specs.declared.words.Words.TheVariants.{Check, Certify, Recheck, Make}
+use Rattle.desk_words.specs.Words.{Make}
 use Rattle.vetting_desk.specs.Answer.{Answers, due_to_made}
-use Rattle.vetting_desk.specs.Due.{Due}
+use Rattle.app_folder.specs.Due.{Due}
 use Rattle.vetting_desk.specs.Found.{FindsDue}
 use Rattle.vetting_desk.specs.Made.{made_parts}
-use Rattle.vetting_desk.specs.Outside.{Tells}
+use Rattle.app_folder.specs.Outside.{Tells}
 
 abbrev rows_in : Judged → Option ℕ
 rows_in judged = option_map (λ (rows : List Row). length rows) judged.table

@@ -2,9 +2,6 @@ pub mod PartsDue
 pub mod ByFile
 pub mod Commands
 pub mod Ending
-pub mod Folders
 pub mod Generated
-pub mod Holding
-pub mod OneFolder
 pub mod Writes
 pub mod Writing

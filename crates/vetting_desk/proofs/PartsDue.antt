@@ -23,8 +23,10 @@ use Rattle.verdict.specs.Report.{report_text}
 use Rattle.verdict.specs.Tells.{IsFollowed, TellsOfApp}
 use Rattle.verdict.specs.Verdict.{Judgement, IsSafeApp}
 use Rattle.vetting_desk.specs.declared.answer.Answer.{Answer}
-use Rattle.vetting_desk.specs.Due.{Due, reported, certified, uncertified, due_of}
-use Rattle.vetting_desk.specs.FolderDue.{Checks, Certifies, digest_of, refusal_of, rechecked, RechecksBy}
+use Rattle.app_folder.specs.Due.{Due, reported}
+use Rattle.vetting_desk.specs.Due.{certified, uncertified, due_of}
+use Rattle.app_folder.specs.FolderDue.{Checks}
+use Rattle.vetting_desk.specs.PartsDue.{Certifies, digest_of, refusal_of, rechecked, RechecksBy}
 use Rattle.vetting_desk.specs.Found.{ReportsAll, FindsOfParts, CertifiedAs, IsUnreadable}
 
 is_clear : (outcome : Outcome) → status_of outcome ≡ 0 → outcome ≡ Clear

@@ -1,24 +1,23 @@
 -- What is due to the words; when that says clear, and what clear says; and which files a command reads.
-use Rattle.std.specs.Prelude.{◌≡◌, ◌≢◌, ◌⊎◌, ℕ, List, length, Option, Some, None, IsTrue, is_some}
+use Rattle.std.specs.Prelude.{◌≡◌, ◌⊎◌, ℕ, List, length, Option, Some, None, IsTrue, is_some}
 use Rattle.std.specs.Option.{option_map}
 use Rattle.vet_base.specs.Outside.{Told, held_by}
 use Rattle.verdict.specs.declared.outcome.Judged.{Judged}
 use Rattle.verdict.specs.declared.outcome.Outcome.{Outcome}
 use Rattle.verdict.specs.declared.outcome.Outcome.TheVariants.{Clear, Flagged, Undecided, Refused}
-use Rattle.verdict.specs.declared.outcome.Part.{Part}
-use Rattle.verdict.specs.declared.outcome.Part.TheVariants.{App}
 use Rattle.verdict.specs.declared.parts.Parts.{Parts}
 use Rattle.verdict.specs.Outcome.{status_of}
 use Rattle.verdict.specs.Report.{report_text}
 use Rattle.verdict.specs.Tells.{IsFollowed, TellsOfApp}
 use Rattle.verdict.specs.Verdict.{Judgement, IsSafeApp}
-use Rattle.vetting_desk.specs.declared.words.Words.{Words}
-use Rattle.vetting_desk.specs.declared.words.Words.TheVariants.{Check, Certify, Recheck, Make}
-use Rattle.vetting_desk.specs.Due.{Due, usage, reported, summarised}
-use Rattle.vetting_desk.specs.Folder.{file_name, Holds}
-use Rattle.vetting_desk.specs.FolderDue.{FolderDue, Checks, Certifies, Rechecks}
+use Rattle.desk_words.specs.Words.{Words, Check, Certify, Recheck, Make}
+use Rattle.app_folder.specs.Due.{Due, reported}
+use Rattle.vetting_desk.specs.Due.{usage, summarised}
+use Rattle.app_folder.specs.Folder.{Holds, IsFileIn}
+use Rattle.app_folder.specs.FolderDue.{FolderDue, Checks}
+use Rattle.vetting_desk.specs.PartsDue.{Certifies, Rechecks}
 use Rattle.vetting_desk.specs.Made.{made_parts}
-use Rattle.vetting_desk.specs.Outside.{Tells}
+use Rattle.app_folder.specs.Outside.{Tells}
 
 -- What is due to a generated app with so many drawn methods that has so many rows and comes to this: a summary, or the report that it
 -- is refused.
@@ -83,12 +82,6 @@ IsFullReport (Some (Check dir n)) tells status text = HasFullReport dir tells.fi
 IsFullReport (Some (Certify dir cert)) tells status text = HasFullReport dir tells.files status text
 IsFullReport (Some (Recheck dir cert)) tells status text = HasFullReport dir tells.files status text
 IsFullReport (Some (Make seed size n)) tells status text = ⊥
-
--- the file of a part in the folder; the app as a whole has none
-pub record IsFileIn (dir name : List ℕ) : Type 0 where
-  pub part : Part
-  pub has_file : part ≢ App
-  pub named : name ≡ file_name dir part
 
 -- the command reads the file of this name
 abbrev pub IsFileOf : Option Words → List ℕ → Type 0

@@ -1,24 +1,15 @@
--- What is due: the status with which a run is to end, the text to be printed, and the file to be written.
+-- What is due to the words: the status with which a run is to end, the text to be printed, and the file to be written.
 use Rattle.std.specs.Prelude.{ℕ, ◌==◌, List, [], ◌∷◌, ◌++◌, Option, Some, None, string_bytes, codes, if◌then◌else◌}
+use Rattle.app_folder.specs.Due.{Due, reported}
 use Rattle.cert_report.specs.declared.refusal.CertRefusal.{CertRefusal}
 use Rattle.cert_report.specs.Refusal.{refusal_text}
 use Rattle.verdict.specs.declared.outcome.Outcome.{Outcome}
 use Rattle.verdict.specs.Outcome.{status_of}
-use Rattle.verdict.specs.Printed.{escaped}
+use Rattle.printed_text.specs.Printed.{escaped}
 use Rattle.verdict.specs.Report.{report_text}
 use Rattle.vetting_desk.specs.declared.answer.Answer.{Answer}
 use Rattle.vetting_desk.specs.declared.answer.Answer.TheVariants.{Usage, Vetted, Certified, NoCertificate, LongCertificate, Uncertified, Made}
 use Rattle.vetting_desk.specs.Made.{summary_text}
-
--- a file, by its name and bytes
-abbrev pub NewFile : Type 0
-NewFile = List ℕ × List ℕ
-
--- what is due; the file, if any
-pub record Due : Type 0 where
-  pub status : ℕ
-  pub text : List ℕ
-  pub written : Option NewFile
 
 unfoldable pub usage_text : List ℕ
 usage_text = codes "unknown command or argument\n"
@@ -45,10 +36,6 @@ too_long_text path = codes "refused " ++ escaped (last_part path) ++ codes ": lo
 -- due to words that are no command
 abbrev pub usage : Due
 usage = record { status = 4; text = usage_text; written = None }
-
--- due to an app that comes to this outcome, where the report alone is asked for
-abbrev pub reported : Outcome → Due
-reported outcome = record { status = status_of outcome; text = report_text outcome; written = None }
 
 -- due where a certificate is asked for besides
 abbrev pub certified : Outcome → List ℕ → List ℕ → Due

@@ -22,14 +22,15 @@ use Rattle.vetting_desk.specs.declared.answer.Answer.{Answer}
 use Rattle.vetting_desk.specs.declared.answer.Answer.TheVariants.{Vetted, NoCertificate, LongCertificate, Uncertified}
 use Rattle.vetting_desk.specs.declared.finding.Found.{Found}
 use Rattle.vetting_desk.specs.declared.finding.Found.TheVariants.{Said, ReadFault, Memory}
-use Rattle.vetting_desk.specs.declared.folder.Halt.{Halt}
-use Rattle.vetting_desk.specs.declared.folder.Halt.TheVariants as halts
-use Rattle.vetting_desk.specs.declared.words.Words.{Words}
+use Rattle.app_folder.specs.declared.folder.Halt.{Halt}
+use Rattle.app_folder.specs.declared.folder.Halt.TheVariants as halts
+use Rattle.desk_words.specs.Words.{Words}
 use Rattle.vetting_desk.specs.Answer.{Answers, SaysClear, IsSafe, SaysFound, IsFullReport, IsFileOf}
-use Rattle.vetting_desk.specs.Due.{Due, NewFile, reported, certified, due_of, read_fault_text}
-use Rattle.vetting_desk.specs.FolderDue.{digest_of, Rechecks}
-use Rattle.vetting_desk.specs.Outside.{Tells, TellsInput}
-use Rattle.vetting_desk.specs.Reading.{TellsRead, SameFiles}
+use Rattle.app_folder.specs.Due.{Due, NewFile, reported}
+use Rattle.vetting_desk.specs.Due.{certified, due_of, read_fault_text}
+use Rattle.vetting_desk.specs.PartsDue.{digest_of, Rechecks}
+use Rattle.app_folder.specs.Outside.{Tells, TellsInput}
+use Rattle.app_folder.specs.Reading.{TellsRead, SameFiles}
 
 -- The text is the report of an outcome which leaves out nothing that a run of the app of the parts does, unless it is too large.
 pub record ReportsAll (parts : Parts) (due : Due) : Type 0 where

@@ -1,10 +1,6 @@
 pub mod Answer
 pub mod Due
-pub mod Folder
-pub mod FolderDue
 pub mod Found
 pub mod Made
-pub mod Outside
-pub mod Reading
+pub mod PartsDue
 pub mod Top
-pub mod Words

@@ -5,12 +5,13 @@ use Rattle.vet_base.specs.Outside.{HasRisen, Told, WritesFile}
 use Rattle.vet_base.specs.declared.outside.FileFault.{FileFault}
 use Rattle.vet_base.specs.declared.outside.FileFault.TheVariants as faults
 use Rattle.vetting_desk.specs.declared.answer.Status.{Status}
-use Rattle.vetting_desk.specs.declared.words.Words.{Words}
+use Rattle.desk_words.specs.Words.{Words}
 use Rattle.vetting_desk.specs.Answer.{Answers, IsFullReport}
-use Rattle.vetting_desk.specs.Due.{Due, NewFile, read_fault_text}
+use Rattle.app_folder.specs.Due.{Due, NewFile}
+use Rattle.vetting_desk.specs.Due.{read_fault_text}
 use Rattle.vetting_desk.specs.declared.finding.Found.{Found}
 use Rattle.vetting_desk.specs.Found.{ReadFails, Says, file_of}
-use Rattle.vetting_desk.specs.Outside.{TellsInput, Outside}
+use Rattle.app_folder.specs.Outside.{TellsInput, Outside}
 
 abbrev pub status : ℕ → Status
 status n = record { 0 = n }

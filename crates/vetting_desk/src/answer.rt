@@ -5,8 +5,9 @@ ghost use Rattle.vetting_desk.specs.Due.{usage_text, read_fault_text, behind_sla
 
 use crate::summary::summary;
 use cert_report::{CertRefusal, report_refusal};
+use printed_text::{put, put_name};
 use std::alloc::Global;
-use verdict::{Outcome, put_name, report, status_for};
+use verdict::{Outcome, report, status_for};
 use vet_base::{Memory, Seq};
 
 /// The exit status of the program: 0 clear, 1 flagged, 2 undecided, 3 refused, 4 the words are no command, 5 a file
@@ -16,7 +17,7 @@ use vet_base::{Memory, Seq};
 pub struct Status(pub u8);
 
 /// What the words and the files come to.
-#[derive(Debug, Drop)]
+#[derive(Drop)]
 pub enum Answer {
     /// The words are none of the forms.
     Usage,
@@ -81,7 +82,7 @@ fn absent(alloc: Global, path: &str) -> Result<Vec<u8>, Memory>
 {
     let mut text = b"refused ".as_slice().to_vec(alloc)?;
     put_name(&mut text, last_part(path.as_bytes()))?;
-    text.extend_from_slice(b": absent\n".as_slice())?;
+    put(&mut text, b": absent\n".as_slice())?;
     Ok(text)
 }
 
@@ -91,7 +92,7 @@ fn too_long(alloc: Global, path: &str) -> Result<Vec<u8>, Memory>
 {
     let mut text = b"refused ".as_slice().to_vec(alloc)?;
     put_name(&mut text, last_part(path.as_bytes()))?;
-    text.extend_from_slice(b": longer than 536870912\n".as_slice())?;
+    put(&mut text, b": longer than 536870912\n".as_slice())?;
     Ok(text)
 }
 
@@ -117,6 +118,6 @@ pub fn read_fault(alloc: Global, name: &[u8]) -> Result<Vec<u8>, Memory>
 {
     let mut text = b"read fault ".as_slice().to_vec(alloc)?;
     put_name(&mut text, name)?;
-    text.extend_from_slice(b"\n".as_slice())?;
+    put(&mut text, b"\n".as_slice())?;
     Ok(text)
 }

@@ -4,9 +4,10 @@ ghost use Rattle.std.specs.Prelude.{◌≡◌, ℕ, List, IfOk, IfSome};
 ghost use Rattle.certificate.specs.Cert.{IsCert};
 ghost use Rattle.verdict.specs.Table.{IsTable};
 ghost use Rattle.vetting_desk.specs.Due.{due_of};
-ghost use Rattle.vetting_desk.specs.FolderDue.{Checks, Certifies, RechecksBy, refusal_of, rechecked};
+ghost use Rattle.app_folder.specs.FolderDue.{Checks};
+ghost use Rattle.vetting_desk.specs.PartsDue.{Certifies, RechecksBy, refusal_of, rechecked};
 ghost use Rattle.vetting_desk.specs.Found.{FindsOfParts, CertifiedAs, IsUnreadable};
-ghost use Rattle.vetting_desk.specs.Reading.{AreShort};
+ghost use Rattle.app_folder.specs.Reading.{AreShort};
 
 use crate::answer::Answer;
 use crate::certificates::{certificate_of, digest_of, same_digest};

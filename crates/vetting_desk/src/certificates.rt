@@ -3,8 +3,8 @@
 ghost use Rattle.std.specs.Prelude.{◌≡◌, ◌≢◌, true, false, IfOk};
 ghost use Rattle.certificate.specs.Cert.{IsCert};
 ghost use Rattle.verdict.specs.Table.{IsTable};
-ghost use Rattle.vetting_desk.specs.FolderDue.{digest_of};
-ghost use Rattle.vetting_desk.specs.Reading.{AreShort};
+ghost use Rattle.vetting_desk.specs.PartsDue.{digest_of};
+ghost use Rattle.app_folder.specs.Reading.{AreShort};
 
 use certificate::write_cert;
 use fact_rows::Row;

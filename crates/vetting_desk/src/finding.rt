@@ -2,16 +2,15 @@
 
 ghost use Rattle.std.specs.Prelude.{◌≡◌, ◌<◌, ◌≤◌, ℕ, Option, Some, map, string_bytes};
 ghost use Rattle.vet_base.specs.Outside.{Told};
-ghost use Rattle.vetting_desk.specs.declared.words.Words.TheVariants.{Check, Certify, Recheck, Make};
+ghost use Rattle.desk_words.specs.Words.{Check, Certify, Recheck, Make, parse};
 ghost use Rattle.vetting_desk.specs.Found.{IsFound, FindsByFile, said, halted, unread};
-ghost use Rattle.vetting_desk.specs.Reading.{AreShort};
-ghost use Rattle.vetting_desk.specs.Words.{parse};
+ghost use Rattle.app_folder.specs.Reading.{AreShort};
 
 use crate::answer::Answer;
 use crate::asked::{certified, checked, rechecked};
-use crate::folder::{Halt, parts_in};
 use crate::making::made;
-use crate::words::{Command, command_in};
+use app_folder::{Halt, parts_in};
+use desk_words::{Vetting, vetting_in};
 use office_forms::one_form_or_fault;
 use std::alloc::Global;
 use std::marker::Sync;
@@ -25,7 +24,7 @@ use worker_pool::{Crew, Gate};
 const CERTIFICATE_LIMIT: u64 = 536_870_912;
 
 /// What a run found before it writes and prints.
-#[derive(Debug, Drop)]
+#[derive(Drop)]
 pub enum Found {
     Said(Answer),
     /// The read of the file of this name failed.
@@ -166,12 +165,12 @@ pub fn found_in<F: Files, T: Threads + Wait + Sync, G: Gate>(
     ensures { IsFound (parse (map string_bytes words.now)) (F.told files.old) (F.told files.new)
         (F.fault_count files.old) (F.fault_count files.new) result }
 {
-    match command_in(words) {
+    match vetting_in(words) {
         None => Found::Said(Answer::Usage),
-        Some(Command::Check(dir, workers)) => found_by_check(alloc, dir, workers, files, crew),
-        Some(Command::Certify(dir, path)) => found_by_certify(alloc, dir, path, files, crew),
-        Some(Command::Recheck(dir, path)) => found_by_recheck(alloc, dir, path, files, crew.seed),
-        Some(Command::Make(app_seed, size, workers)) => {
+        Some(Vetting::Check(dir, workers)) => found_by_check(alloc, dir, workers, files, crew),
+        Some(Vetting::Certify(dir, path)) => found_by_certify(alloc, dir, path, files, crew),
+        Some(Vetting::Recheck(dir, path)) => found_by_recheck(alloc, dir, path, files, crew.seed),
+        Some(Vetting::Make(app_seed, size, workers)) => {
             found_by_make(alloc, app_seed, size, workers, crew)
         }
     }

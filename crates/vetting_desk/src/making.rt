@@ -3,7 +3,7 @@
 ghost use Rattle.std.specs.Prelude.{◌≡◌, ◌<◌, ◌≤◌, Option, IfOk, length, Some};
 ghost use Rattle.std.specs.Option.{option_map};
 ghost use Rattle.vet_base.specs.Outside.{Told};
-ghost use Rattle.vetting_desk.specs.declared.words.Words.TheVariants.{Make};
+ghost use Rattle.desk_words.specs.Words.{Make};
 ghost use Rattle.vetting_desk.specs.Answer.{due_to_made};
 ghost use Rattle.vetting_desk.specs.Due.{due_of};
 ghost use Rattle.vetting_desk.specs.Found.{FindsDue};

@@ -1,11 +1,11 @@
 //! The top call.
 
 ghost use Rattle.std.specs.Prelude.{◌≡◌, Some, map, string_bytes, IfOk};
-ghost use Rattle.vetting_desk.specs.Words.{parse};
+ghost use Rattle.desk_words.specs.Words.{parse};
 ghost use Rattle.vetting_desk.specs.Answer.{SaysClear, IsSafe, SaysFound};
 ghost use Rattle.vetting_desk.specs.Due.{due_of};
 ghost use Rattle.vetting_desk.specs.Found.{TheDue, Says, file_of};
-ghost use Rattle.vetting_desk.specs.Outside.{outside};
+ghost use Rattle.app_folder.specs.Outside.{outside};
 ghost use Rattle.vetting_desk.specs.Top.{PutsText, WritesDue, status_of_write, Finishes, Ends, EndsAsDue, EndsAsOnlyDue, PrintsFullReport};
 
 use crate::answer::{Answer, Status, read_fault, status_saying, text_saying};

@@ -1,27 +1,13 @@
 //! The summary of a generated app.
 
 ghost use Rattle.std.specs.Prelude.{◌≡◌, ◌<◌, ◌+◌, ◌++◌, codes, length, IfOk, OnOk};
-ghost use Rattle.std.specs.Fmt.{decimal};
 ghost use Rattle.verdict.specs.Outcome.{findings_in};
 ghost use Rattle.vetting_desk.specs.Made.{outcome_word, rows_text, summary_text};
 
+use printed_text::{put, put_number};
 use std::alloc::Global;
 use verdict::Outcome;
 use vet_base::Memory;
-
-fn put(text: &mut Vec<u8>, bytes: &[u8]) -> Result<(), Memory>
-    ensures { OnOk result (text.new.items ≡ text.old.items ++ bytes.now) }
-{
-    text.extend_from_slice(bytes)?;
-    Ok(())
-}
-
-fn put_number(alloc: Global, text: &mut Vec<u8>, n: u64) -> Result<(), Memory>
-    ensures { OnOk result (text.new.items ≡ text.old.items ++ decimal n) }
-{
-    let digits = format!(in alloc; "{n}")?;
-    put(text, digits.as_bytes())
-}
 
 #[tactic(auto, unfolding(crate::specs::Made::outcome_word))]
 fn word_of(outcome: &Outcome) -> &'static [u8]
@@ -40,7 +26,7 @@ fn put_rows(alloc: Global, text: &mut Vec<u8>, rows: Option<usize>) -> Result<()
     ensures { OnOk result (text.new.items ≡ text.old.items ++ rows_text rows) }
 {
     match rows {
-        Some(n) => put_number(alloc, text, n as u64),
+        Some(n) => put_number(alloc, text, n),
         None => put(text, b"over 4000000".as_slice()),
     }
 }
@@ -67,11 +53,11 @@ pub fn summary(
     ensures { IfOk result (λ text. text.items ≡ summary_text size rows outcome.now) }
 {
     let mut text = b"methods ".as_slice().to_vec(alloc)?;
-    put_number(alloc, &mut text, u64::from(size) + 1)?;
+    put_number(alloc, &mut text, size as usize + 1)?;
     put(&mut text, b"\nrows ".as_slice())?;
     put_rows(alloc, &mut text, rows)?;
     put(&mut text, b"\nfindings ".as_slice())?;
-    put_number(alloc, &mut text, findings_of(outcome) as u64)?;
+    put_number(alloc, &mut text, findings_of(outcome))?;
     put(&mut text, b"\n".as_slice())?;
     put(&mut text, word_of(outcome))?;
     put(&mut text, b"\n".as_slice())?;

@@ -1,6 +1,6 @@
 use Rattle.std.proofs.Common.{ap, sym}
 use Rattle.desk_service.specs.Serving.{Ends}
-use Rattle.desk_service.specs.Words.{asked_words}
+use Rattle.desk_words.specs.Serve.{asked_words}
 use Rattle.desk_service.proofs.Ended.{ends_put}
 use Rattle.desk_service.proofs.run.run.Goals as goal
 

@@ -1,5 +1,5 @@
 use Rattle.std.proofs.Common.{ap, refl, ◌∙◌}
-use Rattle.desk_service.specs.Words.{asked_words}
+use Rattle.desk_words.specs.Serve.{asked_words}
 use Rattle.desk_service.proofs.Ended.{said_of_desk, said_of_halt}
 use Rattle.desk_service.proofs.saying.said.Goals as goal
 

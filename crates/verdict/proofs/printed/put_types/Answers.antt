@@ -1,4 +1,5 @@
-use Rattle.verdict.proofs.Texts.{escaped_nothing, types_go_on}
+use Rattle.printed_text.proofs.Names.{escaped_nothing}
+use Rattle.verdict.proofs.Texts.{types_go_on}
 use Rattle.verdict.proofs.printed.put_types.Goals as goal
 
 pub loop-kind-init : goal.loop-kind-init

@@ -1,6 +1,6 @@
 use Rattle.std.proofs.Common.{◌≡◌, ◌++◌, take}
 use Rattle.app_machine.specs.Names.{joined}
-use Rattle.verdict.specs.Printed.{escaped}
+use Rattle.printed_text.specs.Printed.{escaped}
 use Rattle.verdict.proofs.printed.put_types.Given as goal
 
 abbrev pub invariant-loop-kind : goal.invariant-loop-kind

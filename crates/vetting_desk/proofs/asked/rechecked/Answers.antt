@@ -1,6 +1,6 @@
 use Rattle.std.proofs.lemmas.Result.{IfOk-weaker}
 use Rattle.vetting_desk.specs.Due.{due_of}
-use Rattle.vetting_desk.specs.FolderDue.{RechecksBy}
+use Rattle.vetting_desk.specs.PartsDue.{RechecksBy}
 use Rattle.vetting_desk.specs.Found.{FindsOfParts, IsUnreadable}
 use Rattle.vetting_desk.proofs.PartsDue.{finds_unreadable}
 use Rattle.vetting_desk.proofs.asked.rechecked.Goals as goal

@@ -1,5 +1,5 @@
 use Rattle.std.proofs.Common.{◌≡◌, ℕ, List, Some, subst}
-use Rattle.vetting_desk.specs.FolderDue.{FileTold}
+use Rattle.vetting_desk.specs.PartsDue.{FileTold}
 use Rattle.vetting_desk.proofs.ByFile.{found_read, found_unread}
 use Rattle.vetting_desk.proofs.finding.found_by_file.Goals as goal
 

@@ -1,5 +1,5 @@
 use Rattle.std.proofs.Common.{ℕ, List, Some, subst}
-use Rattle.vetting_desk.specs.declared.words.Words.TheVariants.{Recheck}
+use Rattle.desk_words.specs.Words.{Recheck}
 use Rattle.vetting_desk.specs.Found.{IsFound}
 use Rattle.vetting_desk.proofs.Commands.{recheck_asks, found_by_file, found_halted}
 use Rattle.vetting_desk.proofs.finding.found_by_recheck.Goals as goal

@@ -1,10 +1,9 @@
-use Rattle.std.proofs.Common.{◌≡◌, ℕ, Option, Some, refl, sym, ◌∙◌, ap, subst}
+use Rattle.std.proofs.Common.{ℕ, Option, Some, refl, sym, ◌∙◌, ap, subst}
 use Rattle.vet_base.specs.Outside.{Told}
-use Rattle.vetting_desk.specs.declared.words.Command.{Command}
-use Rattle.vetting_desk.specs.declared.words.Words.{Words}
+use Rattle.desk_words.specs.declared.vetting.Vetting.{Vetting}
+use Rattle.desk_words.specs.Words.{Words, vetting_words}
 use Rattle.vetting_desk.specs.Due.{usage}
 use Rattle.vetting_desk.specs.Found.{FindsDue, IsFound}
-use Rattle.vetting_desk.specs.Words.{command_words}
 use Rattle.vetting_desk.proofs.Commands.{finds_usage}
 use Rattle.vetting_desk.proofs.finding.found_in.Goals as goal
 
@@ -18,4 +17,4 @@ returns-in-Some-Make g c =
     let told : Option Told = g.F.Files.told c.args.files.now in
     let count : ℕ = g.F.Files.fault_count c.args.files.now in
     let At : Option Words → Type 0 = λ w. IsFound w told told count count c.found_by_make.result in
-    subst At (sym (ap (λ (k : Command). Some (command_words k)) c.in-Some-Make.field-0-is) ∙ c.in-Some-Make.ensures.parsed) (c.found_by_make.ensures told count)
+    subst At (sym (ap (λ (k : Vetting). Some (vetting_words k)) c.in-Some-Make.field-0-is) ∙ c.in-Some-Make.ensures.parsed) (c.found_by_make.ensures told count)

@@ -1,4 +1,4 @@
-use Rattle.vetting_desk.specs.Outside.{outside}
+use Rattle.app_folder.specs.Outside.{outside}
 use Rattle.vetting_desk.proofs.Ending.{ends_as_due, ends_as_only_due, safe_end, full_end}
 use Rattle.vetting_desk.proofs.run.vet.Goals as goal
 

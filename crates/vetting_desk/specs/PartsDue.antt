@@ -1,0 +1,59 @@
+-- What is due to parts that are certified, and to parts that are checked by a certificate.
+use Rattle.std.specs.Prelude.{◌≡◌, ◌≢◌, ◌≤◌, ◌<◌, ℕ, List, ◌∷◌, length, Option, Some, None, IsSomeAnd, IsTrue, is_some}
+use Rattle.sha2.specs.Sha256.{sha256}
+use Rattle.vet_base.specs.Outside.{Told, held_by}
+use Rattle.fact_rows.specs.declared.row.Row.{Row}
+use Rattle.certificate.specs.declared.fault.CertFault.{CertFault}
+use Rattle.certificate.specs.Cert.{IsCert}
+use Rattle.certificate.specs.Digests.{parts_bytes}
+use Rattle.certificate.specs.Reading.{FirstCertFault}
+use Rattle.cert_checker.specs.declared.defect.TableDefect.{TableDefect}
+use Rattle.cert_checker.specs.declared.defect.TableDefect.TheVariants.{Stranger, NoStart, NotClosed}
+use Rattle.cert_report.specs.declared.refusal.CertRefusal.{CertRefusal}
+use Rattle.cert_report.specs.declared.refusal.CertRefusal.TheVariants as refusals
+use Rattle.verdict.specs.declared.outcome.Outcome.{Outcome}
+use Rattle.verdict.specs.declared.outcome.Outcome.TheVariants as outcomes
+use Rattle.verdict.specs.declared.outcome.Rechecked.{Rechecked}
+use Rattle.verdict.specs.declared.outcome.Rechecked.TheVariants as rechecks
+use Rattle.verdict.specs.declared.parts.Parts.{Parts}
+use Rattle.verdict.specs.Recheck.{Rejudgement}
+use Rattle.verdict.specs.Verdict.{Judgement}
+use Rattle.app_folder.specs.Due.{Due, reported}
+use Rattle.vetting_desk.specs.Due.{certified, no_certificate, long_certificate, uncertified}
+
+-- the digest of the parts
+abbrev pub digest_of : Parts → List ℕ
+digest_of parts = sha256 (parts_bytes (parts.manifest ∷ parts.layouts ∷ parts.declaration ∷ parts.lists ∷ parts.dex))
+
+-- Parts that are certified: the report, and where there is a table the certificate of it.
+pub data Certifies (path : List ℕ) (parts : Parts) : Due → Type 0 where
+  no_table : (outcome : Outcome) → Judgement parts (record { outcome = outcome; table = None }) → Certifies path parts (reported outcome)
+  table : (outcome : Outcome) (rows : List Row) (bytes : List ℕ) → Judgement parts (record { outcome = outcome; table = Some rows }) → IsCert bytes (digest_of parts) rows → Certifies path parts (certified outcome path bytes)
+
+-- a certificate is refused with the defect of its table
+abbrev pub refusal_of : TableDefect Row → CertRefusal
+refusal_of (Stranger row) = refusals.Stranger row
+refusal_of (NoStart row) = refusals.NoStart row
+refusal_of (NotClosed row) = refusals.NotClosed row
+
+-- due to parts that were judged by a table
+abbrev pub rechecked : Rechecked → Due
+rechecked (rechecks.Refused part reason) = reported (outcomes.Refused part reason)
+rechecked (rechecks.Defect defect) = uncertified (refusal_of defect)
+rechecked (rechecks.By outcome) = reported outcome
+
+-- Parts that are checked by a certificate of these bytes: its reading, its digest, and then what its table makes of the parts.
+pub data RechecksBy (bytes : List ℕ) (parts : Parts) : Due → Type 0 where
+  unread : (fault : CertFault) → FirstCertFault bytes fault → RechecksBy bytes parts (uncertified (refusals.Fault fault))
+  other_digest : (digest : List ℕ) (rows : List Row) → IsCert bytes digest rows → digest ≢ digest_of parts → RechecksBy bytes parts (uncertified (refusals.Digest digest (digest_of parts)))
+  judged : (rows : List Row) (r : Rechecked) → IsCert bytes (digest_of parts) rows → Rejudgement parts rows r → RechecksBy bytes parts (rechecked r)
+
+-- where the files are told, the file of this name is so
+abbrev pub FileTold : Option Told → List ℕ → (Option (List ℕ) → Type 0) → Type 0
+FileTold told name P = IsTrue (is_some told) → P (held_by told name)
+
+-- Parts that are checked by the certificate in a file: the file is absent, or too long, or read.
+pub data Rechecks (path : List ℕ) (told : Option Told) (parts : Parts) : Due → Type 0 where
+  absent : FileTold told path (λ file. file ≡ None) → Rechecks path told parts (no_certificate path)
+  too_long : FileTold told path (λ file. IsSomeAnd file (λ bytes. 536870912 < length bytes)) → Rechecks path told parts (long_certificate path)
+  read : (bytes : List ℕ) (due : Due) → FileTold told path (λ file. file ≡ Some bytes) → length bytes ≤ 536870912 → RechecksBy bytes parts due → Rechecks path told parts due
