@@ -1,6 +1,6 @@
-"""Writes the cases of certificates that desk_cases rechecks: changes to one certificate, each with the answer that is due.
+"""Writes the cases of certificates that judging_cases rechecks: changes to one certificate, each with the answer that is due.
 
-usage: recheck_cases.py DATA (the data folder of crates/desk_cases, with other_box.cert and empty.cert in it, which a program wrote
+usage: recheck_cases.py DATA (the data folder of crates/judging_cases, with other_box.cert and empty.cert in it, which a program wrote
 that was made apart from this one; writes certificate_cases.txt)
 
 The answers come from docs/FORMATS.md and from what a table is: all that follows and nothing else, so where one row is left out just

@@ -25,7 +25,7 @@ pub enum HttpFault {
 
 /// A request: whether it is a POST and no GET, its target as it came, the value of the first field `x-desk-token`, and
 /// its body.
-#[derive(Debug, Drop)]
+#[derive(Drop)]
 pub struct Asked {
     pub post: bool,
     pub path: Name,

@@ -2,15 +2,17 @@
 #![tactic(auto)]
 
 mod asked;
+mod empty_line;
 mod fields;
 mod head;
-mod head_end;
 mod law;
 mod piece;
 mod reply;
 mod request;
 
 pub use asked::{Asked, HttpFault};
+pub use empty_line::head_end;
 pub use law::requests_have_one_answer;
+pub use piece::read_piece;
 pub use reply::{Answer, SendFault, write_reply};
 pub use request::read_request;

@@ -26,7 +26,7 @@ fn read_some<L: Link>(link: &mut L, room: &mut [u8]) -> Result<usize, HttpFault>
 
 /// Reads one piece of at most `most` bytes to the end of the buffer. False at the end of the input.
 #[tactic(auto, using(crate::proofs::Coming::takes_nothing))]
-pub(crate) fn read_piece<L: Link>(
+pub fn read_piece<L: Link>(
     link: &mut L,
     bytes: &mut Vec<u8>,
     most: usize,

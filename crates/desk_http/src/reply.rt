@@ -18,7 +18,7 @@ pub enum SendFault {
 }
 
 /// What is replied: the status, whether the body is plain text and not JSON, and the body.
-#[derive(Debug, Drop)]
+#[derive(Drop)]
 pub struct Answer {
     pub status: u16,
     pub is_text: bool,

@@ -4,8 +4,8 @@ ghost use Rattle.desk_http.specs.Came.{Takes, IsAtEnd, TakesSome};
 ghost use Rattle.desk_http.specs.Heads.{HasNoEnd, IsHeadEnd};
 ghost use Rattle.desk_http.specs.Requests.{Answers};
 
+use crate::empty_line::head_end;
 use crate::head::head_of;
-use crate::head_end::head_end;
 use crate::piece::read_piece;
 use crate::{Asked, HttpFault};
 use desk_links::Link;

@@ -15,7 +15,7 @@ use store_office::{Office, Party};
 use vet_base::{Memory, Name, Stop};
 
 /// What is to be done for a request.
-#[derive(Debug, Drop)]
+#[derive(Drop)]
 pub enum Turn {
     /// The party asks this of the desk.
     Run(Party, Command),

@@ -7,7 +7,7 @@ use std::alloc::Global;
 use vet_base::Memory;
 
 /// A field of a body.
-#[derive(Clone, Copy, Debug, PartialEq, Eq)]
+#[derive(Clone, Copy)]
 pub(crate) enum Field {
     Declaration,
     Developer,
@@ -20,7 +20,7 @@ pub(crate) enum Field {
 }
 
 /// Why a request is no command.
-#[derive(Clone, Copy, Debug, PartialEq, Eq)]
+#[derive(Clone, Copy)]
 pub(crate) enum Fault {
     /// The target is that of no page.
     NoRoute,

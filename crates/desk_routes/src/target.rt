@@ -5,7 +5,7 @@ ghost use Rattle.desk_routes.specs.Routes.{cases, decisions, reviews, rulings, c
 use store_office::Role;
 
 /// What a target names.
-#[derive(Clone, Copy, Debug, PartialEq, Eq)]
+#[derive(Clone, Copy)]
 pub(crate) enum Page {
     /// `/cases`
     Cases,
@@ -24,7 +24,7 @@ pub(crate) enum Page {
 }
 
 /// What a party asks of the desk.
-#[derive(Clone, Copy, Debug, PartialEq, Eq)]
+#[derive(Clone, Copy)]
 pub(crate) enum Act {
     Submit,
     List,

@@ -11,14 +11,14 @@ use store_office::Office;
 use vet_base::{FileFault, Files, Memory};
 
 /// A file of the office.
-#[derive(Clone, Copy, Debug, PartialEq, Eq)]
+#[derive(Clone, Copy)]
 pub(crate) enum Paper {
     Office,
     Lists,
 }
 
 /// Why it is refused.
-#[derive(Debug, Drop)]
+#[derive(Drop)]
 pub(crate) enum Unfit {
     /// The file is not there.
     Absent,
@@ -28,7 +28,7 @@ pub(crate) enum Unfit {
 }
 
 /// Why a desk could not be opened.
-#[derive(Debug, Drop)]
+#[derive(Drop)]
 pub(crate) enum Halt {
     /// The first file that is refused.
     Refused(Paper, Unfit),

@@ -9,7 +9,7 @@ use store_office::Office;
 use vet_base::{Memory, Shared};
 
 /// What an app came to: the first word of the report, and the report.
-#[derive(Debug, Drop)]
+#[derive(Drop)]
 pub struct Judged {
     pub outcome: OutcomeWord,
     pub report: Shared<u8>,

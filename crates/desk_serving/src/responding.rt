@@ -19,7 +19,7 @@ use std::alloc::Global;
 use store_office::Party;
 
 /// What is to be sent, by what it says.
-#[derive(Debug, Drop)]
+#[derive(Drop)]
 pub(crate) enum Due {
     /// The reply to a command that was carried out.
     Command(Answer),

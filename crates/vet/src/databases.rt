@@ -1,4 +1,4 @@
-use desk_main::Keepers;
+use desk_program::Keepers;
 use sqlite_keeper::SqlKeeper;
 
 /// Keepers in databases of SQLite, each in the file at its path.

@@ -4,7 +4,7 @@
 mod databases;
 
 use databases::Databases;
-use desk_main::run;
+use desk_program::run;
 use std::process::ExitCode;
 
 fn main(rt: HostRuntime) -> ExitCode {

@@ -2,7 +2,7 @@
 #![tactic(auto)]
 
 use std::process::ExitCode;
-use vet_main::run;
+use vet_program::run;
 
 fn main(rt: HostRuntime) -> ExitCode {
     run(rt)

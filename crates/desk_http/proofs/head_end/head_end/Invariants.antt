@@ -1,5 +1,0 @@
-use Rattle.desk_http.specs.Heads.{HasNoEnd}
-use Rattle.desk_http.proofs.head_end.head_end.Given as goal
-
-abbrev pub invariant-loop-end : goal.invariant-loop-end
-invariant-loop-end l = HasNoEnd l.bytes l.end

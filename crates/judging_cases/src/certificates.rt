@@ -1,0 +1,218 @@
+//! Certificates: what `certify` writes for an app, and what `recheck` answers to it and to changed ones.
+use crate::folder::{Held, answer_for, path_of, want};
+use std::alloc::{AllocError, Global};
+use std::marker::Sync;
+use std::rt::Files;
+use std::sync::Wait;
+use std::thread::Threads;
+use std::{fs, io};
+use vet_base::{MemFiles, Name};
+
+/// The files of the folder of the app, and where they lie here.
+const FILES: [(&str, &str); 5] = [
+    ("manifest.toml", "manifest.toml"),
+    ("layouts.toml", "layouts.toml"),
+    ("declaration.toml", "declaration.toml"),
+    ("lists.toml", "example_lists.toml"),
+    ("classes.dex", "example_other_box.dex"),
+];
+
+/// The folder `D`, and the certificate `C` where there is one. The files fail at this call, if it is not 0.
+fn folder<R: Files + AllocGlobal + Threads + Wait + Sync>(
+    rt: &R,
+    certificate: Option<Vec<u8>>,
+    failing: u64,
+) -> io::Result<MemFiles> {
+    let alloc = rt.alloc();
+    let mut held: Held = Vec::new(alloc);
+    for (name, file) in FILES {
+        held.push((path_of(alloc, name)?, fs::read(rt, file)?))?;
+    }
+    if let Some(bytes) = certificate {
+        held.push((
+            Name::from_bytes(alloc, b"C".as_slice()).map_err(want)?,
+            bytes,
+        ))?;
+    }
+    Ok(MemFiles::new(held, vec![in alloc; failing]?))
+}
+
+/// The status and the text for a command on `D` and `C` over these files.
+fn answer_to<R: AllocGlobal + Threads + Wait + Sync>(
+    rt: &R,
+    command: &str,
+    files: &mut MemFiles,
+) -> Result<String, AllocError> {
+    let alloc = rt.alloc();
+    let (status, text) = answer_for(rt, &[command, "D", "C"], files)?;
+    let text = text.as_str().trim_end();
+    format!(in alloc; "{status} {text}")
+}
+
+/// The bytes of the certificate `C`, if there is one.
+fn certificate_in(files: &MemFiles) -> Option<&[u8]> {
+    for (name, bytes) in files.files() {
+        if name.as_bytes() == b"C".as_slice() {
+            return Some(bytes.as_slice());
+        }
+    }
+    None
+}
+
+fn number_in(text: &str) -> usize {
+    text.parse::<usize>().unwrap_or(0)
+}
+
+/// The bytes of a certificate from one offset to another.
+fn part(bytes: &[u8], from: usize, to: usize) -> &[u8] {
+    match bytes.get(from..to) {
+        Some(part) => part,
+        None => b"".as_slice(),
+    }
+}
+
+/// A certificate with the digest of this one, so many rows, and their bytes in three pieces.
+fn with_rows(
+    alloc: Global,
+    whole: &[u8],
+    count: u32,
+    pieces: [&[u8]; 3],
+) -> Result<Vec<u8>, AllocError> {
+    let mut bytes = part(whole, 0, 40).to_vec(alloc)?;
+    bytes.extend_from_slice(&count.to_le_bytes())?;
+    for piece in pieces {
+        bytes.extend_from_slice(piece)?;
+    }
+    Ok(bytes)
+}
+
+/// The number of rows of a certificate.
+fn count_in(whole: &[u8]) -> u32 {
+    let mut bytes = [0; 4];
+    for (byte, from) in bytes.iter_mut().zip(part(whole, 40, 44)) {
+        *byte = *from;
+    }
+    u32::from_le_bytes(bytes)
+}
+
+/// The certificate after a change: `whole` changes nothing; `drop A B` takes the row from offset A to B out; `swap A B C`
+/// exchanges the rows from A to B and from B to C; `rows N HEX` has N rows of these bytes in place of its own; `other` is
+/// that of another app; and `nothing` has no bytes.
+fn changed(alloc: Global, whole: &[u8], other: &[u8], change: &str) -> Result<Vec<u8>, AllocError> {
+    let mut words = change.split(" ");
+    let how = words.next().unwrap_or("");
+    let first = words.next().unwrap_or("");
+    let second = words.next().unwrap_or("");
+    let third = words.next().unwrap_or("");
+    let (a, b, c) = (number_in(first), number_in(second), number_in(third));
+    let end = whole.len();
+    match how {
+        "whole" => whole.to_vec(alloc),
+        "drop" => {
+            let count = count_in(whole).saturating_sub(1);
+            let rows = [part(whole, 44, a), part(whole, b, end), b"".as_slice()];
+            with_rows(alloc, whole, count, rows)
+        }
+        "swap" => {
+            let mut bytes = part(whole, 0, a).to_vec(alloc)?;
+            bytes.extend_from_slice(part(whole, b, c))?;
+            bytes.extend_from_slice(part(whole, a, b))?;
+            bytes.extend_from_slice(part(whole, c, end))?;
+            Ok(bytes)
+        }
+        "rows" => match hex::decode(alloc, second) {
+            Ok(rows) => with_rows(
+                alloc,
+                whole,
+                u32::try_from(a).unwrap_or(0),
+                [rows.as_slice(), b"".as_slice(), b"".as_slice()],
+            ),
+            Err(_) => Ok(Vec::new(alloc)),
+        },
+        "other" => other.to_vec(alloc),
+        _ => Ok(Vec::new(alloc)),
+    }
+}
+
+/// Prints whether `certify` writes just the certificate that another program wrote, and what it answers.
+fn certified<R: Files + Print + AllocGlobal + Threads + Wait + Sync>(
+    rt: &R,
+    whole: &[u8],
+) -> io::Result<()> {
+    let mut files = folder(rt, None, 0)?;
+    let answer = answer_to(rt, "certify", &mut files)?;
+    let same = if certificate_in(&files) == Some(whole) {
+        "the same"
+    } else {
+        "another"
+    };
+    println!(rt; "certify: {answer}, {same} certificate")
+}
+
+/// Whether the certificate after the change of a case is answered as is due; where it is not, the case and the answer are printed.
+fn is_due<R: Files + Print + AllocGlobal + Threads + Wait + Sync>(
+    rt: &R,
+    whole: &[u8],
+    other: &[u8],
+    case: &str,
+) -> io::Result<bool> {
+    let alloc = rt.alloc();
+    let (change, want) = case.split_once(": ").unwrap_or((case, ""));
+    let mut files = folder(rt, Some(changed(alloc, whole, other, change)?), 0)?;
+    let found = answer_to(rt, "recheck", &mut files)?;
+    if found.as_str() == want {
+        return Ok(true);
+    }
+    println!(rt; "{case}: the answer is {found}")?;
+    Ok(false)
+}
+
+/// Prints how many changed certificates are answered as is due, and those that are not.
+fn rechecked<R: Files + Print + AllocGlobal + Threads + Wait + Sync>(
+    rt: &R,
+    whole: &[u8],
+) -> io::Result<()> {
+    let alloc = rt.alloc();
+    let other = fs::read(rt, "empty.cert")?;
+    let text = fs::read_to_string(rt, "certificate_cases.txt")?;
+    let mut due = 0u64;
+    for line in text.as_str().lines() {
+        if is_due(rt, whole, &other, line)? {
+            due = due.saturating_add(1);
+        }
+    }
+    println!(rt; "certificate_cases.txt: {due} answers that are due")
+}
+
+/// Prints what is answered where each call of the files fails in turn, and where a certificate is absent.
+fn failing<R: Files + Print + AllocGlobal + Threads + Wait + Sync>(
+    rt: &R,
+    whole: &[u8],
+) -> io::Result<()> {
+    let alloc = rt.alloc();
+    for call in 1..7 {
+        let mut files = folder(rt, None, call)?;
+        let certified = answer_to(rt, "certify", &mut files)?;
+        let left = if certificate_in(&files).is_some() {
+            "a"
+        } else {
+            "no"
+        };
+        let mut files = folder(rt, Some(whole.to_vec(alloc)?), call)?;
+        let rechecked = answer_to(rt, "recheck", &mut files)?;
+        println!(rt; "call {call} fails: {certified} with {left} certificate, {rechecked}")?;
+    }
+    let mut files = folder(rt, None, 0)?;
+    let absent = answer_to(rt, "recheck", &mut files)?;
+    println!(rt; "recheck without a certificate: {absent}")
+}
+
+/// Prints what certificates come to.
+pub fn certificates<R: Files + Print + AllocGlobal + Threads + Wait + Sync>(
+    rt: &R,
+) -> io::Result<()> {
+    let whole = fs::read(rt, "other_box.cert")?;
+    certified(rt, &whole)?;
+    rechecked(rt, &whole)?;
+    failing(rt, &whole)
+}
