@@ -56,8 +56,10 @@ fn name_of(alloc: Global, dir: &str, part: Part) -> Result<String, AllocError>
 /// The bytes of the file of a part.
 #[tactic(auto, unfolding(crate::specs::Folder::part_at))]
 fn part_in<F: Files>(alloc: Global, files: &mut F, dir: &str, part: Part) -> Result<Seq<u8>, Halt>
-    ensures value { ReadsAs (F.told files.old) (λ bytes. bytes) result (part_at (held_by (F.told files.old)) dir.now part) }
-    ensures leaves { Leaves (F.told files.old) (F.told files.new) (F.fault_count files.old) (F.fault_count files.new) result }
+    ensures value { ReadsAs (F.told files.old) (λ bytes. bytes) result
+        (part_at (held_by (F.told files.old)) dir.now part) }
+    ensures leaves { Leaves (F.told files.old) (F.told files.new) (F.fault_count files.old) (F.fault_count files.new)
+        result }
     ensures file { FailsAt (λ name. name ≡ file_name dir.now part) result }
     ensures short { IfOk result (λ bytes. IsShort bytes) }
 {
@@ -79,8 +81,10 @@ fn dexes_in<F: Files>(
     dir: &str,
     count: u32,
 ) -> Result<Seq<Seq<u8>>, Halt>
-    ensures value { ReadsAs (F.told files.old) (λ dexes. (dexes, tt)) result (dexes_at (held_by (F.told files.old)) dir.now count) }
-    ensures leaves { Leaves (F.told files.old) (F.told files.new) (F.fault_count files.old) (F.fault_count files.new) result }
+    ensures value { ReadsAs (F.told files.old) (λ dexes. (dexes, tt)) result
+        (dexes_at (held_by (F.told files.old)) dir.now count) }
+    ensures leaves { Leaves (F.told files.old) (F.told files.new) (F.fault_count files.old) (F.fault_count files.new)
+        result }
     ensures file { FailsAt (IsFileIn dir.now) result }
     ensures short { IfOk result (λ dexes. AllByRecursion IsShort dexes) }
 {
@@ -102,8 +106,10 @@ fn parts_with<F: Files>(
     count: u32,
 ) -> Result<Parts, Halt>
     requires { IsShort manifest }
-    ensures value { ReadsAs (F.told files.old) (λ parts. parts) result (parts_at (held_by (F.told files.old)) dir.now manifest count) }
-    ensures leaves { Leaves (F.told files.old) (F.told files.new) (F.fault_count files.old) (F.fault_count files.new) result }
+    ensures value { ReadsAs (F.told files.old) (λ parts. parts) result (parts_at (held_by (F.told files.old)) dir.now
+        manifest count) }
+    ensures leaves { Leaves (F.told files.old) (F.told files.new) (F.fault_count files.old) (F.fault_count files.new)
+        result }
     ensures file { FailsAt (IsFileIn dir.now) result }
     ensures short { IfOk result AreShort }
 {
@@ -138,7 +144,8 @@ fn dex_count(alloc: Global, manifest: &[u8]) -> Result<u32, Halt>
 /// is a manifest that is not of its form.
 pub fn parts_in<F: Files>(alloc: Global, files: &mut F, dir: &str) -> Result<Parts, Halt>
     ensures value { GathersAs (F.told files.old) dir.now result }
-    ensures leaves { Leaves (F.told files.old) (F.told files.new) (F.fault_count files.old) (F.fault_count files.new) result }
+    ensures leaves { Leaves (F.told files.old) (F.told files.new) (F.fault_count files.old) (F.fault_count files.new)
+        result }
     ensures file { FailsAt (IsFileIn dir.now) result }
     ensures short { IfOk result AreShort }
 {

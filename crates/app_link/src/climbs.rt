@@ -10,12 +10,12 @@ use std::alloc::Global;
 use std::collections::BTreeMap;
 use vet_base::{Memory, Name};
 
-/// The bytes that the names of all classes asked for fields may come to, each counted as often as it may be asked, and with 64
-/// more: some 20 million classes.
+/// The bytes that the names of all classes asked for fields may come to, each counted as often as it may be asked, and
+/// with 64 more: some 20 million classes.
 const ASKED: u64 = 2_147_483_648;
 
-/// What a look-up that finds nothing asks from a class on: along superclasses, as for an instance field, and through the interfaces
-/// too, as for a static one. An interface counts once for each way to it, so that is counted from above.
+/// What a look-up that finds nothing asks from a class on: along superclasses, as for an instance field, and through
+/// the interfaces too, as for a static one. An interface counts once for each way to it, so that is counted from above.
 #[derive(Clone, Copy)]
 struct Climb {
     upward: u64,

@@ -27,8 +27,8 @@ use vet_base::{Name, Stop};
 pub enum LinkFault {
     /// A class of this name stands a second time.
     TwoClasses(Name),
-    /// The class has two methods of one name and descriptor, or two fields of one name and type: the first member that stands
-    /// a second time.
+    /// The class has two methods of one name and descriptor, or two fields of one name and type: the first member that
+    /// stands a second time.
     TwoMembers(Name, Name),
     /// The application, or an activity, service or receiver, names this class, which is none of the app.
     NoClass(Name),
@@ -137,11 +137,12 @@ fn told_of(alloc: Global, fault: Fault) -> LinkFault
 
 /// Links the DEX files of an app, in their order, with its manifest and layouts.
 ///
-/// Classes stand by name, methods by class, name and descriptor, keys and statics by class, name and type. A reference to a
-/// field is looked up along superclasses, a static one then through the interfaces too.
+/// Classes stand by name, methods by class, name and descriptor, keys and statics by class, name and type. A reference
+/// to a field is looked up along superclasses, a static one then through the interfaces too.
 ///
-/// An error is the first fault, in this order: classes, members and components in file order, the hierarchy, the code by the
-/// order of methods, and then the limits of 100,000 classes, 400,000 methods, 400,000 fields and 33,554,432 code units.
+/// An error is the first fault, in this order: classes, members and components in file order, the hierarchy, the code
+/// by the order of methods, and then the limits of 100,000 classes, 400,000 methods, 400,000 fields and 33,554,432 code
+/// units.
 #[tactic(auto, using(crate::proofs::ShortCodes::short_codes, crate::proofs::OneAnswer::one_answer, crate::proofs::FirstFaults::told_first))]
 pub fn link(
     alloc: Global,
@@ -156,8 +157,10 @@ pub fn link(
     ensures app { IfOk result (λ app. IsApp dexes.now manifest.now layouts.now app) }
     ensures sound { IfOk result SoundApp }
     ensures fault { IfErr result (λ f. f ≢ LinkFault.Memory → FirstLinkFault dexes.now manifest.now layouts.now f) }
-    ensures one { (app : App) → IsApp dexes.now manifest.now layouts.now app → (result ≡ Ok app) ⊎ (result ≡ Err LinkFault.Memory) }
-    ensures first { (f : LinkFault) → FirstLinkFault dexes.now manifest.now layouts.now f → (result ≡ Err f) ⊎ (result ≡ Err LinkFault.Memory) }
+    ensures one { (app : App) → IsApp dexes.now manifest.now layouts.now app → (result ≡ Ok app)
+        ⊎ (result ≡ Err LinkFault.Memory) }
+    ensures first { (f : LinkFault) → FirstLinkFault dexes.now manifest.now layouts.now f → (result ≡ Err f)
+        ⊎ (result ≡ Err LinkFault.Memory) }
 
     // Files that are an app have no fault.
     ensures law { OneAnswer dexes.now manifest.now layouts.now }

@@ -118,7 +118,8 @@ pub fn source(view: SummaryView) -> Option<u8>
 
 /// The category of the sink, and the positions at which values come to it.
 pub fn sink<'a>(view: SummaryView<'a>) -> Option<&'a (u8, Seq<u32>)>
-    ensures { (at : MethodRef) (is_static : Bool) → option_copied result ≡ (shown_summary view.entry at is_static).sink }
+    ensures { (at : MethodRef) (is_static : Bool) → option_copied result
+        ≡ (shown_summary view.entry at is_static).sink }
 {
     match view {
         SummaryView::Row(row) => row.sink.as_ref(),

@@ -78,7 +78,8 @@ fn by_sources<S: Sink>(
     sources: &[(u32, u8)],
     out: &mut S,
 ) -> Result<(), S::Refusal>
-    ensures { OnOk result (out.new ≡ fold S.then out.old (flat_map (by_source start.now register position object) sources.now)) }
+    ensures { OnOk result (out.new ≡ fold S.then out.old (flat_map (by_source start.now register position object)
+        sources.now)) }
 {
     for source in sources {
         by_source(start, register, position, object, *source, out)?;
@@ -122,7 +123,8 @@ fn at_position<S: Sink>(
     position: Option<u32>,
     out: &mut S,
 ) -> Result<(), S::Refusal>
-    ensures { OnOk result (out.new ≡ fold S.then out.old (at_position start.now sources.now params.now register position)) }
+    ensures { OnOk result (out.new ≡ fold S.then out.old (at_position start.now sources.now params.now register
+        position)) }
 {
     match position {
         None => Ok(()),
@@ -173,7 +175,8 @@ pub(crate) fn at_registers<S: Sink>(
     out: &mut S,
 ) -> Result<(), S::Refusal>
     requires { (method.now.registers - method.now.ins) + method.now.ins < 2 ^ 32 }
-    ensures { OnOk result (out.new ≡ fold S.then out.old (for_below (at_index start.now sources.now method.now) method.now.ins)) }
+    ensures { OnOk result (out.new ≡ fold S.then out.old (for_below (at_index start.now sources.now method.now)
+        method.now.ins)) }
 {
     for index in 0..method.ins {
         at_index(start, sources, method, index, out)?;

@@ -41,7 +41,8 @@ struct Argument {
 
 impl Argument {
     fn passes<S: Sink>(&self, content: Content, out: &mut S) -> Result<(), S::Refusal>
-        ensures { OnOk result (out.new ≡ S.then out.old (passed self.now.node self.now.by self.now.register self.now.to content)) }
+        ensures { OnOk result (out.new ≡ S.then out.old (passed self.now.node self.now.by self.now.register self.now.to
+            content)) }
     {
         out.put(Conclusion {
             rule: 24,
@@ -77,7 +78,8 @@ fn pass_register<F: Facts, S: Sink>(
     to: u32,
     out: &mut S,
 ) -> Result<(), S::Refusal>
-    ensures { OnOk result (out.new ≡ fold S.then out.old (argument_passed (F.hits facts.now) call.now.node call.now.by call.now.kind index (Some register) (Some to))) }
+    ensures { OnOk result (out.new ≡ fold S.then out.old (argument_passed (F.hits facts.now) call.now.node call.now.by
+        call.now.kind index (Some register) (Some to))) }
 {
     let with = Argument {
         node: call.node,
@@ -98,7 +100,8 @@ fn pass_argument<F: Facts, S: Sink>(
     index: usize,
     out: &mut S,
 ) -> Result<(), S::Refusal>
-    ensures { OnOk result (out.new ≡ fold S.then out.old (argument_at call.now.app.now (F.hits facts.now) call.now.node call.now.by call.now.kind call.now.args.now index)) }
+    ensures { OnOk result (out.new ≡ fold S.then out.old (argument_at call.now.app.now (F.hits facts.now) call.now.node
+        call.now.by call.now.kind call.now.args.now index)) }
 {
     match call.args.get(index) {
         None => Ok(()),
@@ -115,7 +118,10 @@ fn pass_arguments<F: Facts, S: Sink>(
     call: &Entering<'_>,
     out: &mut S,
 ) -> Result<(), S::Refusal>
-    ensures { OnOk result (out.new ≡ fold S.then out.old (for_below (argument_at call.now.app.now (F.hits facts.now) call.now.node call.now.by call.now.kind call.now.args.now) (length call.now.args.now))) }
+    ensures { OnOk result
+        (out.new ≡ fold S.then out.old
+        (for_below (argument_at call.now.app.now (F.hits facts.now) call.now.node call.now.by call.now.kind
+        call.now.args.now) (length call.now.args.now))) }
 {
     for index in 0..call.args.len() {
         pass_argument(facts, call, index, out)?;
@@ -163,7 +169,8 @@ pub fn calls<F: Facts, S: Sink>(
     out: &mut S,
 ) -> Result<(), S::Refusal>
     requires { SoundApp app.now }
-    ensures { OnOk result (out.new ≡ fold S.then out.old (calls_on app.now (F.hits facts.now) node by (step_here app.now node))) }
+    ensures { OnOk result (out.new ≡ fold S.then out.old (calls_on app.now (F.hits facts.now) node by
+        (step_here app.now node))) }
 {
     match step_at(app, node.by.method, node.pc) {
         None => Ok(()),

@@ -37,7 +37,8 @@ fn pass_at<S: Sink>(
     index: usize,
     out: &mut S,
 ) -> Result<(), S::Refusal>
-    ensures { OnOk result (out.new ≡ fold S.then out.old (passed_at call.now.app.now call.now.node call.now.by call.now.kind call.now.args.now register content index)) }
+    ensures { OnOk result (out.new ≡ fold S.then out.old (passed_at call.now.app.now call.now.node call.now.by
+        call.now.kind call.now.args.now register content index)) }
 {
     if is_argument(call.args, index, register) && is_passed(call.kind, index, content) {
         pass_to(
@@ -63,7 +64,10 @@ fn pass_all<S: Sink>(
     content: Content,
     out: &mut S,
 ) -> Result<(), S::Refusal>
-    ensures { OnOk result (out.new ≡ fold S.then out.old (for_below (passed_at call.now.app.now call.now.node call.now.by call.now.kind call.now.args.now register content) (length call.now.args.now))) }
+    ensures { OnOk result
+        (out.new ≡ fold S.then out.old
+        (for_below (passed_at call.now.app.now call.now.node call.now.by call.now.kind call.now.args.now register
+        content) (length call.now.args.now))) }
 {
     for index in 0..call.args.len() {
         pass_at(call, register, content, index, out)?;
@@ -84,7 +88,8 @@ struct Callees<'a> {
 impl<'a> Join for Callees<'a> {
     ghost ready = { λ j. SoundApp j.app.now };
 
-    ghost gives = { λ j row. callee_gets j.app.now j.held.node j.act.now j.kind j.args.now j.held.register j.held.content row };
+    ghost gives = { λ j row. callee_gets j.app.now j.held.node j.act.now j.kind j.args.now j.held.register
+        j.held.content row };
 
     fn give<S: Sink>(&self, row: Row, out: &mut S) -> Result<(), S::Refusal> {
         match row {
@@ -116,7 +121,8 @@ pub fn pass_content<F: Facts, S: Sink>(
     out: &mut S,
 ) -> Result<(), S::Refusal>
     requires { SoundApp app.now }
-    ensures { OnOk result (out.new ≡ fold S.then out.old (content_passed app.now (F.hits facts.now) held.node held.register held.content act.now)) }
+    ensures { OnOk result (out.new ≡ fold S.then out.old (content_passed app.now (F.hits facts.now) held.node
+        held.register held.content act.now)) }
 {
     match act {
         Act::Call(kind, _, args) => {

@@ -145,7 +145,8 @@ pub fn exit<F: Facts, S: Sink>(
     out: &mut S,
 ) -> Result<(), S::Refusal>
     requires { SoundApp app.now }
-    ensures { OnOk result (out.new ≡ fold S.then out.old (flat_map (caller_takes app.now by how content) (F.hits facts.now (Key.CallersOf by)))) }
+    ensures { OnOk result (out.new ≡ fold S.then out.old (flat_map (caller_takes app.now by how content)
+        (F.hits facts.now (Key.CallersOf by)))) }
 {
     for_each_hit(
         facts,

@@ -94,7 +94,8 @@ fn affect<F: Facts, S: Sink>(
     node: Node,
     out: &mut S,
 ) -> Result<(), S::Refusal>
-    ensures { OnOk result (out.new ≡ fold S.then out.old (registers_get (F.hits facts.now) effect.by node effect.site effect.path effect.label)) }
+    ensures { OnOk result (out.new ≡ fold S.then out.old (registers_get (F.hits facts.now) effect.by node effect.site
+        effect.path effect.label)) }
 {
     for_each_hit(
         facts,
@@ -115,7 +116,8 @@ struct Callers<'a, F> {
 impl<'a, F: Facts> Join for Callers<'a, F> {
     ghost ready = { λ j. SoundApp j.app.now };
 
-    ghost gives = { λ j row. caller_gets j.app.now (F.hits j.facts.now) j.effect.by j.effect.site j.effect.path j.effect.label row };
+    ghost gives = { λ j row. caller_gets j.app.now (F.hits j.facts.now) j.effect.by j.effect.site j.effect.path
+        j.effect.label row };
 
     fn give<S: Sink>(&self, row: Row, out: &mut S) -> Result<(), S::Refusal> {
         match row {
@@ -139,7 +141,8 @@ pub fn from_effect<F: Facts, S: Sink>(
     out: &mut S,
 ) -> Result<(), S::Refusal>
     requires { SoundApp app.now }
-    ensures { OnOk result (out.new ≡ fold S.then out.old (effect_gives app.now (F.hits facts.now) effect.by effect.site effect.path effect.label)) }
+    ensures { OnOk result (out.new ≡ fold S.then out.old (effect_gives app.now (F.hits facts.now) effect.by effect.site
+        effect.path effect.label)) }
 {
     for_each_hit(
         facts,
@@ -267,7 +270,8 @@ pub fn from_pointer<F: Facts, S: Sink>(
     out: &mut S,
 ) -> Result<(), S::Refusal>
     requires { SoundApp app.now }
-    ensures { OnOk result (out.new ≡ fold S.then out.old (bodies_taint (F.hits facts.now) pointer.node pointer.register pointer.site (initialisers app.now act.now))) }
+    ensures { OnOk result (out.new ≡ fold S.then out.old (bodies_taint (F.hits facts.now) pointer.node pointer.register
+        pointer.site (initialisers app.now act.now))) }
 {
     let mut walk = act_initialisers(app, act);
     while let Some((body, rest)) = next_initialiser(app, walk) {

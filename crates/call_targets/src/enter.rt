@@ -135,7 +135,9 @@ fn use_row<S: Sink>(
     key: SummaryId,
     out: &mut S,
 ) -> Result<(), S::Refusal>
-    ensures { OnOk result (out.new ≡ fold S.then out.old (uses_row premises call.now.node key (summary call.now.lists.now key call.now.at.now (is_static_of call.now.kind)))) }
+    ensures { OnOk result
+        (out.new ≡ fold S.then out.old (uses_row premises call.now.node key
+        (summary call.now.lists.now key call.now.at.now (is_static_of call.now.kind)))) }
 {
     match summary_of(call.lists.lists(), key) {
         None => Ok(()),
@@ -163,7 +165,8 @@ pub fn look_up<S: Sink>(
 ) -> Result<(), S::Refusal>
     requires sound { SoundApp call.now.app.now }
     requires lists { SoundLists call.now.lists.now }
-    ensures { OnOk result (out.new ≡ fold S.then out.old (looks_up call.now.app.now call.now.lists.now premises call.now.node call.now.kind call.now.at.now class.now)) }
+    ensures { OnOk result (out.new ≡ fold S.then out.old (looks_up call.now.app.now call.now.lists.now premises
+        call.now.node call.now.kind call.now.at.now class.now)) }
 {
     let is_static = is_static_call(call.kind);
     match call

@@ -18,7 +18,8 @@ use rule_ground::{Premises, Sink};
 fn come_by_name<S: Sink>(call: &Call<'_>, to: Target, out: &mut S) -> Result<(), S::Refusal>
     requires sound { SoundApp call.now.app.now }
     requires lists { SoundLists call.now.lists.now }
-    ensures { OnOk result (out.new ≡ fold S.then out.old (named_to call.now.app.now call.now.lists.now call.now.node call.now.kind call.now.at.now (shown_target to.entry))) }
+    ensures { OnOk result (out.new ≡ fold S.then out.old (named_to call.now.app.now call.now.lists.now call.now.node
+        call.now.kind call.now.at.now (shown_target to.entry))) }
 {
     let premises = Premises::One(Row::Reached(call.node));
     match to {

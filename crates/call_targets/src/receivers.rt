@@ -43,7 +43,8 @@ fn come_by_class<S: Sink>(
 ) -> Result<(), S::Refusal>
     requires sound { SoundApp call.now.app.now }
     requires lists { SoundLists call.now.lists.now }
-    ensures { OnOk result (out.new ≡ fold S.then out.old (class_to call.now.app.now call.now.lists.now call.now.node receiver.register receiver.site call.now.kind call.now.at.now (shown_target to.entry))) }
+    ensures { OnOk result (out.new ≡ fold S.then out.old (class_to call.now.app.now call.now.lists.now call.now.node
+        receiver.register receiver.site call.now.kind call.now.at.now (shown_target to.entry))) }
 {
     let premises = Premises::One(Row::Points(call.node, receiver.register, receiver.site));
     match to {
@@ -73,7 +74,8 @@ fn by_class<S: Sink>(
     requires sound { SoundApp call.now.app.now }
     requires lists { SoundLists call.now.lists.now }
     requires caller { call.now.node.by.method < length call.now.app.now.methods }
-    ensures { OnOk result (out.new ≡ fold S.then out.old (class_on call.now.app.now call.now.lists.now call.now.node receiver.register receiver.site call.now.kind call.now.at.now (option_copied class.entry))) }
+    ensures { OnOk result (out.new ≡ fold S.then out.old (class_on call.now.app.now call.now.lists.now call.now.node
+        receiver.register receiver.site call.now.kind call.now.at.now (option_copied class.entry))) }
 {
     match class {
         None => Ok(()),
@@ -101,7 +103,8 @@ pub fn received<S: Sink>(
     requires sound { SoundApp app.now }
     requires lists { SoundLists lists.now }
     requires caller { receiver.node.by.method < length app.now.methods }
-    ensures { OnOk result (out.new ≡ fold S.then out.old (receives app.now lists.now receiver.node receiver.register receiver.site act.now)) }
+    ensures { OnOk result (out.new ≡ fold S.then out.old (receives app.now lists.now receiver.node receiver.register
+        receiver.site act.now)) }
 {
     match act {
         Act::Call(kind, at, args) => {

@@ -150,7 +150,8 @@ pub fn read_cert(alloc: Global, bytes: &[u8]) -> Result<Cert, Stop<CertFault>>
     ensures fault { IfErr result (λ e. IsStopOf bytes.now e) }
 
     // A certificate is read, unless memory runs out.
-    ensures only { (digest : List ℕ) (rows : List RowValue) → IsCert bytes.now digest rows → OnErr result (result ≡ Err Stop.Memory) }
+    ensures only { (digest : List ℕ) (rows : List RowValue) → IsCert bytes.now digest rows
+        → OnErr result (result ≡ Err Stop.Memory) }
 
     // What was read can be written.
     ensures known { IfOk result (λ c. All IsKnown c.rows) }

@@ -190,8 +190,8 @@ fn a_sink_that_fails_after_a_read_that_failed(rt: HostRuntime) -> Result<(), Fai
     Ok(())
 }
 
-/// The status and the text for a command on the folder `D` of empty files and a certificate `k/C` of these bytes, where there
-/// is one, with how many files there are then.
+/// The status and the text for a command on the folder `D` of empty files and a certificate `k/C` of these bytes, where
+/// there is one, with how many files there are then.
 fn with_certificate<R: AllocGlobal + Threads + Wait + Sync>(
     rt: &R,
     command: &str,

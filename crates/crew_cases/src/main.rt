@@ -1,7 +1,7 @@
 //! An app is judged, certified and decided by several workers: that the work is spread over threads, that each worker
-//! posts what it finds, and that what comes of it is the same for each number of workers, also where a limit is passed, a
-//! worker is held or there are more workers than rows. And `serve` over offices, keepers and doors in memory: of a file of
-//! runs, how many end as is due.
+//! posts what it finds, and that what comes of it is the same for each number of workers, also where a limit is passed,
+//! a worker is held or there are more workers than rows. And `serve` over offices, keepers and doors in memory: of a
+//! file of runs, how many end as is due.
 #![tactic(auto)]
 
 mod desk;
@@ -37,8 +37,9 @@ fn crew_of<'a, R>(rt: &'a R, gate: &'a Meeting, workers: u8) -> Crew<'a, R, Meet
     }
 }
 
-/// Judges the app that lies here by two workers: by itself, for `check D 2`, and for a decision of the desk of an office
-/// with two. The crews of these have one, so that the words and the office say how many work. Prints whether they met.
+/// Judges the app that lies here by two workers: by itself, for `check D 2`, and for a decision of the desk of an
+/// office with two. The crews of these have one, so that the words and the office say how many work. Prints whether
+/// they met.
 fn meetings<R: Files + Print + AllocGlobal + Threads + Wait + Sync>(rt: &R) -> io::Result<()> {
     let alloc = rt.alloc();
     let parts = parts_here(rt)?;

@@ -60,8 +60,8 @@ fn set_failing(alloc: Global, run: &mut Run, line: &str) -> Result<(), AllocErro
     Ok(())
 }
 
-/// Takes a line: `## TITLE` begins a run anew; `words WORD..`; `office TEXT` and `lists TEXT`, the files that are there;
-/// `come N`; `files fail at N..`, `door fails at N..`, `sink fails at N..`.
+/// Takes a line: `## TITLE` begins a run anew; `words WORD..`; `office TEXT` and `lists TEXT`, the files that are
+/// there; `come N`; `files fail at N..`, `door fails at N..`, `sink fails at N..`.
 pub fn set(alloc: Global, run: &mut Run, line: &str) -> Result<(), AllocError> {
     if let Some(title) = line.strip_prefix("## ") {
         *run = new_run(alloc);

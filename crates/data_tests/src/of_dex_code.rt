@@ -173,8 +173,8 @@ fn next_lines_of_switches(rt: HostRuntime) -> Result<(), Fail> {
     Ok(())
 }
 
-/// The units of so many `packed-switch` that share one table of so many entries, a `return-void` behind them and the table. Each
-/// entry goes to the instruction behind the switch.
+/// The units of so many `packed-switch` that share one table of so many entries, a `return-void` behind them and the
+/// table. Each entry goes to the instruction behind the switch.
 fn sharing_switches(alloc: Global, switches: u32, entries: u16) -> Result<Vec<u16>, AllocError>
     requires { switches < 2 ^ 16 }
 {
@@ -193,7 +193,8 @@ fn sharing_switches(alloc: Global, switches: u32, entries: u16) -> Result<Vec<u1
     Ok(units)
 }
 
-/// Any table serves eight switches. A ninth is too much for a table of 200 entries, and 45,000 would list 1,440,000,000 targets.
+/// Any table serves eight switches. A ninth is too much for a table of 200 entries, and 45,000 would list 1,440,000,000
+/// targets.
 #[test]
 fn switches_that_share_a_table(rt: HostRuntime) -> Result<(), Fail> {
     let alloc = rt.alloc();
@@ -244,7 +245,8 @@ fn nops(alloc: Global, count: usize) -> Result<RawCode, AllocError>
     code_of(alloc, &units)
 }
 
-/// The code of so many lines of a unit each, and a try over the first of them with so many handlers and maybe one for all types.
+/// The code of so many lines of a unit each, and a try over the first of them with so many handlers and maybe one for
+/// all types.
 fn with_try(
     alloc: Global,
     lines: usize,
@@ -265,8 +267,8 @@ fn with_try(
     Ok(code)
 }
 
-/// 16 handlers over all lines are as many as are allowed; a few lines may have more. 32,500 over 32,500 lines would list
-/// 1,056,250,000.
+/// 16 handlers over all lines are as many as are allowed; a few lines may have more. 32,500 over 32,500 lines would
+/// list 1,056,250,000.
 #[test]
 fn handlers_of_all_lines(rt: HostRuntime) -> Result<(), Fail> {
     let alloc = rt.alloc();

@@ -81,9 +81,9 @@ fn told(alloc: Global, role: Role, reply: &Reply) -> Result<Answer, Memory>
     }
 }
 
-/// What a party in this role is told of a reply: 201 for a case that was added, 403, 404 or 409 for a refusal, else 200.
-/// The body is JSON, compact and with keys in byte order, and for a report its own bytes, which are not copied. Days
-/// count from 1 January 1970, and each byte of a name stands for the character of that number.
+/// What a party in this role is told of a reply: 201 for a case that was added, 403, 404 or 409 for a refusal, else
+/// 200. The body is JSON, compact and with keys in byte order, and for a report its own bytes, which are not copied.
+/// Days count from 1 January 1970, and each byte of a name stands for the character of that number.
 pub fn answer_of(alloc: Global, role: Role, reply: &Reply) -> Result<Answer, Memory>
     ensures told { IfOk result (λ answer. answer ≡ answer_of role reply.now) }
     ensures coded { IfOk result (λ answer. IsStatusCode answer.status) }

@@ -60,7 +60,9 @@ fn first_named<'b, 'f>(
     name: &[u8],
 ) -> Option<(&'b [u8], &'f [HeaderSpan])>
     requires { All (IsHeaderWithin (length bytes.now)) fields.now }
-    ensures values { MatchOption result (values_of name.now (map (header_bytes bytes.now) fields.now) ≡ []) (λ found. values_of name.now (map (header_bytes bytes.now) fields.now) ≡ found.0.now ∷ values_of name.now (map (header_bytes bytes.now) found.1.now)) }
+    ensures values { MatchOption result (values_of name.now (map (header_bytes bytes.now) fields.now) ≡ [])
+        (λ found. values_of name.now (map (header_bytes bytes.now) fields.now) ≡ found.0.now ∷ values_of name.now
+        (map (header_bytes bytes.now) found.1.now)) }
     ensures within { MatchOption result ⊤ (λ found. All (IsHeaderWithin (length bytes.now)) found.1.now) }
 {
     for (place, field) in fields.iter().enumerate() {
@@ -132,7 +134,8 @@ pub(crate) fn length_by_fields(
 /// The token that comes with these fields.
 pub(crate) fn token<'b>(bytes: &'b [u8], fields: &[HeaderSpan]) -> Option<&'b [u8]>
     requires { All (IsHeaderWithin (length bytes.now)) fields.now }
-    ensures { option_map (λ value. value.now) result ≡ first_of (values_of desk_token (map (header_bytes bytes.now) fields.now)) }
+    ensures { option_map (λ value. value.now) result
+        ≡ first_of (values_of desk_token (map (header_bytes bytes.now) fields.now)) }
 {
     match first_named(bytes, fields, desk_token()) {
         None => None,

@@ -33,11 +33,15 @@ struct Parts {
 /// Parses bytes that are to be a head as a whole, with room for every field that they can hold.
 fn parts_of(alloc: Global, bytes: &[u8]) -> Result<Parts, HttpFault>
     requires { length bytes.now ≤ 16384 }
-    ensures ok { IfOk result (λ parts. (head : RequestHead) × IsWholeHead bytes.now head × (length head.fields ≤ 64) × IsRequestAt bytes.now parts.fields.items parts.spans head) }
-    ensures within { IfOk result (λ parts. IsRequestWithin bytes.now parts.fields.items parts.spans × (parts.spans.len ≡ length bytes.now)) }
+    ensures ok { IfOk result (λ parts. (head : RequestHead) × IsWholeHead bytes.now head × (length head.fields ≤ 64)
+        × IsRequestAt bytes.now parts.fields.items parts.spans head) }
+    ensures within { IfOk result (λ parts. IsRequestWithin bytes.now parts.fields.items parts.spans
+        × (parts.spans.len ≡ length bytes.now)) }
     ensures bad { result ≡ Err HttpFault.Bad → IsNoHead bytes.now }
-    ensures big { result ≡ Err HttpFault.BigHead → (head : RequestHead) × IsWholeHead bytes.now head × (64 < length head.fields) }
-    ensures other { IfErr result (λ fault. (fault ≡ HttpFault.Bad) ⊎ (fault ≡ HttpFault.BigHead) ⊎ (fault ≡ HttpFault.Memory)) }
+    ensures big { result ≡ Err HttpFault.BigHead → (head : RequestHead) × IsWholeHead bytes.now head
+        × (64 < length head.fields) }
+    ensures other { IfErr result (λ fault. (fault ≡ HttpFault.Bad) ⊎ (fault ≡ HttpFault.BigHead)
+        ⊎ (fault ≡ HttpFault.Memory)) }
 {
     let mut fields = vec![in alloc; EMPTY_HEADER_SPAN; bytes.len()]?;
     match parse_request(bytes, fields.as_mut_slice()) {

@@ -147,7 +147,8 @@ fn reply_head(
 /// Writes all the bytes, or a front of them where the link fails.
 fn write_all<L: Link>(link: &mut L, bytes: &[u8]) -> Result<(), LinkFault>
     ensures all { OnOk result (Wrote (L.told link.old) (L.told link.new) bytes.now) }
-    ensures front { OnErr result ((n : ℕ) × (n ≤ length bytes.now) × Wrote (L.told link.old) (L.told link.new) (take n bytes.now)) }
+    ensures front { OnErr result ((n : ℕ) × (n ≤ length bytes.now) × Wrote (L.told link.old) (L.told link.new)
+        (take n bytes.now)) }
     ensures cause { OnErr result (HasRisen (L.fault_count link.old) (L.fault_count link.new)) }
     ensures never_falls { L.fault_count link.old ≤ L.fault_count link.new }
 {
@@ -177,11 +178,12 @@ fn write_both<L: Link>(link: &mut L, head: &[u8], body: &[u8]) -> Result<(), Lin
     Ok(())
 }
 
-/// Writes a reply, after which the connection is to be closed. After `Failed` a front of its bytes was written, and after
-/// `Memory` nothing.
+/// Writes a reply, after which the connection is to be closed. After `Failed` a front of its bytes was written, and
+/// after `Memory` nothing.
 pub fn write_reply<L: Link>(alloc: Global, link: &mut L, answer: &Answer) -> Result<(), SendFault>
     requires { IsStatusCode answer.now.status }
-    ensures written { Sends (L.told link.old) (L.told link.new) (reply_bytes answer.now.status answer.now.is_text answer.now.body) result }
+    ensures written { Sends (L.told link.old) (L.told link.new) (reply_bytes answer.now.status answer.now.is_text
+        answer.now.body) result }
     ensures cause { result ≡ Err SendFault.Failed → HasRisen (L.fault_count link.old) (L.fault_count link.new) }
     ensures never_falls { L.fault_count link.old ≤ L.fault_count link.new }
 {

@@ -19,10 +19,13 @@ fn read_head<L: Link>(link: &mut L, bytes: &mut Vec<u8>) -> Result<usize, HttpFa
     requires { bytes.old.items ≡ [] }
     ensures takes { Takes (L.told link.old) [] (L.told link.new) bytes.new.items }
     ensures ok { IfOk result (λ end. IsHeadEnd bytes.new.items end × (end ≤ HEAD_LIMIT)) }
-    ensures ended { result ≡ Err HttpFault.Ended → (length bytes.new.items < HEAD_LIMIT) × HasNoEnd bytes.new.items (length bytes.new.items) × IsAtEnd (L.told link.new) }
-    ensures big { result ≡ Err HttpFault.BigHead → (length bytes.new.items ≡ HEAD_LIMIT) × HasNoEnd bytes.new.items HEAD_LIMIT }
+    ensures ended { result ≡ Err HttpFault.Ended → (length bytes.new.items < HEAD_LIMIT) × HasNoEnd bytes.new.items
+        (length bytes.new.items) × IsAtEnd (L.told link.new) }
+    ensures big { result ≡ Err HttpFault.BigHead → (length bytes.new.items ≡ HEAD_LIMIT)
+        × HasNoEnd bytes.new.items HEAD_LIMIT }
     ensures cause { result ≡ Err HttpFault.ReadFault → HasRisen (L.fault_count link.old) (L.fault_count link.new) }
-    ensures other { IfErr result (λ fault. (fault ≢ HttpFault.Bad) × (fault ≢ HttpFault.NoLength) × (fault ≢ HttpFault.TooLong)) }
+    ensures other { IfErr result (λ fault. (fault ≢ HttpFault.Bad) × (fault ≢ HttpFault.NoLength)
+        × (fault ≢ HttpFault.TooLong)) }
     ensures never_falls { L.fault_count link.old ≤ L.fault_count link.new }
 {
     while bytes.len() < HEAD_LIMIT {
@@ -45,7 +48,8 @@ fn read_body<L: Link>(link: &mut L, body: &mut Vec<u8>, count: usize) -> Result<
     ensures ok { OnOk result (count ≤ length body.new.items) }
     ensures ended { result ≡ Err HttpFault.Ended → (length body.new.items < count) × IsAtEnd (L.told link.new) }
     ensures cause { result ≡ Err HttpFault.ReadFault → HasRisen (L.fault_count link.old) (L.fault_count link.new) }
-    ensures other { IfErr result (λ fault. (fault ≡ HttpFault.Ended) ⊎ (fault ≡ HttpFault.ReadFault) ⊎ (fault ≡ HttpFault.Memory)) }
+    ensures other { IfErr result (λ fault. (fault ≡ HttpFault.Ended) ⊎ (fault ≡ HttpFault.ReadFault)
+        ⊎ (fault ≡ HttpFault.Memory)) }
     ensures never_falls { L.fault_count link.old ≤ L.fault_count link.new }
 {
     while body.len() < count {
@@ -69,9 +73,9 @@ fn behind(alloc: Global, bytes: &[u8], place: usize) -> Result<Vec<u8>, HttpFaul
 }
 
 /// Reads one request. However the input is cut into pieces, the answer is that of the bytes that come: the request with
-/// which they begin, or their first fault in the order `BigHead`, `Bad`, `NoLength`, `TooLong`, `Ended`. Memory grows with
-/// the bytes that came and not with the length that is announced. What is read behind the request is lost, so a connection
-/// serves one.
+/// which they begin, or their first fault in the order `BigHead`, `Bad`, `NoLength`, `TooLong`, `Ended`. Memory grows
+/// with the bytes that came and not with the length that is announced. What is read behind the request is lost, so a
+/// connection serves one.
 pub fn read_request<L: Link>(alloc: Global, link: &mut L) -> Result<Asked, HttpFault>
     ensures answer { IfSome (L.told link.old) (λ told. Answers told.coming result) }
     ensures taken { TakesSome (L.told link.old) (L.told link.new) }

@@ -16,11 +16,12 @@ pub enum DoorFault {
 
 /// Connections, one after another. Reads and writes act on the present one.
 pub trait Door: Link {
-    /// Ends the present conversation and opens the next one. False where no more come, which a telling door says exactly
-    /// where it has none left.
+    /// Ends the present conversation and opens the next one. False where no more come, which a telling door says
+    /// exactly where it has none left.
     fn next(&mut self, alloc: Global, port: u16) -> Result<bool, DoorFault>
         ensures told { Opens (Self.told self.old) (Self.told self.new) result }
-        ensures cause { result ≡ Err DoorFault.Failed → HasRisen (Self.fault_count self.old) (Self.fault_count self.new) }
+        ensures cause { result ≡ Err DoorFault.Failed → HasRisen (Self.fault_count self.old)
+            (Self.fault_count self.new) }
         ensures never_falls { Self.fault_count self.old ≤ Self.fault_count self.new };
 }
 

@@ -143,7 +143,8 @@ impl Link for MemDoor {
         ensures cause { OnErr result (HasRisen self.old.calls.faults self.new.calls.faults) }
         ensures never_falls { self.old.calls.faults ≤ self.new.calls.faults }
         ensures count { IfOk result (λ n. n ≡ min (length bytes.now) self.old.present.room) }
-        ensures numbered { is_err result ≡ fails_next self.old.calls || (not (length bytes.now == 0) && (self.old.present.room == 0)) }
+        ensures numbered { is_err result ≡ fails_next self.old.calls ||
+            (not (length bytes.now == 0) && (self.old.present.room == 0)) }
         ensures counted { self.new.calls ≡ counted (is_err result) self.old.calls }
         ensures sizes { self.new.sizes ≡ self.old.sizes }
     {

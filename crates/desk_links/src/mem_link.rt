@@ -28,9 +28,9 @@ impl Model for MemLink {
 
 impl MemLink {
     /// A link in which this comes. The n-th read gives at most as many bytes as the n-th of the sizes in `pieces` says,
-    /// where 0 counts as 1, and later reads as many as there is room for. It takes at most `room` bytes; a write of some
-    /// bytes fails where no room is left. The calls of `read` and `write` are numbered from 1, and the n-th fails where n
-    /// is in `failing`.
+    /// where 0 counts as 1, and later reads as many as there is room for. It takes at most `room` bytes; a write of
+    /// some bytes fails where no room is left. The calls of `read` and `write` are numbered from 1, and the n-th fails
+    /// where n is in `failing`.
     pub fn new(
         alloc: Global,
         input: Vec<u8>,
@@ -82,7 +82,8 @@ impl Link for MemLink {
         ensures cause { OnErr result (HasRisen self.old.calls.faults self.new.calls.faults) }
         ensures never_falls { self.old.calls.faults ≤ self.new.calls.faults }
         ensures count { IfOk result (λ n. n ≡ min (length bytes.now) self.old.tape.room) }
-        ensures numbered { is_err result ≡ fails_next self.old.calls || (not (length bytes.now == 0) && (self.old.tape.room == 0)) }
+        ensures numbered { is_err result ≡ fails_next self.old.calls ||
+            (not (length bytes.now == 0) && (self.old.tape.room == 0)) }
         ensures counted { self.new.calls ≡ counted (is_err result) self.old.calls }
         ensures sizes { self.new.sizes ≡ self.old.sizes }
     {

@@ -51,13 +51,17 @@ where
     // The keeper's cases, where it tells them, are those of a desk.
     requires { TellsDocket (K.told outside.old.keeper) }
 
-    // The exit status, the printed text and what became of cases and connections are those that are due to the words, unless
-    // a read, the door or the put failed in this very call, or memory ran out.
+    // The exit status, the printed text and what became of cases and connections are those that are due to the words,
+    // unless a read, the door or the put failed in this very call, or memory ran out.
     ensures answers { Answers (parse (map string_bytes words.now)) (C.told outside.old.clock)
-        (seen (F.told outside.old.files) (F.fault_count outside.old.files) (O.taken outside.old.out) (O.fault_count outside.old.out)
-        (K.told outside.old.keeper) (K.fault_count outside.old.keeper) (D.Link.told outside.old.door) (D.Link.fault_count outside.old.door))
-        (seen (F.told outside.new.files) (F.fault_count outside.new.files) (O.taken outside.new.out) (O.fault_count outside.new.out)
-        (K.told outside.new.keeper) (K.fault_count outside.new.keeper) (D.Link.told outside.new.door) (D.Link.fault_count outside.new.door))
+        (seen (F.told outside.old.files) (F.fault_count outside.old.files) (O.taken outside.old.out)
+        (O.fault_count outside.old.out)
+        (K.told outside.old.keeper) (K.fault_count outside.old.keeper) (D.Link.told outside.old.door)
+        (D.Link.fault_count outside.old.door))
+        (seen (F.told outside.new.files) (F.fault_count outside.new.files) (O.taken outside.new.out)
+        (O.fault_count outside.new.out)
+        (K.told outside.new.keeper) (K.fault_count outside.new.keeper) (D.Link.told outside.new.door)
+        (D.Link.fault_count outside.new.door))
         (option_map (λ code. status (exit_status code)) result) }
     ensures docket { TellsDocket (K.told outside.new.keeper) }
 {
@@ -71,8 +75,8 @@ where
     Some(ExitCode::from(status))
 }
 
-/// Serves over the system's files, output and clock, a port of this machine, and the keeper of the cases in `desk.sqlite`
-/// in the folder of the office; `None` where the words ask for no desk.
+/// Serves over the system's files, output and clock, a port of this machine, and the keeper of the cases in
+/// `desk.sqlite` in the folder of the office; `None` where the words ask for no desk.
 fn served_here<R, K>(rt: R, keepers: &K, words: &[String], seed: u64) -> Option<ExitCode>
 where
     R: SystemFiles + Print + Net + SystemClock + AllocGlobal + Threads + Wait + Sync + Copy + Drop,
@@ -94,8 +98,8 @@ where
 }
 
 /// Runs the words that the system gives over its files, prints the answer to the standard output, and gives the status
-/// of the top call as the exit status. Where the words ask for a desk, its cases are with the keeper of `desk.sqlite` in
-/// the folder of the office.
+/// of the top call as the exit status. Where the words ask for a desk, its cases are with the keeper of `desk.sqlite`
+/// in the folder of the office.
 pub fn run<R, K>(rt: R, keepers: &K) -> ExitCode
 where
     R: SystemFiles

@@ -69,7 +69,8 @@ fn copy_of(party: &Party) -> Result<Party, Memory>
 /// The party of a request and its command.
 #[tactic(auto, unfolding(crate::specs::Turns::run_of))]
 fn run_of(alloc: Global, asked: &Asked, office: &Office) -> Result<(Party, Command), Stop<Fault>>
-    ensures { Gives (λ run. run) result (run_of asked.now.post asked.now.path asked.now.token asked.now.body.items office.now) }
+    ensures { Gives (λ run. run) result (run_of asked.now.post asked.now.path asked.now.token asked.now.body.items
+        office.now) }
 {
     let Some((page, reference)) = route_of(asked.path.as_bytes()) else {
         return Err(Stop::Fault(Fault::NoRoute));
@@ -90,7 +91,8 @@ fn run_of(alloc: Global, asked: &Asked, office: &Office) -> Result<(Party, Comma
 /// What a request comes to.
 #[tactic(auto, using(crate::proofs::Due::is_due))]
 pub fn command_of(alloc: Global, asked: &Asked, office: &Office) -> Result<Turn, Memory>
-    ensures turn { IfOk result (λ turn. turn ≡ turn_of asked.now.post asked.now.path asked.now.token asked.now.body.items office.now) }
+    ensures turn { IfOk result (λ turn. turn ≡ turn_of asked.now.post asked.now.path asked.now.token
+        asked.now.body.items office.now) }
     ensures due { IfOk result (IsDue office.now asked.now.token) }
 {
     match run_of(alloc, asked, office) {

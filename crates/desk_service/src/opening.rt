@@ -85,7 +85,8 @@ fn paper_in<F: Files>(
     paper: Paper,
 ) -> Result<Vec<u8>, Halt>
     ensures reads { ReadsPaper (F.told files.old) office.now paper result }
-    ensures leaves { Leaves (F.told files.old) (F.told files.new) (F.fault_count files.old) (F.fault_count files.new) office.now result }
+    ensures leaves { Leaves (F.told files.old) (F.told files.new) (F.fault_count files.old) (F.fault_count files.new)
+        office.now result }
 {
     let path = path_of(alloc, office, paper)?;
     match files.read(alloc, path.as_str(), FILE_LIMIT) {
@@ -109,7 +110,8 @@ fn halt_of(paper: Paper, fault: FormFault) -> Halt
 /// The office that the office file says.
 fn office_in<F: Files>(alloc: Global, files: &mut F, folder: &str) -> Result<Office, Halt>
     ensures opens { OpensOffice (F.told files.old) folder.now result }
-    ensures leaves { Leaves (F.told files.old) (F.told files.new) (F.fault_count files.old) (F.fault_count files.new) folder.now result }
+    ensures leaves { Leaves (F.told files.old) (F.told files.new) (F.fault_count files.old) (F.fault_count files.new)
+        folder.now result }
 {
     let text = paper_in(alloc, files, folder, Paper::Office)?;
     match read_office(alloc, &text) {
@@ -121,7 +123,8 @@ fn office_in<F: Files>(alloc: Global, files: &mut F, folder: &str) -> Result<Off
 /// The bytes of the lists, which are of their form.
 fn lists_in<F: Files>(alloc: Global, files: &mut F, folder: &str) -> Result<Vec<u8>, Halt>
     ensures opens { OpensLists (F.told files.old) folder.now result }
-    ensures leaves { Leaves (F.told files.old) (F.told files.new) (F.fault_count files.old) (F.fault_count files.new) folder.now result }
+    ensures leaves { Leaves (F.told files.old) (F.told files.new) (F.fault_count files.old) (F.fault_count files.new)
+        folder.now result }
 {
     let text = paper_in(alloc, files, folder, Paper::Lists)?;
     match read_lists(alloc, &text) {
@@ -138,7 +141,8 @@ pub(crate) fn desk_in<F: Files>(
     folder: &str,
 ) -> Result<Desk<OfficeLists>, Halt>
     ensures opens { OpensDesk (F.told files.old) folder.now result }
-    ensures leaves { Leaves (F.told files.old) (F.told files.new) (F.fault_count files.old) (F.fault_count files.new) folder.now result }
+    ensures leaves { Leaves (F.told files.old) (F.told files.new) (F.fault_count files.old) (F.fault_count files.new)
+        folder.now result }
 {
     one_form_or_fault();
     let office = office_in(alloc, files, folder)?;

@@ -71,10 +71,13 @@ where
     requires docket { TellsDocket (K.told outside.old.keeper) }
     requires edition { desk.judge.edition ≡ sha256 desk.judge.lists }
     ensures serves { ServesDesk (opened_of desk) (C.told outside.old.clock) most
-        (desk_outside (K.told outside.old.keeper) (K.fault_count outside.old.keeper) (D.Link.told outside.old.door) (D.Link.fault_count outside.old.door))
-        (desk_outside (K.told outside.new.keeper) (K.fault_count outside.new.keeper) (D.Link.told outside.new.door) (D.Link.fault_count outside.new.door)) result }
+        (desk_outside (K.told outside.old.keeper) (K.fault_count outside.old.keeper) (D.Link.told outside.old.door)
+        (D.Link.fault_count outside.old.door))
+        (desk_outside (K.told outside.new.keeper) (K.fault_count outside.new.keeper) (D.Link.told outside.new.door)
+        (D.Link.fault_count outside.new.door)) result }
     ensures docket { TellsDocket (K.told outside.new.keeper) }
-    ensures cause { result ≡ Err DoorFault.Failed → HasRisen (D.Link.fault_count outside.old.door) (D.Link.fault_count outside.new.door) }
+    ensures cause { result ≡ Err DoorFault.Failed → HasRisen (D.Link.fault_count outside.old.door)
+        (D.Link.fault_count outside.new.door) }
     ensures files { outside.new.files ≡ outside.old.files }
     ensures out { outside.new.out ≡ outside.old.out }
 {
@@ -117,10 +120,14 @@ where
     G: Gate,
     requires { TellsDocket (K.told outside.old.keeper) }
     ensures says { Says (asked_words asked.now) (C.told outside.old.clock)
-        (seen (F.told outside.old.files) (F.fault_count outside.old.files) (O.taken outside.old.out) (O.fault_count outside.old.out)
-        (K.told outside.old.keeper) (K.fault_count outside.old.keeper) (D.Link.told outside.old.door) (D.Link.fault_count outside.old.door))
-        (seen (F.told outside.new.files) (F.fault_count outside.new.files) (O.taken outside.new.out) (O.fault_count outside.new.out)
-        (K.told outside.new.keeper) (K.fault_count outside.new.keeper) (D.Link.told outside.new.door) (D.Link.fault_count outside.new.door)) result }
+        (seen (F.told outside.old.files) (F.fault_count outside.old.files) (O.taken outside.old.out)
+        (O.fault_count outside.old.out)
+        (K.told outside.old.keeper) (K.fault_count outside.old.keeper) (D.Link.told outside.old.door)
+        (D.Link.fault_count outside.old.door))
+        (seen (F.told outside.new.files) (F.fault_count outside.new.files) (O.taken outside.new.out)
+        (O.fault_count outside.new.out)
+        (K.told outside.new.keeper) (K.fault_count outside.new.keeper) (D.Link.told outside.new.door)
+        (D.Link.fault_count outside.new.door)) result }
     ensures docket { TellsDocket (K.told outside.new.keeper) }
     ensures out { outside.new.out ≡ outside.old.out }
 {

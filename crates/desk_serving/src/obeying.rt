@@ -28,10 +28,14 @@ fn planned<K: Keeper, J: Judge>(
 ) -> Result<Plan, KeepFault>
     requires { IsFormed command.now }
     ensures over { IfOk result (λ plan. (cases : List Case) → K.told keeper.old ≡ Some cases
-        → plan ≡ plan_over (session_of party.now desk.now.office.appeal_days day (J.edition desk.now.judge)) command.now cases) }
-    ensures follows { IfOk result (λ plan. (judgement : Judgement) (cases : List Case) → IsDocket cases → K.told keeper.old ≡ Some cases
-        → IsPlanFor (session_of party.now desk.now.office.appeal_days day (J.edition desk.now.judge)) judgement command.now cases plan) }
-    ensures takes { IfOk result (λ plan. JudgesTaking (session_of party.now desk.now.office.appeal_days day (J.edition desk.now.judge)) plan) }
+        → plan ≡ plan_over (session_of party.now desk.now.office.appeal_days day (J.edition desk.now.judge)) command.now
+        cases) }
+    ensures follows { IfOk result (λ plan. (judgement : Judgement) (cases : List Case) → IsDocket cases
+        → K.told keeper.old ≡ Some cases
+        → IsPlanFor (session_of party.now desk.now.office.appeal_days day (J.edition desk.now.judge)) judgement
+        command.now cases plan) }
+    ensures takes { IfOk result (λ plan. JudgesTaking (session_of party.now desk.now.office.appeal_days day
+        (J.edition desk.now.judge)) plan) }
     ensures told { K.told keeper.new ≡ K.told keeper.old }
     ensures cause { KeepCause (K.fault_count keeper.old) (K.fault_count keeper.new) result }
 {
@@ -47,7 +51,8 @@ fn decision<J: Judge>(
     reviewer: &Party,
     judged: Judged,
 ) -> Result<Decision, Memory>
-    ensures { IfOk result (λ d. d ≡ decision_by (session_of reviewer.now desk.now.office.appeal_days day (J.edition desk.now.judge)) (judgement_of judged)) }
+    ensures { IfOk result (λ d. d ≡ decision_by (session_of reviewer.now desk.now.office.appeal_days day
+        (J.edition desk.now.judge)) (judgement_of judged)) }
 {
     Ok(Decision {
         outcome: judged.outcome,
@@ -68,10 +73,16 @@ fn decided<K: Keeper, J: Judge>(
     case: &Case,
 ) -> Result<Reply, KeepFault>
     requires ready { J.ready desk.now.judge }
-    requires takes { (judgement : Judgement) → TakesDecision (decision_by (session_of reviewer.now desk.now.office.appeal_days day (J.edition desk.now.judge)) judgement) case.now }
+    requires takes { (judgement : Judgement)
+        → TakesDecision
+        (decision_by (session_of reviewer.now desk.now.office.appeal_days day (J.edition desk.now.judge)) judgement)
+        case.now }
     requires fits { (judgement : Judgement) (cases : List Case) → K.told keeper.old ≡ Some cases
-        → Fits (settled case.now (decision_by (session_of reviewer.now desk.now.office.appeal_days day (J.edition desk.now.judge)) judgement)).0 cases }
-    ensures settles { IfOk result (λ reply. IsSettled (J.finds desk.now.judge) (session_of reviewer.now desk.now.office.appeal_days day (J.edition desk.now.judge)) case.now (K.told keeper.old) (K.told keeper.new) reply) }
+        → Fits (settled case.now
+        (decision_by (session_of reviewer.now desk.now.office.appeal_days day (J.edition desk.now.judge)) judgement)).0
+        cases }
+    ensures settles { IfOk result (λ reply. IsSettled (J.finds desk.now.judge) (session_of reviewer.now desk.now.office.appeal_days
+        day (J.edition desk.now.judge)) case.now (K.told keeper.old) (K.told keeper.new) reply) }
     ensures err { IfErr result (λ _. K.told keeper.new ≡ K.told keeper.old) }
     ensures cause { KeepCause (K.fault_count keeper.old) (K.fault_count keeper.new) result }
 {
@@ -110,7 +121,8 @@ fn obeyed<K: Keeper, J: Judge>(
     requires ready { J.ready desk.now.judge }
     requires docket { TellsDocket (K.told keeper.old) }
     requires formed { IsFormed command.now }
-    ensures obeys { IfOk result (λ reply. Obeys (J.finds desk.now.judge) (session_of party.now desk.now.office.appeal_days day (J.edition desk.now.judge)) command.now (K.told keeper.old) (K.told keeper.new) reply) }
+    ensures obeys { IfOk result (λ reply. Obeys (J.finds desk.now.judge) (session_of party.now desk.now.office.appeal_days day
+        (J.edition desk.now.judge)) command.now (K.told keeper.old) (K.told keeper.new) reply) }
     ensures err { IfErr result (λ _. K.told keeper.new ≡ K.told keeper.old) }
     ensures cause { KeepCause (K.fault_count keeper.old) (K.fault_count keeper.new) result }
 {
@@ -135,7 +147,8 @@ pub fn obey<K: Keeper, J: Judge>(
     requires ready { J.ready desk.now.judge }
     requires docket { TellsDocket (K.told keeper.old) }
     requires formed { IsFormed command.now }
-    ensures obeys { IfOk result (λ reply. Obeys (J.finds desk.now.judge) (session_of party.now desk.now.office.appeal_days day (J.edition desk.now.judge)) command.now (K.told keeper.old) (K.told keeper.new) reply) }
+    ensures obeys { IfOk result (λ reply. Obeys (J.finds desk.now.judge) (session_of party.now desk.now.office.appeal_days day
+        (J.edition desk.now.judge)) command.now (K.told keeper.old) (K.told keeper.new) reply) }
     ensures docket { TellsDocket (K.told keeper.new) }
     ensures err { IfErr result (λ _. K.told keeper.new ≡ K.told keeper.old) }
     ensures cause { KeepCause (K.fault_count keeper.old) (K.fault_count keeper.new) result }

@@ -68,7 +68,8 @@ fn commanded<K: Keeper, J: Judge>(
     requires docket { TellsDocket (K.told keeper.old) }
     requires formed { IsFormed command.now }
     ensures responds { (request : Result Asked HttpFault) → IsCommand desk.now.office request party.now command.now
-        → Responds (J.finds desk.now.judge) (setting_of desk.now.office (J.edition desk.now.judge) day) (K.told keeper.old) (K.told keeper.new) request result }
+        → Responds (J.finds desk.now.judge) (setting_of desk.now.office (J.edition desk.now.judge) day)
+        (K.told keeper.old) (K.told keeper.new) request result }
     ensures coded { IsCoded result }
     ensures docket { TellsDocket (K.told keeper.new) }
     ensures store { RaisesStore (K.fault_count keeper.old) (K.fault_count keeper.new) result }
@@ -94,7 +95,8 @@ fn asked_of<K: Keeper, J: Judge>(
 ) -> Due
     requires ready { J.ready desk.now.judge }
     requires docket { TellsDocket (K.told keeper.old) }
-    ensures responds { Responds (J.finds desk.now.judge) (setting_of desk.now.office (J.edition desk.now.judge) day) (K.told keeper.old) (K.told keeper.new) (Ok asked.now) result }
+    ensures responds { Responds (J.finds desk.now.judge) (setting_of desk.now.office (J.edition desk.now.judge) day)
+        (K.told keeper.old) (K.told keeper.new) (Ok asked.now) result }
     ensures coded { IsCoded result }
     ensures docket { TellsDocket (K.told keeper.new) }
     ensures store { RaisesStore (K.fault_count keeper.old) (K.fault_count keeper.new) result }
@@ -128,7 +130,8 @@ pub(crate) fn responded<K: Keeper, J: Judge>(
 ) -> Due
     requires ready { J.ready desk.now.judge }
     requires docket { TellsDocket (K.told keeper.old) }
-    ensures responds { Responds (J.finds desk.now.judge) (setting_of desk.now.office (J.edition desk.now.judge) day) (K.told keeper.old) (K.told keeper.new) request.now result }
+    ensures responds { Responds (J.finds desk.now.judge) (setting_of desk.now.office (J.edition desk.now.judge) day)
+        (K.told keeper.old) (K.told keeper.new) request.now result }
     ensures coded { IsCoded result }
     ensures docket { TellsDocket (K.told keeper.new) }
     ensures store { RaisesStore (K.fault_count keeper.old) (K.fault_count keeper.new) result }

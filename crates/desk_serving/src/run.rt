@@ -27,9 +27,11 @@ fn served_door<K: Keeper, D: Door, C: Clock, J: Judge>(
     requires docket { TellsDocket (K.told keeper.old) }
     ensures runs { Runs (J.finds desk.now.judge) desk.now.office (J.edition desk.now.judge) (C.told clock.old) most
         (outside (K.told keeper.old) (K.fault_count keeper.old) (D.Link.told door.old) (D.Link.fault_count door.old))
-        (outside (K.told keeper.new) (K.fault_count keeper.new) (D.Link.told door.new) (D.Link.fault_count door.new)) result }
+        (outside (K.told keeper.new) (K.fault_count keeper.new) (D.Link.told door.new) (D.Link.fault_count door.new))
+        result }
     ensures docket { TellsDocket (K.told keeper.new) }
-    ensures cause { result ≡ Err DoorFault.Failed → HasRisen (D.Link.fault_count door.old) (D.Link.fault_count door.new) }
+    ensures cause { result ≡ Err DoorFault.Failed → HasRisen (D.Link.fault_count door.old)
+        (D.Link.fault_count door.new) }
 {
     let mut taken = 0;
     while taken < most {
@@ -63,16 +65,20 @@ pub fn serve_door<K: Keeper, D: Door, C: Clock, J: Judge>(
     requires docket { TellsDocket (K.told keeper.old) }
     ensures runs { Runs (J.finds desk.now.judge) desk.now.office (J.edition desk.now.judge) (C.told clock.old) most
         (outside (K.told keeper.old) (K.fault_count keeper.old) (D.Link.told door.old) (D.Link.fault_count door.old))
-        (outside (K.told keeper.new) (K.fault_count keeper.new) (D.Link.told door.new) (D.Link.fault_count door.new)) result }
+        (outside (K.told keeper.new) (K.fault_count keeper.new) (D.Link.told door.new) (D.Link.fault_count door.new))
+        result }
 
-    // Where keeper and door tell what they hold, it is a run of the desk's machine, with as many connections as there are.
+    // Where keeper and door tell what they hold, it is a run of the desk's machine, with as many connections as there
+    // are.
     ensures machine { IsMachineRun
         (outside (K.told keeper.old) (K.fault_count keeper.old) (D.Link.told door.old) (D.Link.fault_count door.old))
         (outside (K.told keeper.new) (K.fault_count keeper.new) (D.Link.told door.new) (D.Link.fault_count door.new)) }
     ensures count { CountsAll most
-        (outside (K.told keeper.old) (K.fault_count keeper.old) (D.Link.told door.old) (D.Link.fault_count door.old)) result }
+        (outside (K.told keeper.old) (K.fault_count keeper.old) (D.Link.told door.old) (D.Link.fault_count door.old))
+        result }
     ensures docket { TellsDocket (K.told keeper.new) }
-    ensures cause { result ≡ Err DoorFault.Failed → HasRisen (D.Link.fault_count door.old) (D.Link.fault_count door.new) }
+    ensures cause { result ≡ Err DoorFault.Failed → HasRisen (D.Link.fault_count door.old)
+        (D.Link.fault_count door.new) }
 {
     served_door(alloc, desk, keeper, door, clock, most)
 }

@@ -72,7 +72,8 @@ fn answered<K: Keeper, L: Link, J: Judge>(
     requires docket { TellsDocket (K.told keeper.old) }
     ensures served { ServesRequest (J.finds desk.now.judge) (setting_of desk.now.office (J.edition desk.now.judge) day)
         (outside (K.told keeper.old) (K.fault_count keeper.old) (L.told link.old) (L.fault_count link.old))
-        (outside (K.told keeper.new) (K.fault_count keeper.new) (L.told link.new) (L.fault_count link.new)) request.now result }
+        (outside (K.told keeper.new) (K.fault_count keeper.new) (L.told link.new) (L.fault_count link.new)) request.now
+        result }
     ensures docket { TellsDocket (K.told keeper.new) }
 {
     let due = responded(alloc, desk, keeper, day, request);
@@ -93,10 +94,10 @@ fn unasked(request: &Result<Asked, HttpFault>) -> Option<Served>
 /// Serves one connection over a link: reads one request, carries its command out once and writes the reply. The day is
 /// asked for only where there is a request to answer.
 ///
-/// Where keeper and link tell what they hold, it is one connection of the desk's machine: the answer is that of the bytes
-/// that came, the reply that of the command over the cases, and nothing else is written or changed. 503 is replied only
-/// where the keeper's count of faults rose in this call, and 507 only for want of memory; both leave the cases as they
-/// were.
+/// Where keeper and link tell what they hold, it is one connection of the desk's machine: the answer is that of the
+/// bytes that came, the reply that of the command over the cases, and nothing else is written or changed. 503 is
+/// replied only where the keeper's count of faults rose in this call, and 507 only for want of memory; both leave the
+/// cases as they were.
 pub fn serve_one<K: Keeper, L: Link, C: Clock, J: Judge>(
     alloc: Global,
     desk: &Desk<J>,

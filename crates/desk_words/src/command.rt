@@ -78,8 +78,8 @@ pub fn vetting_in(words: &[String]) -> Option<Vetting<'_>>
     }
 }
 
-/// The desk that the words ask for: `None` exactly where they are no `serve OFFICE N`, with a folder of 1 to 1,024 bytes. It
-/// takes no memory.
+/// The desk that the words ask for: `None` exactly where they are no `serve OFFICE N`, with a folder of 1 to 1,024
+/// bytes. It takes no memory.
 pub fn serving_in(words: &[String]) -> Option<Serving<'_>>
     ensures { option_map asked_words result ≡ parse_serve (map string_bytes words.now) }
 {

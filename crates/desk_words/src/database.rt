@@ -16,10 +16,11 @@ fn database_in(alloc: Global, office: &str) -> Result<String, Memory>
     Ok(path)
 }
 
-/// Where the desk that the words ask for keeps its cases: `desk.sqlite` in the folder of the office. `None` exactly where
-/// the words are no `serve OFFICE N`.
+/// Where the desk that the words ask for keeps its cases: `desk.sqlite` in the folder of the office. `None` exactly
+/// where the words are no `serve OFFICE N`.
 pub fn database_path(alloc: Global, words: &[String]) -> Result<Option<String>, Memory>
-    ensures { IfOk result (λ path. option_map string_bytes path ≡ option_map (λ asked. database_name asked.office) (parse (map string_bytes words.now))) }
+    ensures { IfOk result (λ path. option_map string_bytes path ≡ option_map (λ asked. database_name asked.office)
+        (parse (map string_bytes words.now))) }
 {
     match serving_in(words) {
         Some(asked) => Ok(Some(database_in(alloc, asked.office)?)),

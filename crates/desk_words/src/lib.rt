@@ -1,5 +1,5 @@
-//! The words of the command line: what they ask for, and that words of no form ask for nothing. Nothing here takes memory
-//! but the name of a file.
+//! The words of the command line: what they ask for, and that words of no form ask for nothing. Nothing here takes
+//! memory but the name of a file.
 #![tactic(auto)]
 
 mod command;

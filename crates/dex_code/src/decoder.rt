@@ -26,7 +26,8 @@ pub struct Counts {
     pub methods: u32,
 }
 
-/// The code of a method: each line with the pc of its first unit, by ascending pc, and the try items as the file has them.
+/// The code of a method: each line with the pc of its first unit, by ascending pc, and the try items as the file has
+/// them.
 #[derive(Drop)]
 pub struct Decoded {
     pub lines: Seq<(u32, Insn)>,
@@ -63,9 +64,9 @@ fn decoded_of(alloc: Global, code: &RawCode, counts: &Counts) -> Result<Decoded,
 /// methods.
 ///
 /// Three passes look for faults: `Opcode`, `Cut`, `Register` and `Index` by ascending pc and at one pc in that order;
-/// then `Target`, `Payload` and `FallsOff` in the same way; then `Tries` by number. All code is tested, reachable or not.
-/// Between the first two, code whose switches list more than 4 targets a unit, or whose lines list more than 16 handlers a unit,
-/// is answered with `Memory`.
+/// then `Target`, `Payload` and `FallsOff` in the same way; then `Tries` by number. All code is tested, reachable or
+/// not. Between the first two, code whose switches list more than 4 targets a unit, or whose lines list more than 16
+/// handlers a unit, is answered with `Memory`.
 pub fn decode(alloc: Global, code: &RawCode, counts: &Counts) -> Result<Decoded, CodeFault>
     requires units { length code.now.units < 2 ^ 32 }
     requires tries { length code.now.tries < 2 ^ 32 }
@@ -75,7 +76,8 @@ pub fn decode(alloc: Global, code: &RawCode, counts: &Counts) -> Result<Decoded,
     ensures handled { IfOk result (λ d. catches_listed d.tries d.lines ≤ 16 * length code.now.units) }
     ensures fault { IfErr result (λ e. (e ≡ faults.Memory) ⊎ FirstFault code.now counts.now e) }
     ensures code { (d : Decoded) → IsCode code.now counts.now d → (result ≡ Ok d) ⊎ (result ≡ Err faults.Memory) }
-    ensures first { (e : CodeFault) → FirstFault code.now counts.now e → (result ≡ Err e) ⊎ (result ≡ Err faults.Memory) }
+    ensures first { (e : CodeFault) → FirstFault code.now counts.now e → (result ≡ Err e)
+        ⊎ (result ≡ Err faults.Memory) }
 {
     match decoded_of(alloc, code, counts) {
         Ok(decoded) => Ok(decoded),

@@ -37,8 +37,8 @@ fn all_second_are_starts(lines: &[(u32, Insn)], pc: u32, pairs: &[(i32, i32)]) -
     )
 }
 
-/// Whether an instruction starts wherever a switch goes by the table in its payload. What is no table of its kind has no
-/// distances.
+/// Whether an instruction starts wherever a switch goes by the table in its payload. What is no table of its kind has
+/// no distances.
 #[tactic(auto, unfolding(crate::specs::Flow::all_start))]
 fn table_goes_to_starts(lines: &[(u32, Insn)], pc: u32, kind: Kind, payload: Option<&Insn>) -> bool
     requires { Ascend lines.now }

@@ -51,8 +51,8 @@ fn handlers_listed(lines: &[(u32, Insn)], item: &RawTry) -> usize
     lines_covered(lines, item).saturating_mul(handlers_of(item))
 }
 
-/// Answers want of memory where the lines of a method of so many units list more than 16 handlers a unit. A list is counted for
-/// each line that its try covers, since an exception may go from each of them to each handler.
+/// Answers want of memory where the lines of a method of so many units list more than 16 handlers a unit. A list is
+/// counted for each line that its try covers, since an exception may go from each of them to each handler.
 #[tactic(auto, unfolding(crate::specs::Handled::handled_by_all), using(std::proofs::lemmas::List::Sums::sum_by_more, std::proofs::lemmas::List::Sums::sum_by_more_le))]
 pub fn check_handled(lines: &[(u32, Insn)], tries: &[RawTry], units: usize) -> Result<(), Memory>
     requires order { Ascend lines.now }

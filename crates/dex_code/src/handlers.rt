@@ -91,7 +91,8 @@ fn push_each(
     found: &mut Vec<Shared<u32>>,
 ) -> Result<(), Memory>
     requires { in_order shared.now ≡ shared.now }
-    ensures { OnOk result (AddsCatches shared.now (map (λ t. t.now) tries.now) lines.now found.old.items found.new.items) }
+    ensures { OnOk result (AddsCatches shared.now (map (λ t. t.now) tries.now) lines.now found.old.items
+        found.new.items) }
 {
     for line in lines {
         found.push(catches_here(alloc, shared, tries, line.0)?)?;
@@ -127,7 +128,8 @@ fn meets(item: &RawTry, first: u32, last: u32) -> bool
     item.start <= last && u64::from(first) < u64::from(item.start) + u64::from(item.count)
 }
 
-/// Of the pcs from the first to the last: shares the addresses of a try that covers all, and leaves one that may cover some.
+/// Of the pcs from the first to the last: shares the addresses of a try that covers all, and leaves one that may cover
+/// some.
 fn part_one<'a>(
     shared: &mut Vec<u32>,
     left: &mut Vec<&'a RawTry>,
@@ -135,7 +137,9 @@ fn part_one<'a>(
     first: u32,
     last: u32,
 ) -> Result<(), AllocError>
-    ensures { OnOk result ((tries : List RawTry) → IsParted first last tries shared.old.items (map (λ t. t.now) left.old.items) → IsParted first last (tries ++ item.now ∷ []) shared.new.items (map (λ t. t.now) left.new.items)) }
+    ensures { OnOk result ((tries : List RawTry) → IsParted first last tries shared.old.items
+        (map (λ t. t.now) left.old.items) → IsParted first last (tries ++ item.now ∷ []) shared.new.items
+        (map (λ t. t.now) left.new.items)) }
 {
     if covers_both(item, first, last) {
         push_addresses(shared, item)?;
@@ -173,7 +177,8 @@ fn fill(
 ) -> Result<(), Memory>
     requires rise { Ascend lines.now }
     requires order { in_order shared.now ≡ shared.now }
-    ensures { OnOk result (AddsCatches shared.now (map (λ t. t.now) tries.now) lines.now found.old.items found.new.items) }
+    ensures { OnOk result (AddsCatches shared.now (map (λ t. t.now) tries.now) lines.now found.old.items
+        found.new.items) }
 {
     if tries.is_empty() {
         return push_copies(shared, lines, found);

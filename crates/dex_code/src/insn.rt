@@ -4,8 +4,8 @@ ghost use Rattle.dex_code.specs.Insns.{is_payload, kind_of, opcode_of};
 use dalvik_formats::Kind;
 use vet_base::Seq;
 
-/// An instruction or a payload, each variant of an instruction named as its format: first its opcode, then its registers,
-/// and then its literal, index or target. A literal is the signed number that the units hold, a target a pc.
+/// An instruction or a payload, each variant of an instruction named as its format: first its opcode, then its
+/// registers, and then its literal, index or target. A literal is the signed number that the units hold, a target a pc.
 #[derive(Drop)]
 pub enum Insn {
     F10x(u8),

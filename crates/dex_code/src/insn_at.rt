@@ -27,7 +27,8 @@ fn arguments(alloc: Global, first: u16, third: u16) -> Result<Vec<u16>, AllocErr
 
 /// What the instruction of that format at a pc says.
 fn instruction_at(alloc: Global, format: Format, units: &[u16], pc: u32) -> Result<Insn, AllocError>
-    ensures { IfOk result (λ i. i ≡ said_with (slice_index units.now pc) (slice_index units.now (pc + 1)) format units.now pc) }
+    ensures { IfOk result (λ i. i ≡ said_with (slice_index units.now pc) (slice_index units.now (pc + 1)) format
+        units.now pc) }
 {
     let at = pc as usize;
     let u = unit_at(units, at);

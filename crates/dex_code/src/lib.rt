@@ -1,5 +1,5 @@
-//! Decodes the code of a method: its 16-bit units to instructions, or to the first fault of them (Android documentation,
-//! "Dalvik bytecode" and "Dalvik executable instruction formats", DEX version 035).
+//! Decodes the code of a method: its 16-bit units to instructions, or to the first fault of them (Android
+//! documentation, "Dalvik bytecode" and "Dalvik executable instruction formats", DEX version 035).
 #![tactic(auto)]
 
 mod acts;

@@ -43,8 +43,8 @@ fn targets_listed(lines: &[(u32, Insn)], insn: &Insn) -> usize
     }
 }
 
-/// Answers want of memory where the switches of a method of so many units list more than 4 targets a unit. An entry of a table
-/// takes two units or more, so that happens only where many switches share a table.
+/// Answers want of memory where the switches of a method of so many units list more than 4 targets a unit. An entry of
+/// a table takes two units or more, so that happens only where many switches share a table.
 #[tactic(auto, unfolding(crate::specs::Listed::listed_by_all), using(std::proofs::lemmas::List::Sums::sum_by_more, std::proofs::lemmas::List::Sums::sum_by_more_le))]
 pub fn check_listed(lines: &[(u32, Insn)], units: usize) -> Result<(), Memory>
     requires order { Ascend lines.now }

@@ -1,5 +1,5 @@
-//! `dex_list count FILE..` reads each DEX file and prints the sizes of its tables; `dex_list list FILE..` prints all that
-//! stands in it. For a file that is refused it prints the fault.
+//! `dex_list count FILE..` reads each DEX file and prints the sizes of its tables; `dex_list list FILE..` prints all
+//! that stands in it. For a file that is refused it prints the fault.
 #![tactic(auto)]
 
 mod listing;

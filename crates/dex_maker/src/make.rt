@@ -87,12 +87,12 @@ fn bytes_of(alloc: Global, listing: &Listing, tables: &Tables) -> Result<Vec<u8>
 /// The bytes of a DEX file with the classes of the listing, in its order. Checksum, signature and map offset are zero,
 /// so no device takes the file.
 ///
-/// It takes a listing of up to 65,536 classes, with up to 400,000 fields and methods and up to 8,388,608 units of code in
-/// all of them: `is_makeable` tests that.
+/// It takes a listing of up to 65,536 classes, with up to 400,000 fields and methods and up to 8,388,608 units of code
+/// in all of them: `is_makeable` tests that.
 ///
 /// `TooMany` names the first id table, in the order of the header, that would need more than 65,535 types or protos or
-/// more than 65,536 other rows. `Range` names the first line, by its method and then by its number, of which a part does
-/// not fit its instruction's format.
+/// more than 65,536 other rows. `Range` names the first line, by its method and then by its number, of which a part
+/// does not fit its instruction's format.
 pub fn make_dex(alloc: Global, listing: &Listing) -> Result<Vec<u8>, MakeFault>
     requires makeable { Makeable listing.now }
     // There is a file only without a fault, and it is the listing's.

@@ -92,7 +92,8 @@ pub fn put_plain(
     index: u64,
     distance: u64,
 ) -> Result<(), Memory>
-    ensures { OnOk result (units.new.items ≡ units.old.items ++ plain_units (layout_of opcode) opcode registers.now literal index distance) }
+    ensures { OnOk result (units.new.items ≡ units.old.items ++ plain_units (layout_of opcode) opcode registers.now
+        literal index distance) }
 {
     let op = u64::from(opcode);
     let a = register(registers, 0);

@@ -29,12 +29,13 @@ fill : ℕ → ℕ
 fill r = length (cond (eqb r 1) (u2_bytes 0) [])
 
 filled : (units q r : ℕ) → r < 2 → units ≡ 2 * q + r → (16 + 2 * units + fill r) % 4 ≡ 0
+unfolding fill
 filled units q zero small is = let e : fill zero ≡ 0 = refl in omega (arith, is, e)
 filled units q (suc zero) small is = let e : fill (suc zero) ≡ 2 = refl in omega (arith, is, e)
 filled units q (suc (suc r)) small is = absurd (omega arith)
 
 pub tries_stand : (code : RawCode) → 0 < length code.tries → TriesStand code
-unfolding code_item
+unfolding code_item fill
 tries_stand code some =
     let n = length code.units in
     let head = code_head code in

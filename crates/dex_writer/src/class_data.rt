@@ -14,7 +14,8 @@ use vet_base::Memory;
 const NO_INDEX: usize = 0xFFFF_FFFF;
 
 fn put_member(out: &mut Vec<u8>, before: u32, member: Member) -> Result<(), Memory>
-    ensures { OnOk result (out.new.items ≡ out.old.items ++ uleb_bytes (member.index - before) ++ uleb_bytes member.flags) }
+    ensures { OnOk result (out.new.items ≡ out.old.items ++ uleb_bytes (member.index - before)
+        ++ uleb_bytes member.flags) }
 {
     put_uleb(out, member.index.saturating_sub(before) as usize)?;
     put_uleb(out, member.flags as usize)
@@ -66,7 +67,8 @@ fn put_body_code(
 }
 
 fn put_body_row(rows: &mut Vec<u8>, before: u32, body: &Body, place: usize) -> Result<(), Memory>
-    ensures { OnOk result (rows.new.items ≡ rows.old.items ++ uleb_bytes (body.now.index - before) ++ uleb_bytes body.now.flags ++ uleb_bytes place) }
+    ensures { OnOk result (rows.new.items ≡ rows.old.items ++ uleb_bytes (body.now.index - before)
+        ++ uleb_bytes body.now.flags ++ uleb_bytes place) }
 {
     put_uleb(rows, body.index.saturating_sub(before) as usize)?;
     put_uleb(rows, body.flags as usize)?;
@@ -83,7 +85,8 @@ fn put_bodies(
 ) -> Result<(), Memory>
     requires { base < 2 ^ 32 }
     ensures data { OnOk result (data.new.items ≡ data.old.items ++ flat_map body_code bodies.now) }
-    ensures rows { OnOk result (rows.new.items ≡ rows.old.items ++ bodies_bytes 0 (base + length data.old.items) bodies.now) }
+    ensures rows { OnOk result (rows.new.items ≡ rows.old.items ++ bodies_bytes 0 (base + length data.old.items)
+        bodies.now) }
 {
     let mut before = 0;
     for body in bodies {
@@ -95,7 +98,8 @@ fn put_bodies(
 }
 
 fn put_counts(out: &mut Vec<u8>, class: &ClassDef) -> Result<(), Memory>
-    ensures { OnOk result (out.new.items ≡ out.old.items ++ uleb_bytes (length class.now.statics) ++ uleb_bytes (length class.now.instances)
+    ensures { OnOk result (out.new.items ≡ out.old.items ++ uleb_bytes (length class.now.statics)
+        ++ uleb_bytes (length class.now.instances)
         ++ uleb_bytes (length class.now.directs) ++ uleb_bytes (length class.now.virtuals)) }
 {
     put_uleb(out, class.statics.len())?;
@@ -121,8 +125,10 @@ fn put_class_code(
 ) -> Result<MethodRows, Memory>
     requires { base < 2 ^ 32 }
     ensures data { OnOk result (data.new.items ≡ data.old.items ++ class_code class.now) }
-    ensures directs { IfOk result (λ r. r.directs.items ≡ bodies_bytes 0 (base + length data.old.items) class.now.directs) }
-    ensures virtuals { IfOk result (λ r. r.virtuals.items ≡ bodies_bytes 0 (virtuals_at (base + length data.old.items) class.now) class.now.virtuals) }
+    ensures directs { IfOk result (λ r. r.directs.items ≡ bodies_bytes 0 (base + length data.old.items)
+        class.now.directs) }
+    ensures virtuals { IfOk result (λ r. r.virtuals.items ≡ bodies_bytes 0 (virtuals_at (base + length data.old.items) class.now)
+        class.now.virtuals) }
 {
     let mut directs = Vec::new(alloc);
     put_bodies(alloc, &mut directs, data, base, class.directs.as_slice())?;
@@ -134,7 +140,8 @@ fn put_class_code(
 /// The class data of a class whose methods have these rows.
 #[tactic(auto, unfolding(crate::specs::ClassData::class_item))]
 fn put_class_item(out: &mut Vec<u8>, class: &ClassDef, methods: &MethodRows) -> Result<(), Memory>
-    ensures { OnOk result (out.new.items ≡ out.old.items ++ class_item class.now methods.now.directs.items methods.now.virtuals.items) }
+    ensures { OnOk result (out.new.items ≡ out.old.items ++ class_item class.now methods.now.directs.items
+        methods.now.virtuals.items) }
 {
     put_counts(out, class)?;
     put_members(out, class.statics.as_slice())?;
@@ -148,7 +155,8 @@ fn put_class_item(out: &mut Vec<u8>, class: &ClassDef, methods: &MethodRows) -> 
 fn put_interfaces(data: &mut Vec<u8>, base: usize, class: &ClassDef) -> Result<usize, Memory>
     requires { base < 2 ^ 32 }
     ensures data { OnOk result (data.new.items ≡ data.old.items ++ type_list class.now.interfaces) }
-    ensures place { IfOk result (λ place. place ≡ offset_of (base + length data.old.items) (type_list class.now.interfaces)) }
+    ensures place { IfOk result (λ place. place ≡ offset_of (base + length data.old.items)
+        (type_list class.now.interfaces)) }
 {
     let begin = data.len();
     put_type_list(data, class.interfaces.as_slice())?;
@@ -157,7 +165,8 @@ fn put_interfaces(data: &mut Vec<u8>, base: usize, class: &ClassDef) -> Result<u
 
 /// A class data item and its padding.
 fn put_padded_item(out: &mut Vec<u8>, class: &ClassDef, methods: &MethodRows) -> Result<(), Memory>
-    ensures { OnOk result (out.new.items ≡ out.old.items ++ class_item class.now methods.now.directs.items methods.now.virtuals.items
+    ensures { OnOk result (out.new.items ≡ out.old.items ++ class_item class.now methods.now.directs.items
+        methods.now.virtuals.items
         ++ padding_of (length (class_item class.now methods.now.directs.items methods.now.virtuals.items))) }
 {
     let begin = out.len();
@@ -175,7 +184,8 @@ fn put_class_data(
     class: &ClassDef,
 ) -> Result<usize, Memory>
     requires { base < 2 ^ 32 }
-    ensures data { OnOk result (data.new.items ≡ data.old.items ++ code_and_data (base + length data.old.items) class.now) }
+    ensures data { OnOk result (data.new.items ≡ data.old.items ++ code_and_data (base + length data.old.items)
+        class.now) }
     ensures place { IfOk result (λ place. place ≡ base + length data.old.items + length (class_code class.now)) }
 {
     let methods = put_class_code(alloc, data, base, class)?;
@@ -230,8 +240,10 @@ pub fn put_class(
     class: &ClassDef,
 ) -> Result<(), Memory>
     requires { base < 2 ^ 32 }
-    ensures data { OnOk result (data.new.items ≡ data.old.items ++ class_bytes (base + length data.old.items) class.now) }
-    ensures rows { OnOk result (rows.new.items ≡ rows.old.items ++ placed_row (base + length data.old.items) class.now) }
+    ensures data { OnOk result (data.new.items ≡ data.old.items ++ class_bytes (base + length data.old.items)
+        class.now) }
+    ensures rows { OnOk result (rows.new.items ≡ rows.old.items ++ placed_row (base + length data.old.items)
+        class.now) }
 {
     let interfaces = put_interfaces(data, base, class)?;
     let place = put_class_data(alloc, data, base, class)?;

@@ -64,7 +64,8 @@ fn put_try_items(
     tries: &[RawTry],
 ) -> Result<(), Memory>
     ensures handlers { OnOk result (handlers.new.items ≡ handlers.old.items ++ flat_map handler_bytes tries.now) }
-    ensures items { OnOk result (items.new.items ≡ items.old.items ++ rows_of try_bytes handler_bytes (length handlers.old.items) tries.now) }
+    ensures items { OnOk result (items.new.items ≡ items.old.items ++ rows_of try_bytes handler_bytes
+        (length handlers.old.items) tries.now) }
 {
     for item in tries {
         put_try(items, item, handlers.len())?;

@@ -26,7 +26,8 @@ fn put_strings(
 ) -> Result<(), Memory>
     requires { base < 2 ^ 32 }
     ensures data { OnOk result (data.new.items ≡ data.old.items ++ flat_map string_item strings.now) }
-    ensures rows { OnOk result (rows.new.items ≡ rows.old.items ++ flat_map u4_bytes (offsets_of string_item (base + length data.old.items) strings.now)) }
+    ensures rows { OnOk result (rows.new.items ≡ rows.old.items ++ flat_map u4_bytes
+        (offsets_of string_item (base + length data.old.items) strings.now)) }
 {
     for name in strings {
         put_u4(rows, base + data.len())?;
@@ -67,7 +68,8 @@ fn put_params(data: &mut Vec<u8>, base: usize, row: &IdRow) -> Result<usize, Mem
 fn put_proto(rows: &mut Vec<u8>, data: &mut Vec<u8>, base: usize, row: &IdRow) -> Result<(), Memory>
     requires { base < 2 ^ 32 }
     ensures data { OnOk result (data.new.items ≡ data.old.items ++ params_bytes row.now) }
-    ensures rows { OnOk result (rows.new.items ≡ rows.old.items ++ proto_row_bytes (base + length data.old.items) row.now) }
+    ensures rows { OnOk result (rows.new.items ≡ rows.old.items ++ proto_row_bytes (base + length data.old.items)
+        row.now) }
 {
     let place = put_params(data, base, row)?;
     put_u4(rows, number(row, 0) as usize)?;
@@ -83,7 +85,8 @@ fn put_protos(
 ) -> Result<(), Memory>
     requires { base < 2 ^ 32 }
     ensures data { OnOk result (data.new.items ≡ data.old.items ++ flat_map params_bytes protos.now) }
-    ensures rows { OnOk result (rows.new.items ≡ rows.old.items ++ rows_of proto_row_bytes params_bytes (base + length data.old.items) protos.now) }
+    ensures rows { OnOk result (rows.new.items ≡ rows.old.items ++ rows_of proto_row_bytes params_bytes
+        (base + length data.old.items) protos.now) }
 {
     for row in protos {
         put_proto(rows, data, base, row)?;
@@ -99,8 +102,10 @@ fn put_classes(
     classes: &[ClassDef],
 ) -> Result<(), Memory>
     requires { base < 2 ^ 32 }
-    ensures data { OnOk result (data.new.items ≡ data.old.items ++ pieces class_bytes (base + length data.old.items) classes.now) }
-    ensures rows { OnOk result (rows.new.items ≡ rows.old.items ++ placed_rows placed_row class_bytes (base + length data.old.items) classes.now) }
+    ensures data { OnOk result (data.new.items ≡ data.old.items ++ pieces class_bytes (base + length data.old.items)
+        classes.now) }
+    ensures rows { OnOk result (rows.new.items ≡ rows.old.items ++ placed_rows placed_row class_bytes
+        (base + length data.old.items) classes.now) }
 {
     for class in classes {
         put_class(alloc, rows, data, base, class)?;
@@ -239,7 +244,8 @@ fn put_header_ids(out: &mut Vec<u8>, tables: &Tables, layout: Layout) -> Result<
 
 #[tactic(auto, unfolding(crate::specs::File::tables_bytes))]
 fn put_tables(out: &mut Vec<u8>, tables: &Tables, parts: &Parts) -> Result<(), Memory>
-    ensures { OnOk result (out.new.items ≡ out.old.items ++ tables_bytes tables.now parts.now.strings.items parts.now.protos.items parts.now.classes.items) }
+    ensures { OnOk result (out.new.items ≡ out.old.items ++ tables_bytes tables.now parts.now.strings.items
+        parts.now.protos.items parts.now.classes.items) }
 {
     out.extend_from_slice(&parts.strings)?;
     put_u4s(out, tables.types.rows())?;

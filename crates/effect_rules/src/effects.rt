@@ -117,7 +117,8 @@ fn spread<F: Facts, S: Sink>(
     pcs: &[u32],
     out: &mut S,
 ) -> Result<(), S::Refusal>
-    ensures { OnOk result (out.new ≡ fold S.then out.old (spread_to (F.hits facts.now) effect.node effect.site effect.path effect.label pcs.now)) }
+    ensures { OnOk result (out.new ≡ fold S.then out.old (spread_to (F.hits facts.now) effect.node effect.site
+        effect.path effect.label pcs.now)) }
 {
     for pc in pcs {
         for_each_hit(
@@ -138,7 +139,8 @@ fn spread_behind<F: Facts, S: Sink>(
     out: &mut S,
 ) -> Result<(), S::Refusal>
     requires { SoundApp app.now }
-    ensures { OnOk result (out.new ≡ fold S.then out.old (spread_on (step_here app.now effect.node) (F.hits facts.now) effect.node effect.site effect.path effect.label)) }
+    ensures { OnOk result (out.new ≡ fold S.then out.old (spread_on (step_here app.now effect.node) (F.hits facts.now)
+        effect.node effect.site effect.path effect.label)) }
 {
     match step_at(app, effect.node.by.method, effect.node.pc) {
         None => Ok(()),
@@ -157,7 +159,8 @@ pub fn affect<F: Facts, S: Sink>(
     out: &mut S,
 ) -> Result<(), S::Refusal>
     requires { SoundApp app.now }
-    ensures { OnOk result (out.new ≡ fold S.then out.old (effect_gives app.now (F.hits facts.now) effect.node effect.site effect.path effect.label)) }
+    ensures { OnOk result (out.new ≡ fold S.then out.old (effect_gives app.now (F.hits facts.now) effect.node
+        effect.site effect.path effect.label)) }
 {
     out.put(Conclusion {
         rule: 16,

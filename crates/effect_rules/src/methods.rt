@@ -94,7 +94,8 @@ struct ComponentEffect {
 
 impl ComponentEffect {
     fn row(&self) -> Row
-        ensures { result ≡ Row.MethodEffect self.now.by (Site.Component self.now.component) self.now.path self.now.label }
+        ensures { result ≡ Row.MethodEffect self.now.by (Site.Component self.now.component) self.now.path
+            self.now.label }
     {
         Row::MethodEffect(
             self.by,
@@ -107,7 +108,8 @@ impl ComponentEffect {
 
 /// The component holds it in the state, where it is there.
 fn comes_to<S: Sink>(to: Option<u8>, effect: ComponentEffect, out: &mut S) -> Result<(), S::Refusal>
-    ensures { OnOk result (out.new ≡ fold S.then out.old (own_to to effect.by effect.component effect.path effect.label)) }
+    ensures { OnOk result
+        (out.new ≡ fold S.then out.old (own_to to effect.by effect.component effect.path effect.label)) }
 {
     match to {
         None => Ok(()),
@@ -127,7 +129,8 @@ fn comes_to<S: Sink>(to: Option<u8>, effect: ComponentEffect, out: &mut S) -> Re
 
 /// The effect of an event in the component's own life.
 fn own<S: Sink>(app: &App, effect: ComponentEffect, out: &mut S) -> Result<(), S::Refusal>
-    ensures { OnOk result (out.new ≡ fold S.then out.old (own_gives app.now effect.by.ctx effect.by effect.component effect.path effect.label)) }
+    ensures { OnOk result (out.new ≡ fold S.then out.old (own_gives app.now effect.by.ctx effect.by effect.component
+        effect.path effect.label)) }
 {
     match effect.by.ctx {
         Ctx::Row(own, event) => {
@@ -186,7 +189,8 @@ fn on_component<F: Facts, S: Sink>(
     effect: MethodEffect,
     out: &mut S,
 ) -> Result<(), S::Refusal>
-    ensures { OnOk result (out.new ≡ fold S.then out.old (component_gives app.now (F.hits facts.now) effect.by effect.site effect.path effect.label)) }
+    ensures { OnOk result (out.new ≡ fold S.then out.old (component_gives app.now (F.hits facts.now) effect.by
+        effect.site effect.path effect.label)) }
 {
     match effect.site {
         Site::Component(component) => {
@@ -214,7 +218,8 @@ pub fn method_effect<F: Facts, S: Sink>(
     effect: MethodEffect,
     out: &mut S,
 ) -> Result<(), S::Refusal>
-    ensures { OnOk result (out.new ≡ fold S.then out.old (method_gives app.now (F.hits facts.now) effect.by effect.site effect.path effect.label)) }
+    ensures { OnOk result (out.new ≡ fold S.then out.old (method_gives app.now (F.hits facts.now) effect.by effect.site
+        effect.path effect.label)) }
 {
     for_each_hit(facts, &Key::CallersOf(effect.by), &Callers(effect), out)?;
     on_component(app, facts, effect, out)

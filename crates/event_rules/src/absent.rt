@@ -32,7 +32,8 @@ fn initialise_left<S: Sink>(
     out: &mut S,
 ) -> Result<(), S::Refusal>
     requires { SoundApp app.now }
-    ensures { OnOk result (out.new ≡ fold S.then out.old (flat_map (initialiser_begins app.now component) (initialisers_left app.now walk.entry))) }
+    ensures { OnOk result (out.new ≡ fold S.then out.old (flat_map (initialiser_begins app.now component)
+        (initialisers_left app.now walk.entry))) }
 {
     let mut left = walk;
     while let Some((body, rest)) = next_initialiser(app, left) {

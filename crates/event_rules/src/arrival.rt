@@ -56,7 +56,8 @@ impl Arrival {
         out: &mut S,
     ) -> Result<(), S::Refusal>
         requires { SoundApp app.now }
-        ensures { OnOk result (out.new ≡ fold S.then out.old (is_called app.now self.now ctx (option_map shown_callback found.entry))) }
+        ensures { OnOk result
+            (out.new ≡ fold S.then out.old (is_called app.now self.now ctx (option_map shown_callback found.entry))) }
     {
         match found {
             None => Ok(()),

@@ -50,7 +50,8 @@ struct Labels<'a> {
 impl<'a> Join for Labels<'a> {
     ghost ready = { λ j. SoundApp j.objects.app.now };
 
-    ghost gives = { λ j row. label_back j.objects.app.now j.objects.lists.now j.objects.site j.objects.class.now j.by row };
+    ghost gives = { λ j row. label_back j.objects.app.now j.objects.lists.now j.objects.site j.objects.class.now j.by
+        row };
 
     fn give<S: Sink>(&self, row: Row, out: &mut S) -> Result<(), S::Refusal> {
         match row {
@@ -71,7 +72,8 @@ fn pair<F: Facts, S: Sink>(
     out: &mut S,
 ) -> Result<(), S::Refusal>
     requires { SoundApp objects.now.app.now }
-    ensures { OnOk result (out.new ≡ fold S.then out.old (pair_gives objects.now.app.now objects.now.lists.now (F.hits facts.now) objects.now.site objects.now.class.now by)) }
+    ensures { OnOk result (out.new ≡ fold S.then out.old (pair_gives objects.now.app.now objects.now.lists.now
+        (F.hits facts.now) objects.now.site objects.now.class.now by)) }
 {
     give_back(&objects.back(Known::There, by), out)?;
     for_each_hit(
@@ -155,7 +157,8 @@ struct FromObjects<'a, F> {
 impl<'a, F: Facts> Join for FromObjects<'a, F> {
     ghost ready = { λ j. SoundApp j.objects.app.now };
 
-    ghost gives = { λ j row. entry_takes j.objects.app.now j.objects.lists.now (F.hits j.facts.now) j.objects.site j.objects.class.now row };
+    ghost gives = { λ j row. entry_takes j.objects.app.now j.objects.lists.now (F.hits j.facts.now) j.objects.site
+        j.objects.class.now row };
 
     fn give<S: Sink>(&self, row: Row, out: &mut S) -> Result<(), S::Refusal> {
         match row {

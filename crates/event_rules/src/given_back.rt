@@ -82,7 +82,8 @@ fn to_index<S: Sink>(
 ) -> Result<(), S::Refusal>
     requires sound { SoundApp with.now.app.now }
     requires fits { (method.now.registers - method.now.ins) + index < 2 ^ 32 }
-    ensures { OnOk result (out.new ≡ fold S.then out.old (back_index with.now.app.now with.now.lists.now with.now.object with.now.class.now with.now.by method.now index)) }
+    ensures { OnOk result (out.new ≡ fold S.then out.old (back_index with.now.app.now with.now.lists.now with.now.object
+        with.now.class.now with.now.by method.now index)) }
 {
     let kind = type_at(method.at.proto.params.as_slice(), index);
     if takes(with.app, with.lists, with.class, kind) {
@@ -95,7 +96,10 @@ fn to_index<S: Sink>(
 fn to_indices<S: Sink>(with: &Back<'_>, method: &Method, out: &mut S) -> Result<(), S::Refusal>
     requires sound { SoundApp with.now.app.now }
     requires fits { (method.now.registers - method.now.ins) + method.now.ins < 2 ^ 32 }
-    ensures { OnOk result (out.new ≡ fold S.then out.old (for_below (back_index with.now.app.now with.now.lists.now with.now.object with.now.class.now with.now.by method.now) method.now.ins)) }
+    ensures { OnOk result
+        (out.new ≡ fold S.then out.old
+        (for_below (back_index with.now.app.now with.now.lists.now with.now.object with.now.class.now with.now.by
+        method.now) method.now.ins)) }
 {
     for index in 0..method.ins {
         to_index(with, method, index, out)?;
@@ -106,7 +110,8 @@ fn to_indices<S: Sink>(with: &Back<'_>, method: &Method, out: &mut S) -> Result<
 /// Each parameter whose type takes the class holds what is known of the object.
 pub fn give_back<S: Sink>(with: &Back<'_>, out: &mut S) -> Result<(), S::Refusal>
     requires { SoundApp with.now.app.now }
-    ensures { OnOk result (out.new ≡ fold S.then out.old (back with.now.app.now with.now.lists.now with.now.object with.now.class.now with.now.by)) }
+    ensures { OnOk result (out.new ≡ fold S.then out.old (back with.now.app.now with.now.lists.now with.now.object
+        with.now.class.now with.now.by)) }
 {
     match with.app.methods.get(with.by.method as usize) {
         None => Ok(()),

@@ -1,5 +1,5 @@
-//! How the TOML text of a form is read: its tree, the keys and fields of its tables, each with its test, and names that may
-//! not stand twice; and the fault of a text that is no form.
+//! How the TOML text of a form is read: its tree, the keys and fields of its tables, each with its test, and names that
+//! may not stand twice; and the fault of a text that is no form.
 #![tactic(auto)]
 
 mod distinct;

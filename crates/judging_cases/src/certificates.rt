@@ -95,9 +95,9 @@ fn count_in(whole: &[u8]) -> u32 {
     u32::from_le_bytes(bytes)
 }
 
-/// The certificate after a change: `whole` changes nothing; `drop A B` takes the row from offset A to B out; `swap A B C`
-/// exchanges the rows from A to B and from B to C; `rows N HEX` has N rows of these bytes in place of its own; `other` is
-/// that of another app; and `nothing` has no bytes.
+/// The certificate after a change: `whole` changes nothing; `drop A B` takes the row from offset A to B out; `swap A B
+/// C` exchanges the rows from A to B and from B to C; `rows N HEX` has N rows of these bytes in place of its own;
+/// `other` is that of another app; and `nothing` has no bytes.
 fn changed(alloc: Global, whole: &[u8], other: &[u8], change: &str) -> Result<Vec<u8>, AllocError> {
     let mut words = change.split(" ");
     let how = words.next().unwrap_or("");
@@ -149,7 +149,8 @@ fn certified<R: Files + Print + AllocGlobal + Threads + Wait + Sync>(
     println!(rt; "certify: {answer}, {same} certificate")
 }
 
-/// Whether the certificate after the change of a case is answered as is due; where it is not, the case and the answer are printed.
+/// Whether the certificate after the change of a case is answered as is due; where it is not, the case and the answer
+/// are printed.
 fn is_due<R: Files + Print + AllocGlobal + Threads + Wait + Sync>(
     rt: &R,
     whole: &[u8],

@@ -21,8 +21,8 @@ pub fn path_of(alloc: Global, name: &str) -> Result<Name, AllocError> {
     Name::from_bytes(alloc, path.as_bytes()).map_err(want)
 }
 
-/// The changed files, and those of the sample that are neither changed nor absent: of a name that stands twice the first
-/// counts.
+/// The changed files, and those of the sample that are neither changed nor absent: of a name that stands twice the
+/// first counts.
 pub fn folder_with(
     alloc: Global,
     mut files: Held,

@@ -1,8 +1,8 @@
 //! Answers of `vet` to folders in memory: how many of a file of cases are those that are due, and what is answered
 //! where a DEX file is cut at each byte, where a manifest has too many components, and to certificates; what it says of
-//! generated apps; and what the program answers to folders of the system. Below it, what the checker says of tables of a
-//! small app, whole and spoilt. With the word `times` it prints instead how long one solver and several workers take for
-//! the app whose files lie here.
+//! generated apps; and what the program answers to folders of the system. Below it, what the checker says of tables of
+//! a small app, whole and spoilt. With the word `times` it prints instead how long one solver and several workers take
+//! for the app whose files lie here.
 #![tactic(auto)]
 
 mod certificates;
@@ -49,8 +49,8 @@ fn cases<R: Files + Print + AllocGlobal + Threads + Wait + Sync>(
 /// What is answered in a case, and what is due.
 ///
 /// Behind the title stand parts, each behind a line `> HEAD`. The head `answer` comes before the status and the text
-/// that are due, `NAME` before the text of that file of the folder, `NAME = FILE` gives it the bytes of a file that lies
-/// here, and `NAME = -` says that it is absent.
+/// that are due, `NAME` before the text of that file of the folder, `NAME = FILE` gives it the bytes of a file that
+/// lies here, and `NAME = -` says that it is absent.
 fn answers_of<R: Files + AllocGlobal + Threads + Wait + Sync>(
     rt: &R,
     case: &str,

@@ -4,7 +4,11 @@ use rule_ground::Conclusion;
 use std::io;
 
 /// Prints what the checker says of a table.
-pub fn say<R: Print + AllocGlobal>(rt: &R, what: &str, said: Result<(), TableDefect<Conclusion>>) -> io::Result<()> {
+pub fn say<R: Print + AllocGlobal>(
+    rt: &R,
+    what: &str,
+    said: Result<(), TableDefect<Conclusion>>,
+) -> io::Result<()> {
     match said {
         Ok(()) => println!(rt; "{what}: good"),
         Err(TableDefect::Stranger(row)) => println!(rt; "{what}: stranger {row:?}"),

@@ -3,9 +3,9 @@ ghost use Rattle.app_machine.specs.Sound.{SoundApp};
 ghost use Rattle.app_machine.specs.SoundLists.{SoundLists};
 ghost use Rattle.app_rules.specs.Ready.{RulesReady};
 
-use app_index::{LibraryIndex, StaticReaders};
-use crate::spoiling::unsolved;
 use crate::folder::want;
+use crate::spoiling::unsolved;
+use app_index::{LibraryIndex, StaticReaders};
 use app_model::{App, Lists};
 use app_rules::AppRules;
 use hashed_rows::HashedRows;

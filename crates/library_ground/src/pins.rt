@@ -45,7 +45,8 @@ pub fn for_each_value<F: Facts, J: Join, S: Sink>(
     out: &mut S,
 ) -> Result<(), S::Refusal>
     requires { J.ready with.now }
-    ensures { OnOk result (out.new ≡ fold S.then out.old (values_give (F.hits facts.now) pin node register (J.gives with.now))) }
+    ensures { OnOk result (out.new ≡ fold S.then out.old (values_give (F.hits facts.now) pin node register
+        (J.gives with.now))) }
 {
     for_each_candidate(facts, pin, &Key::PointsAt(node, register), with, out)?;
     for_each_candidate(facts, pin, &Key::TaintsAt(node, register), with, out)

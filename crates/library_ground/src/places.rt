@@ -81,7 +81,8 @@ impl<'a> Places<'a> {
 
     /// The first register of the next position.
     fn next(&mut self) -> Option<u32>
-        ensures { MatchOption result (places_left self.old ≡ []) (λ x. places_left self.old ≡ x ∷ places_left self.new) }
+        ensures { MatchOption result (places_left self.old ≡ []) (λ x. places_left self.old
+            ≡ x ∷ places_left self.new) }
     {
         match self.receiver {
             Some(register) => {
@@ -95,7 +96,8 @@ impl<'a> Places<'a> {
     #[tactic(auto, using(crate::proofs::Fewer::no_types, crate::proofs::Fewer::no_registers, crate::proofs::Fewer::one_more))]
     fn next_argument(&mut self) -> Option<u32>
         requires { self.old.receiver ≡ None }
-        ensures { MatchOption result (places_left self.old ≡ []) (λ x. places_left self.old ≡ x ∷ places_left self.new) }
+        ensures { MatchOption result (places_left self.old ≡ []) (λ x. places_left self.old
+            ≡ x ∷ places_left self.new) }
     {
         let (kind, types) = self.types.split_first()?;
         let (first, rest) = self.registers.split_first()?;

@@ -110,7 +110,8 @@ fn copy_rest<F: Facts, S: Sink>(
     left: Option<Path>,
     out: &mut S,
 ) -> Result<(), S::Refusal>
-    ensures { OnOk result (out.new ≡ fold S.then out.old (copy_rest (F.hits value.now.facts.now) value.now.pins.object (shown_call value.now.call) value.now.into from label left)) }
+    ensures { OnOk result (out.new ≡ fold S.then out.old (copy_rest (F.hits value.now.facts.now) value.now.pins.object
+        (shown_call value.now.call) value.now.into from label left)) }
 {
     match left {
         None => Ok(()),
@@ -163,7 +164,8 @@ fn copy_at<F: Facts, S: Sink>(
     into: Option<u32>,
     out: &mut S,
 ) -> Result<(), S::Refusal>
-    ensures { OnOk result (out.new ≡ fold S.then out.old (copy_at (F.hits from.now.facts.now) from.now.pins (shown_call from.now.call) from.now.register into)) }
+    ensures { OnOk result (out.new ≡ fold S.then out.old (copy_at (F.hits from.now.facts.now) from.now.pins
+        (shown_call from.now.call) from.now.register into)) }
 {
     match into {
         None => Ok(()),
@@ -189,7 +191,8 @@ fn copy_at<F: Facts, S: Sink>(
 pub struct Copies<'a, F>(pub &'a Position<'a, F>);
 
 impl<'a, F: Facts> OfSecond for Copies<'a, F> {
-    ghost gives = { λ j second. copy_gives (F.hits j.0.now.facts.now) j.0.now.pins (shown_call j.0.now.call) j.0.now.register second };
+    ghost gives = { λ j second. copy_gives (F.hits j.0.now.facts.now) j.0.now.pins (shown_call j.0.now.call)
+        j.0.now.register second };
 
     fn give<S: Sink>(&self, second: u32, out: &mut S) -> Result<(), S::Refusal> {
         copy_at(self.0, self.0.call.place(second as usize), out)

@@ -64,7 +64,8 @@ pub fn for_each_put<J: OfSecond, S: Sink>(
     with: &J,
     out: &mut S,
 ) -> Result<(), S::Refusal>
-    ensures { OnOk result (out.new ≡ fold S.then out.old (pairs_from position (J.gives with.now) (shown_call call.now).row.puts)) }
+    ensures { OnOk result
+        (out.new ≡ fold S.then out.old (pairs_from position (J.gives with.now) (shown_call call.now).row.puts)) }
 {
     match call.view {
         SummaryView::Row(row) => for_each_from(row.puts.as_slice(), position, with, out),

@@ -22,7 +22,8 @@ struct OfPosition<'a, F> {
 
 /// The puts and stores of a position.
 fn write<F: Facts, S: Sink>(position: &Position<'_, F>, out: &mut S) -> Result<(), S::Refusal>
-    ensures { OnOk result (out.new ≡ fold S.then out.old (writes_gives (F.hits position.now.facts.now) position.now.pins (shown_call position.now.call) position.now.number position.now.register)) }
+    ensures { OnOk result (out.new ≡ fold S.then out.old (writes_gives (F.hits position.now.facts.now) position.now.pins
+        (shown_call position.now.call) position.now.number position.now.register)) }
 {
     for_each_put(&position.call, position.number, &Puts(position), out)?;
     if position.pins.object.is_none() {
@@ -39,7 +40,9 @@ fn write<F: Facts, S: Sink>(position: &Position<'_, F>, out: &mut S) -> Result<(
 
 /// What a position gives.
 fn of_position<F: Facts, S: Sink>(position: &Position<'_, F>, out: &mut S) -> Result<(), S::Refusal>
-    ensures { OnOk result (out.new ≡ fold S.then out.old (position_gives (F.hits position.now.facts.now) position.now.pins (shown_call position.now.call) position.now.number position.now.register)) }
+    ensures { OnOk result
+        (out.new ≡ fold S.then out.old (position_gives (F.hits position.now.facts.now) position.now.pins
+        (shown_call position.now.call) position.now.number position.now.register)) }
 {
     if position.pins.cell.is_none() {
         write(position, out)?;
@@ -83,7 +86,8 @@ pub fn heap_rules<F: Facts, S: Sink>(
 ) -> Result<(), S::Refusal>
     requires sound { SoundApp app.now }
     requires within { IsWithin (shown_call call.now) }
-    ensures { OnOk result (out.new ≡ fold S.then out.old (heap_gives app.now (F.hits facts.now) pins.now (shown_call call.now))) }
+    ensures { OnOk result (out.new ≡ fold S.then out.old (heap_gives app.now (F.hits facts.now) pins.now
+        (shown_call call.now))) }
 {
     let at = OfPosition {
         facts,

@@ -55,7 +55,8 @@ fn put<F: Facts, S: Sink>(
     content: Content,
     out: &mut S,
 ) -> Result<(), S::Refusal>
-    ensures { OnOk result (out.new ≡ fold S.then out.old (put_content (F.hits value.now.facts.now) value.now.object (shown_call value.now.call) value.now.register value.now.into content)) }
+    ensures { OnOk result (out.new ≡ fold S.then out.old (put_content (F.hits value.now.facts.now) value.now.object
+        (shown_call value.now.call) value.now.register value.now.into content)) }
 {
     let with = IntoObject {
         call: value.call,
@@ -91,7 +92,8 @@ fn put_at<F: Facts, S: Sink>(
     into: Option<u32>,
     out: &mut S,
 ) -> Result<(), S::Refusal>
-    ensures { OnOk result (out.new ≡ fold S.then out.old (put_at (F.hits from.now.facts.now) from.now.pins (shown_call from.now.call) from.now.register into)) }
+    ensures { OnOk result (out.new ≡ fold S.then out.old (put_at (F.hits from.now.facts.now) from.now.pins
+        (shown_call from.now.call) from.now.register into)) }
 {
     match into {
         None => Ok(()),
@@ -118,7 +120,8 @@ fn put_at<F: Facts, S: Sink>(
 pub struct Puts<'a, F>(pub &'a Position<'a, F>);
 
 impl<'a, F: Facts> OfSecond for Puts<'a, F> {
-    ghost gives = { λ j second. put_gives (F.hits j.0.now.facts.now) j.0.now.pins (shown_call j.0.now.call) j.0.now.register second };
+    ghost gives = { λ j second. put_gives (F.hits j.0.now.facts.now) j.0.now.pins (shown_call j.0.now.call)
+        j.0.now.register second };
 
     fn give<S: Sink>(&self, second: u32, out: &mut S) -> Result<(), S::Refusal> {
         put_at(self.0, self.0.call.place(second as usize), out)

@@ -60,7 +60,8 @@ impl<'a> Join for OfValue<'a> {
 pub struct Stores<'a, F>(pub &'a Position<'a, F>);
 
 impl<'a, F: Facts> OfSecond for Stores<'a, F> {
-    ghost gives = { λ j second. store_gives (F.hits j.0.now.facts.now) j.0.now.pins (shown_call j.0.now.call) j.0.now.register second };
+    ghost gives = { λ j second. store_gives (F.hits j.0.now.facts.now) j.0.now.pins (shown_call j.0.now.call)
+        j.0.now.register second };
 
     fn give<S: Sink>(&self, second: u32, out: &mut S) -> Result<(), S::Refusal> {
         let from = self.0;

@@ -68,7 +68,8 @@ fn share<F: Facts, S: Sink>(
 ) -> Result<(), S::Refusal>
     requires sound { SoundApp app.now }
     requires small { number < 65536 }
-    ensures { OnOk result (out.new ≡ fold S.then out.old (shared_gives app.now (F.hits facts.now) (shown_call call.now) number)) }
+    ensures { OnOk result (out.new ≡ fold S.then out.old (shared_gives app.now (F.hits facts.now) (shown_call call.now)
+        number)) }
 {
     let field = shared_static(app, number);
     let object = Site::Shared(number);
@@ -92,7 +93,8 @@ fn give<F: Facts, S: Sink>(
 ) -> Result<(), S::Refusal>
     requires sound { SoundApp app.now }
     requires small { (number : ℕ) → kind ≡ CallResult.Shared number → number < 65536 }
-    ensures { OnOk result (out.new ≡ fold S.then out.old (result_alone app.now (F.hits facts.now) (shown_call call.now) kind)) }
+    ensures { OnOk result (out.new ≡ fold S.then out.old (result_alone app.now (F.hits facts.now) (shown_call call.now)
+        kind)) }
 {
     match kind {
         CallResult::Joined => {

@@ -124,7 +124,8 @@ pub fn hand_labels<F: Facts, S: Sink>(
     register: u32,
     out: &mut S,
 ) -> Result<(), S::Refusal>
-    ensures { OnOk result (out.new ≡ fold S.then out.old (labels_handed (F.hits facts.now) pins.now (shown_call call.now) register)) }
+    ensures { OnOk result (out.new ≡ fold S.then out.old (labels_handed (F.hits facts.now) pins.now
+        (shown_call call.now) register)) }
 {
     if may_stand(pins.object, call.node, register) {
         let with = LabelHanded {

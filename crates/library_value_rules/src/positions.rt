@@ -19,7 +19,8 @@ fn of_value<F: Facts, S: Sink>(
     value: Value,
     out: &mut S,
 ) -> Result<(), S::Refusal>
-    ensures { OnOk result (out.new ≡ fold S.then out.old (content_gives (F.hits facts.now) value.cell (shown_call call.now) value.position value.register value.content)) }
+    ensures { OnOk result (out.new ≡ fold S.then out.old (content_gives (F.hits facts.now) value.cell
+        (shown_call call.now) value.position value.register value.content)) }
 {
     if value.cell.is_none() {
         hand(call, value.register, value.content, out)?;
@@ -89,7 +90,8 @@ fn of_position<F: Facts, S: Sink>(
     register: u32,
     out: &mut S,
 ) -> Result<(), S::Refusal>
-    ensures { OnOk result (out.new ≡ fold S.then out.old (position_gives (F.hits at.now.facts.now) at.now.pins (shown_call at.now.call) position register)) }
+    ensures { OnOk result (out.new ≡ fold S.then out.old (position_gives (F.hits at.now.facts.now) at.now.pins
+        (shown_call at.now.call) position register)) }
 {
     let pins = &at.pins;
     if pins.object.is_none() {
@@ -133,7 +135,8 @@ pub fn value_rules<F: Facts, S: Sink>(
 ) -> Result<(), S::Refusal>
     requires sound { SoundApp app.now }
     requires within { IsWithin (shown_call call.now) }
-    ensures { OnOk result (out.new ≡ fold S.then out.old (value_gives app.now (F.hits facts.now) pins.now (shown_call call.now))) }
+    ensures { OnOk result (out.new ≡ fold S.then out.old (value_gives app.now (F.hits facts.now) pins.now
+        (shown_call call.now))) }
 {
     let at = OfPosition {
         facts,

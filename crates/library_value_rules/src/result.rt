@@ -112,7 +112,8 @@ fn take<F: Facts, S: Sink>(
     content: Content,
     out: &mut S,
 ) -> Result<(), S::Refusal>
-    ensures { OnOk result (out.new ≡ fold S.then out.old (taken (F.hits facts.now) cell (shown_call call.now) register content)) }
+    ensures { OnOk result (out.new ≡ fold S.then out.old (taken (F.hits facts.now) cell (shown_call call.now) register
+        content)) }
 {
     match content {
         Content::Object(site) => {
@@ -157,7 +158,8 @@ fn give<F: Facts, S: Sink>(
     kind: CallResult,
     out: &mut S,
 ) -> Result<(), S::Refusal>
-    ensures { OnOk result (out.new ≡ fold S.then out.old (result_gives (F.hits facts.now) value.cell (shown_call call.now) value.position value.register value.content kind)) }
+    ensures { OnOk result (out.new ≡ fold S.then out.old (result_gives (F.hits facts.now) value.cell
+        (shown_call call.now) value.position value.register value.content kind)) }
 {
     match kind {
         CallResult::Same(position) => {
@@ -193,7 +195,8 @@ pub fn give_value<F: Facts, S: Sink>(
     value: Value,
     out: &mut S,
 ) -> Result<(), S::Refusal>
-    ensures { OnOk result (out.new ≡ fold S.then out.old (returned (F.hits facts.now) value.cell (shown_call call.now) value.position value.register value.content)) }
+    ensures { OnOk result (out.new ≡ fold S.then out.old (returned (F.hits facts.now) value.cell (shown_call call.now)
+        value.position value.register value.content)) }
 {
     if call.has_result() {
         give(facts, call, value, call.gives(), out)

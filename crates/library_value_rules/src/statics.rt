@@ -73,7 +73,8 @@ fn label_call<S: Sink>(
     out: &mut S,
 ) -> Result<(), S::Refusal>
     requires { SoundApp from.now.app.now }
-    ensures { OnOk result (out.new ≡ fold S.then out.old (static_call from.now.app.now from.now.number from.now.path from.now.label (Some (shown_call call.now)))) }
+    ensures { OnOk result (out.new ≡ fold S.then out.old (static_call from.now.app.now from.now.number from.now.path
+        from.now.label (Some (shown_call call.now)))) }
 {
     if call.has_result() && is_shared_of(from.app, from.number, call.gives()) {
         let premises = Premises::Two(
@@ -117,7 +118,8 @@ fn users_of<F: Facts, S: Sink>(
 ) -> Result<(), S::Refusal>
     requires sound { SoundApp from.now.app.now }
     requires lists { SoundLists from.now.lists.now }
-    ensures { OnOk result (out.new ≡ fold S.then out.old (static_row from.now.app.now from.now.lists.now (F.hits facts.now) from.now.number from.now.path from.now.label row)) }
+    ensures { OnOk result (out.new ≡ fold S.then out.old (static_row from.now.app.now from.now.lists.now
+        (F.hits facts.now) from.now.number from.now.path from.now.label row)) }
 {
     if row_shares(from.app, from.number, from.lists.methods.get(row as usize)) {
         for_each_hit(facts, &Key::UsesOf(SummaryId::Row(row)), from, out)
@@ -142,7 +144,8 @@ pub fn static_label<F: Facts, S: Sink>(
 ) -> Result<(), S::Refusal>
     requires sound { SoundApp from.now.app.now }
     requires lists { SoundLists from.now.lists.now }
-    ensures { OnOk result (out.new ≡ fold S.then out.old (static_gives from.now.app.now from.now.lists.now (F.hits facts.now) from.now.number from.now.path from.now.label)) }
+    ensures { OnOk result (out.new ≡ fold S.then out.old (static_gives from.now.app.now from.now.lists.now
+        (F.hits facts.now) from.now.number from.now.path from.now.label)) }
 {
     if (from.number as usize) < from.app.statics.len() {
         Ok(())
@@ -159,7 +162,10 @@ fn to_users<F: Facts, S: Sink>(
 ) -> Result<(), S::Refusal>
     requires sound { SoundApp from.now.app.now }
     requires lists { SoundLists from.now.lists.now }
-    ensures { OnOk result (out.new ≡ fold S.then out.old (for_below (λ i. static_row from.now.app.now from.now.lists.now (F.hits facts.now) from.now.number from.now.path from.now.label i) (length from.now.lists.now.methods))) }
+    ensures { OnOk result
+        (out.new ≡ fold S.then out.old
+        (for_below (λ i. static_row from.now.app.now from.now.lists.now (F.hits facts.now) from.now.number from.now.path
+        from.now.label i) (length from.now.lists.now.methods))) }
 {
     for row in 0..row_count(from.lists) {
         users_of(facts, from, row, out)?;

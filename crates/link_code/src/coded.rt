@@ -114,8 +114,8 @@ fn takes(is_static: bool, proto: &Proto, count: usize) -> bool
     }
 }
 
-/// Whether the instruction is no call, or has the registers that its reference takes. The parameters are listed only where
-/// there are as many registers.
+/// Whether the instruction is no call, or has the registers that its reference takes. The parameters are listed only
+/// where there are as many registers.
 #[tactic(auto, unfolding(crate::specs::Code::call_fits), using(crate::proofs::FewRegisters::too_few))]
 fn fits_call(alloc: Global, dex: &Dex, insn: &Insn) -> Result<bool, Memory>
     ensures { IfOk result (λ b. b ≡ call_fits dex.now insn.now) }

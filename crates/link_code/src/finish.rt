@@ -31,8 +31,10 @@ pub fn finished(
     requires tested { Tested dexes.now coding.now.methods.items }
     requires few_methods { length coding.now.methods.items < 2 ^ 32 }
     ensures sound { IfOk result SoundApp }
-    ensures statics { IfOk result (λ a. AreStatics app fields.now.entries dexes.now coding.now.methods.items a.statics) }
-    ensures methods { IfOk result (λ a. a.methods ≡ all_methods app fields.now.entries a.statics dexes.now coding.now.methods.items) }
+    ensures statics { IfOk result (λ a. AreStatics app fields.now.entries dexes.now coding.now.methods.items
+        a.statics) }
+    ensures methods { IfOk result (λ a. a.methods ≡ all_methods app fields.now.entries a.statics dexes.now
+        coding.now.methods.items) }
     ensures others { IfOk result (λ a. a ≡ record app { statics = a.statics; methods = a.methods }) }
 {
     code_laws();

@@ -21,7 +21,8 @@ use vet_base::{Memory, Seq, Shared};
 fn act_at(alloc: Global, scope: &Scope<'_>, insn: &Insn) -> Result<Act, Memory>
     requires app { SoundApp scope.now.app.now }
     requires statics { StaticsInOrder scope.now.statics.now }
-    ensures { IfOk result (λ act. act ≡ act_of insn.now (named_of scope.now.app.now scope.now.fields.now.entries scope.now.statics.now scope.now.dex.now (naming_of insn.now))) }
+    ensures { IfOk result (λ act. act ≡ act_of insn.now (named_of scope.now.app.now scope.now.fields.now.entries
+        scope.now.statics.now scope.now.dex.now (naming_of insn.now))) }
 {
     let named = named_at(alloc, scope, insn.naming())?;
     act_for(alloc, insn, named)
@@ -40,7 +41,8 @@ fn step_at(
     requires app { SoundApp scope.now.app.now }
     requires statics { StaticsInOrder scope.now.statics.now }
     requires lines { Ascend lines.now }
-    ensures { IfOk result (λ s. s ≡ step_of scope.now.app.now scope.now.fields.now.entries scope.now.statics.now scope.now.dex.now lines.now line.now rest.now catches) }
+    ensures { IfOk result (λ s. s ≡ step_of scope.now.app.now scope.now.fields.now.entries scope.now.statics.now
+        scope.now.dex.now lines.now line.now rest.now catches) }
 {
     Ok(Step {
         pc: line.0,
@@ -63,7 +65,8 @@ fn step_of_line(
     requires app { SoundApp scope.now.app.now }
     requires statics { StaticsInOrder scope.now.statics.now }
     requires lines { Ascend lines.now }
-    ensures { IfOk result (λ o. option_to_list o ≡ step_if scope.now.app.now scope.now.fields.now.entries scope.now.statics.now scope.now.dex.now lines.now line.now rest.now catches) }
+    ensures { IfOk result (λ o. option_to_list o ≡ step_if scope.now.app.now scope.now.fields.now.entries
+        scope.now.statics.now scope.now.dex.now lines.now line.now rest.now catches) }
 {
     if line.1.is_payload() {
         return Ok(None);
@@ -90,7 +93,8 @@ pub fn steps_at(
     requires app { SoundApp scope.now.app.now }
     requires statics { StaticsInOrder scope.now.statics.now }
     requires lines { Ascend lines.now }
-    ensures { IfOk result (λ steps. steps ≡ steps_of scope.now.app.now scope.now.fields.now.entries scope.now.statics.now scope.now.dex.now tries.now lines.now lines.now) }
+    ensures { IfOk result (λ steps. steps ≡ steps_of scope.now.app.now scope.now.fields.now.entries
+        scope.now.statics.now scope.now.dex.now tries.now lines.now lines.now) }
 {
     let mut steps = Vec::new(alloc);
     for (i, catches) in catches_of_lines(alloc, tries, lines)?

@@ -84,7 +84,8 @@ pub fn methods_of(
     requires app { SoundApp app.now }
     requires statics { StaticsInOrder statics.now }
     requires lines { InOrder coded.now }
-    ensures value { IfOk result (λ v. v.items ≡ all_methods app.now fields.now.entries statics.now dexes.now coded.now) }
+    ensures value { IfOk result (λ v. v.items ≡ all_methods app.now fields.now.entries statics.now dexes.now
+        coded.now) }
     ensures narrow { IfOk result (λ v. Narrow v.items) }
 {
     let mut methods = Vec::new(alloc);

@@ -29,7 +29,8 @@ fn key_at(alloc: Global, app: &App, dex: &Dex, i: u32) -> Result<KeyId, Memory>
 pub fn named_at(alloc: Global, scope: &Scope<'_>, naming: Naming) -> Result<Named, Memory>
     requires app { SoundApp scope.now.app.now }
     requires statics { StaticsInOrder scope.now.statics.now }
-    ensures { IfOk result (λ named. named ≡ named_of scope.now.app.now scope.now.fields.now.entries scope.now.statics.now scope.now.dex.now naming) }
+    ensures { IfOk result (λ named. named ≡ named_of scope.now.app.now scope.now.fields.now.entries
+        scope.now.statics.now scope.now.dex.now naming) }
 {
     Ok(match naming {
         Naming::Nothing => Named::Nothing,

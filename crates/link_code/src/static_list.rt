@@ -47,7 +47,8 @@ fn add_line(
     statics: Statics,
 ) -> Result<Statics, Memory>
     requires { SoundApp app.now }
-    ensures { IfOk result (λ s. s.keys ≡ fold (insert_key triple_order) statics.keys (static_in_line app.now fields.now.entries dex.now line.now)) }
+    ensures { IfOk result (λ s. s.keys ≡ fold (insert_key triple_order) statics.keys
+        (static_in_line app.now fields.now.entries dex.now line.now)) }
 {
     match static_index_at(&line.1) {
         Some(i) => with_static(statics, static_at(alloc, app, fields, dex, i)?),
@@ -65,7 +66,8 @@ fn add_lines(
     mut statics: Statics,
 ) -> Result<Statics, Memory>
     requires { SoundApp app.now }
-    ensures { IfOk result (λ s. s.keys ≡ fold (insert_key triple_order) statics.keys (flat_map (static_in_line app.now fields.now.entries dex.now) lines.now)) }
+    ensures { IfOk result (λ s. s.keys ≡ fold (insert_key triple_order) statics.keys
+        (flat_map (static_in_line app.now fields.now.entries dex.now) lines.now)) }
 {
     for line in lines {
         statics = add_line(alloc, app, fields, dex, line, statics)?;
@@ -83,7 +85,8 @@ fn add_method(
     statics: Statics,
 ) -> Result<Statics, Memory>
     requires { SoundApp app.now }
-    ensures { IfOk result (λ s. s.keys ≡ fold (insert_key triple_order) statics.keys (statics_in_method app.now fields.now.entries dexes.now coded.now)) }
+    ensures { IfOk result (λ s. s.keys ≡ fold (insert_key triple_order) statics.keys
+        (statics_in_method app.now fields.now.entries dexes.now coded.now)) }
 {
     match dexes.get(coded.dex) {
         Some(dex) => add_lines(
@@ -107,7 +110,8 @@ fn set_of(
     coded: &[Coded],
 ) -> Result<Statics, Memory>
     requires { SoundApp app.now }
-    ensures { IfOk result (λ s. s.keys ≡ fold (insert_key triple_order) [] (statics_named app.now fields.now.entries dexes.now coded.now)) }
+    ensures { IfOk result (λ s. s.keys ≡ fold (insert_key triple_order) []
+        (statics_named app.now fields.now.entries dexes.now coded.now)) }
 {
     let mut statics = BTreeSet::new(alloc);
     for method in coded {

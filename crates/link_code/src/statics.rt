@@ -106,7 +106,8 @@ fn interfaces_met(alloc: Global, app: &App, class: &[u8]) -> Result<Vec<Name>, M
     ensures met { IfOk result (λ v. v.items ≡ met app.now class.now) }
 
     // One more turn meets no new one.
-    ensures no_more { IfOk result (λ v. firsts (first_interfaces app.now class.now ++ flat_map (interfaces_named app.now) v.items) ≡ v.items) }
+    ensures no_more { IfOk result (λ v. firsts (first_interfaces app.now class.now ++ flat_map (interfaces_named app.now) v.items)
+        ≡ v.items) }
 {
     let first = interfaces_upward(alloc, app, class)?;
     let mut seen = BTreeSet::new(alloc);
@@ -130,7 +131,8 @@ fn class_among(
     interfaces: &[Name],
 ) -> Result<Option<Name>, Memory>
     requires { SoundApp app.now }
-    ensures { IfOk result (λ o. o ≡ first_given (own_name fields.now.entries at.now.1 at.now.2) (filter_map (class_named app.now) interfaces.now)) }
+    ensures { IfOk result (λ o. o ≡ first_given (own_name fields.now.entries at.now.1 at.now.2)
+        (filter_map (class_named app.now) interfaces.now)) }
 {
     for interface in interfaces {
         if let Some(class) = class_of(app, interface.as_bytes()) {
@@ -150,7 +152,8 @@ fn class_of_interfaces(
     at: &Triple,
 ) -> Result<Name, Memory>
     requires { SoundApp app.now }
-    ensures { IfOk result (λ n. n ≡ unwrap_or (first_given (own_name fields.now.entries at.now.1 at.now.2) (filter_map (class_named app.now) (met app.now at.now.0))) at.now.0) }
+    ensures { IfOk result (λ n. n ≡ unwrap_or (first_given (own_name fields.now.entries at.now.1 at.now.2)
+        (filter_map (class_named app.now) (met app.now at.now.0))) at.now.0) }
 {
     let interfaces = interfaces_met(alloc, app, at.0.as_bytes())?;
     match class_among(app, fields, at, &interfaces)? {
@@ -212,7 +215,8 @@ fn place_among(statics: &[Triple], at: &Triple) -> u32
 pub fn number_at(alloc: Global, scope: &Scope<'_>, i: u32) -> Result<u32, Memory>
     requires app { SoundApp scope.now.app.now }
     requires statics { StaticsInOrder scope.now.statics.now }
-    ensures { IfOk result (λ n. n ≡ number_of scope.now.app.now scope.now.fields.now.entries scope.now.statics.now scope.now.dex.now i) }
+    ensures { IfOk result (λ n. n ≡ number_of scope.now.app.now scope.now.fields.now.entries scope.now.statics.now
+        scope.now.dex.now i) }
 {
     let at = static_at(alloc, scope.app, scope.fields, scope.dex, i)?;
     Ok(place_among(scope.statics, &at))

@@ -27,7 +27,8 @@ fn add_above(class: &Class, names: &mut Vec<Name>) -> Result<(), Memory>
 }
 
 fn put_seen(seen: &mut BTreeSet<Name>, name: Name) -> Result<(), Memory>
-    ensures { OnOk result ((q : Name) → is_among seen.new.keys q ≡ cond (is_at (name_order name) q) true (is_among seen.old.keys q)) }
+    ensures { OnOk result ((q : Name) → is_among seen.new.keys q ≡ cond (is_at (name_order name) q) true
+        (is_among seen.old.keys q)) }
 {
     seen.insert(name)?;
     Ok(())
@@ -42,7 +43,8 @@ fn visit(
     queue: &mut Vec<Name>,
 ) -> Result<(), Memory>
     ensures queue { OnOk result (queue.new.items ≡ queue.old.items ++ newly classes.now.entries seen.old.keys name) }
-    ensures seen { OnOk result ((q : Name) → is_among seen.new.keys q ≡ cond (is_at (name_order name) q) true (is_among seen.old.keys q)) }
+    ensures seen { OnOk result ((q : Name) → is_among seen.new.keys q ≡ cond (is_at (name_order name) q) true
+        (is_among seen.old.keys q)) }
 {
     if !seen.contains(&name) {
         if let Some(class) = class_named(classes, &name) {
@@ -106,7 +108,8 @@ fn better_of(
     name: &Name,
 ) -> Result<Option<Name>, Memory>
     requires { NoneDeeper classes.now.entries depths.now.entries }
-    ensures { IfOk result (λ o. (before : List Name) → LeastAmong classes.now.entries before best → LeastAmong classes.now.entries (before ++ name.now ∷ []) o) }
+    ensures { IfOk result (λ o. (before : List Name) → LeastAmong classes.now.entries before best
+        → LeastAmong classes.now.entries (before ++ name.now ∷ []) o) }
 {
     if !is_before(name, &best) {
         return Ok(best);
@@ -120,8 +123,9 @@ fn better_of(
     Ok(best)
 }
 
-/// The least of the names that are above themselves, where one is. A name that lies deeper than all that is directly above it is
-/// passed by, so only one on a circle takes a search of all that is above it, and of ascending names only the first such.
+/// The least of the names that are above themselves, where one is. A name that lies deeper than all that is directly
+/// above it is passed by, so only one on a circle takes a search of all that is above it, and of ascending names only
+/// the first such.
 pub fn least_circle(
     alloc: Global,
     classes: &Classes,

@@ -76,8 +76,8 @@ fn lay(
     Ok(())
 }
 
-/// Classes on one circle lie at one depth, and any other class lies deeper than those above it: Kosaraju's algorithm, in time
-/// near linear in classes and interfaces. No proof rests on this.
+/// Classes on one circle lie at one depth, and any other class lies deeper than those above it: Kosaraju's algorithm,
+/// in time near linear in classes and interfaces. No proof rests on this.
 fn guessed(alloc: Global, classes: &Classes) -> Result<Depths, Memory> {
     let below = below_of(alloc, classes)?;
     let mut order = order_of(alloc, classes)?;

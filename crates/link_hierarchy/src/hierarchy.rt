@@ -56,13 +56,15 @@ fn may_settle(classes: &Classes, outers: &Outers, class: &Class) -> bool
 
 #[tactic(auto, unfolding(link_listing::specs::Orders::named))]
 fn put_outer(mut outers: Outers, name: Name, outer: Shared<Name>) -> Result<Outers, Memory>
-    ensures { IfOk result (λ m. (q : Name) → named m.entries q ≡ cond (is_at (name_order name) q) (Some outer) (named outers.entries q)) }
+    ensures { IfOk result (λ m. (q : Name) → named m.entries q ≡ cond (is_at (name_order name) q) (Some outer)
+        (named outers.entries q)) }
 {
     outers.insert(name, outer)?;
     Ok(outers)
 }
 
-/// Settles the class, where all that stands directly above it is settled. Whether it has to wait for that is told beside.
+/// Settles the class, where all that stands directly above it is settled. Whether it has to wait for that is told
+/// beside.
 #[tactic(auto, using(crate::proofs::Settling::settled_before, crate::proofs::Settling::no_class, crate::proofs::Settling::waits, crate::proofs::Settling::settles))]
 fn settle(
     alloc: Global,
@@ -131,7 +133,8 @@ fn settle_round(
     ensures settled { IfOk result (λ r. Settled classes.now.entries r.0.entries) }
     ensures covers { IfOk result (λ r. Covers classes.now.entries r.0.entries r.1.items) }
     ensures fewer { IfOk result (λ r. length r.1.items ≤ length names.now) }
-    ensures stuck { IfOk result (λ r. length r.1.items ≡ length names.now → AreStuck classes.now.entries r.0.entries r.1.items) }
+    ensures stuck { IfOk result (λ r. length r.1.items ≡ length names.now → AreStuck classes.now.entries r.0.entries
+        r.1.items) }
 {
     let mut left = Vec::new(alloc);
     for name in names {
@@ -162,8 +165,8 @@ fn circle_among(
     }
 }
 
-/// The library classes above each class, or the least class that is above itself. Where these names come to more than `NAMES`
-/// there is want of memory.
+/// The library classes above each class, or the least class that is above itself. Where these names come to more than
+/// `NAMES` there is want of memory.
 #[tactic(auto, using(crate::proofs::Rounds::all_left, crate::proofs::Rounds::none_left))]
 pub fn outers_of(alloc: Global, classes: &Classes) -> Result<Outers, Halt>
     ensures ok { IfOk result (λ m. AllSettled classes.now.entries m.entries) }

@@ -55,8 +55,8 @@ fn add_in_order(
     Ok(())
 }
 
-/// The names of the classes, each behind those above it where none is above itself. No proof rests on this order, nor on which
-/// of them it has: in another one it would only take longer to settle the classes.
+/// The names of the classes, each behind those above it where none is above itself. No proof rests on this order, nor
+/// on which of them it has: in another one it would only take longer to settle the classes.
 #[tactic(auto, using(crate::proofs::OfClasses::none_yet))]
 pub fn order_of(alloc: Global, classes: &Classes) -> Result<Vec<Name>, Memory>
     ensures { IfOk result (λ v. AreOfClasses classes.now.entries v.items) }

@@ -20,7 +20,8 @@ pub type Outers = BTreeMap<Name, Shared<Name>>;
 /// Puts the name among those seen, and tells whether it is new.
 fn put_once(seen: &mut BTreeSet<Name>, name: Name) -> Result<bool, Memory>
     ensures added { IfOk result (λ b. b ≡ not (is_among seen.old.keys name)) }
-    ensures seen { OnOk result ((q : Name) → is_among seen.new.keys q ≡ cond (is_at (name_order name) q) true (is_among seen.old.keys q)) }
+    ensures seen { OnOk result ((q : Name) → is_among seen.new.keys q ≡ cond (is_at (name_order name) q) true
+        (is_among seen.old.keys q)) }
 {
     Ok(seen.insert(name)?)
 }
@@ -76,7 +77,8 @@ fn add_given(
     outer: &mut Vec<Name>,
 ) -> Result<(), Memory>
     requires { SameNames seen.old.keys outer.old.items }
-    ensures names { OnOk result (outer.new.items ≡ fold add_once outer.old.items (gives classes.now.entries outers.now.entries above.now)) }
+    ensures names { OnOk result (outer.new.items ≡ fold add_once outer.old.items
+        (gives classes.now.entries outers.now.entries above.now)) }
     ensures same { OnOk result (SameNames seen.new.keys outer.new.items) }
 {
     if holds_name(classes, above) {
@@ -100,7 +102,8 @@ fn spend_given(
     Ok(())
 }
 
-/// Takes from what is left what listing takes that all give that stand directly above a class, whether or not it comes twice.
+/// Takes from what is left what listing takes that all give that stand directly above a class, whether or not it comes
+/// twice.
 pub(crate) fn spend_outer(
     classes: &Classes,
     outers: &Outers,
@@ -125,7 +128,8 @@ fn add_each(
     outer: &mut Vec<Name>,
 ) -> Result<(), Memory>
     requires { SameNames seen.old.keys outer.old.items }
-    ensures { OnOk result (outer.new.items ≡ fold add_once outer.old.items (flat_map (gives classes.now.entries outers.now.entries) interfaces.now)) }
+    ensures { OnOk result (outer.new.items ≡ fold add_once outer.old.items
+        (flat_map (gives classes.now.entries outers.now.entries) interfaces.now)) }
 {
     for interface in interfaces {
         add_given(classes, outers, interface, seen, outer)?;

@@ -38,8 +38,8 @@ fn fitting_components(
     Ok(components)
 }
 
-/// Classes, members and components, or the first fault among them: classes, then members, then components, each in file order.
-/// Names that come to more than `NAMES` are want of memory, before any is listed.
+/// Classes, members and components, or the first fault among them: classes, then members, then components, each in file
+/// order. Names that come to more than `NAMES` are want of memory, before any is listed.
 #[tactic(auto, unfolding(crate::specs::Gathered::gathering), using(vet_base::proofs::Scripts::run_bind))]
 pub fn gather(alloc: Global, dexes: &[Dex], manifest: &Manifest) -> Result<Parts, Halt>
     ensures value { Gives (λ p. record { classes = p.classes.entries; fields = p.fields.entries; methods = p.methods.entries; components = p.components.items }) result (gathering dexes.now manifest.now) }

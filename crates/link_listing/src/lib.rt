@@ -1,5 +1,5 @@
-//! What the DEX files and the manifest of an app list: classes, fields, methods and components by name, or the first that is
-//! listed a second time or has no class.
+//! What the DEX files and the manifest of an app list: classes, fields, methods and components by name, or the first
+//! that is listed a second time or has no class.
 #![tactic(auto)]
 
 mod classes;

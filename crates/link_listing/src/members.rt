@@ -19,8 +19,8 @@ use vet_base::{Memory, Name, Stop};
 /// A class, a name, and a type or descriptor.
 pub type Triple = (Name, Name, Name);
 
-/// Where the code of a method stands: the file, the row of `class_defs`, which of its two lists of methods, and the number
-/// there.
+/// Where the code of a method stands: the file, the row of `class_defs`, which of its two lists of methods, and the
+/// number there.
 #[derive(Clone, Copy)]
 pub struct Place {
     pub dex: usize,
@@ -240,7 +240,8 @@ fn add_class_members(
     def: &ClassDef,
     members: Members,
 ) -> Result<Members, Halt>
-    ensures { Gives (λ m. (m.fields.entries, m.methods.entries)) result (class_members d dex.now c def.now (members.fields.entries, members.methods.entries)) }
+    ensures { Gives (λ m. (m.fields.entries, m.methods.entries)) result
+        (class_members d dex.now c def.now (members.fields.entries, members.methods.entries)) }
 {
     let Members { fields, methods } = members;
     let class = type_at(alloc, dex, def.class)?;
@@ -260,7 +261,8 @@ fn add_dex_members(
     dex: &Dex,
     mut members: Members,
 ) -> Result<Members, Halt>
-    ensures { Gives (λ m. (m.fields.entries, m.methods.entries)) result (dex_members d dex.now (members.fields.entries, members.methods.entries)) }
+    ensures { Gives (λ m. (m.fields.entries, m.methods.entries)) result
+        (dex_members d dex.now (members.fields.entries, members.methods.entries)) }
 {
     for (c, def) in dex.classes.as_slice().iter().enumerate() {
         members = add_class_members(alloc, d, dex, c, def, members)?;

@@ -42,8 +42,8 @@ pub fn types_at(alloc: Global, dex: &Dex, types: &[u32]) -> Result<Shared<Name>,
     Shared::from_vec(alloc, names)
 }
 
-/// The prototype of that index, and one without parameters and with an empty return type where there is none. Want of memory is
-/// the only error.
+/// The prototype of that index, and one without parameters and with an empty return type where there is none. Want of
+/// memory is the only error.
 #[tactic(auto, unfolding(crate::specs::Texts::proto_of))]
 pub fn proto_at(alloc: Global, dex: &Dex, i: u32) -> Result<Proto, Memory>
     ensures { IfOk result (λ p. p ≡ proto_of dex.now i) }

@@ -85,7 +85,8 @@ fn push_array(alloc: Global, lines: &mut Vec<ListedLine>) -> Result<(), Memory>
 
 /// Adds that v2 is put into the array in v1, and that v0 is what is got from there.
 fn push_element(alloc: Global, lines: &mut Vec<ListedLine>) -> Result<(), Memory>
-    ensures { OnOk result (lines.new.items ≡ lines.old.items ++ const_4 0 0 ∷ aput_object 2 1 0 ∷ aget_object 0 1 0 ∷ []) }
+    ensures { OnOk result (lines.new.items ≡ lines.old.items ++ const_4 0 0 ∷ aput_object 2 1 0 ∷ aget_object 0 1 0 ∷
+        []) }
 {
     lines.push(const_4(alloc, 0, 0)?)?;
     lines.push(aput_object(alloc, 2, 1, 0)?)?;
@@ -131,7 +132,8 @@ pub fn body_lines(alloc: Global, body: Body) -> Result<Vec<ListedLine>, Memory>
 
 /// Adds the call of a method with v0, and the sending of its result.
 fn push_call(alloc: Global, lines: &mut Vec<ListedLine>, i: u32) -> Result<(), Memory>
-    ensures { OnOk result (lines.new.items ≡ lines.old.items ++ invoke_static (0 ∷ []) (work_method i) ∷ move_result_object 1 ∷ invoke_static (1 ∷ []) net_post ∷ []) }
+    ensures { OnOk result (lines.new.items ≡ lines.old.items ++ invoke_static (0 ∷ []) (work_method i) ∷
+        move_result_object 1 ∷ invoke_static (1 ∷ []) net_post ∷ []) }
 {
     let method = work_method(alloc, i)?;
     lines.push(invoke_static(alloc, &[0], method)?)?;

@@ -1,5 +1,5 @@
-//! What a row of the lists says of a method: its prototype, what tells it from others, positions among its arguments, and its
-//! result.
+//! What a row of the lists says of a method: its prototype, what tells it from others, positions among its arguments,
+//! and its result.
 #![tactic(auto)]
 
 mod descriptor;

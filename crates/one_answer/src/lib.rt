@@ -1,5 +1,5 @@
-//! That the readers of code and of forms have one answer each: a value or a fault stands in what is read, never both and
-//! never two.
+//! That the readers of code and of forms have one answer each: a value or a fault stands in what is read, never both
+//! and never two.
 #![tactic(auto)]
 
 mod laws;

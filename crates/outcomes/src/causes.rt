@@ -73,7 +73,8 @@ fn causes_at(alloc: Global, app: &App, cause: u8, spots: &[Spot]) -> Result<Vec<
 
 /// The places of the cause, in order and each once.
 fn causes_by(alloc: Global, app: &App, cause: u8, rows: &[Row]) -> Result<Vec<Cause>, Memory>
-    ensures { IfOk result (λ v. v.items ≡ map (λ spot. named_cause cause (at_spot app.now spot)) (ascending spot_order (filter_map (unknown_spot cause) rows.now))) }
+    ensures { IfOk result (λ v. v.items ≡ map (λ spot. named_cause cause (at_spot app.now spot))
+        (ascending spot_order (filter_map (unknown_spot cause) rows.now))) }
 {
     let spots = ascending_of(alloc, unknown_spots(alloc, cause, rows)?)?;
     causes_at(alloc, app, cause, &spots)
@@ -161,9 +162,9 @@ fn layout_classes(alloc: Global, app: &App) -> Result<Vec<Cause>, Memory>
     Ok(causes)
 }
 
-/// The causes that rows of the app and the app itself tell: the instructions at which a run may stand without a row of the
-/// lists, before native code and at reflection, then the providers, and then the classes of the app that layouts name; each
-/// in ascending order and once.
+/// The causes that rows of the app and the app itself tell: the instructions at which a run may stand without a row of
+/// the lists, before native code and at reflection, then the providers, and then the classes of the app that layouts
+/// name; each in ascending order and once.
 #[tactic(auto, unfolding(crate::specs::Causes::causes_of))]
 pub fn causes_of(alloc: Global, app: &App, rows: &[Row]) -> Result<Vec<Cause>, Memory>
     requires sound { SoundApp app.now }

@@ -43,8 +43,8 @@ fn put_escaped_byte(text: &mut Vec<u8>, byte: u8) -> Result<(), Memory>
     }
 }
 
-/// Adds a name at the end: a byte that is no visible ASCII, and the backslash, as `\x` and two hexadecimal digits. After want
-/// of memory a part of it may be there.
+/// Adds a name at the end: a byte that is no visible ASCII, and the backslash, as `\x` and two hexadecimal digits.
+/// After want of memory a part of it may be there.
 #[tactic(auto, unfolding(crate::specs::Printed::escaped))]
 pub fn put_name(text: &mut Vec<u8>, name: &[u8]) -> Result<(), Memory>
     ensures { OnOk result (text.new.items ≡ text.old.items ++ escaped name.now) }

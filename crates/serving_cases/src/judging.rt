@@ -96,8 +96,8 @@ fn is_broken_off(alloc: Global, reply: &[u8], due: &[u8]) -> Result<bool, AllocE
     Ok(is_front && reply.starts_with(b"write fault".as_slice()))
 }
 
-/// What is found where the calls fail one after the other, up to the first that is not made; the reply that is due where
-/// all goes as it may.
+/// What is found where the calls fail one after the other, up to the first that is not made; the reply that is due
+/// where all goes as it may.
 fn found_by_calls(
     alloc: Global,
     bench: &mut Bench,

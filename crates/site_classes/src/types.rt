@@ -78,7 +78,8 @@ fn body_on(app: &App, lists: &Lists, ctx: Ctx, component: &Component) -> Option<
 /// The body of event number `event` in the component's life.
 fn life_body(app: &App, component: &Component, event: u32) -> Option<u32>
     requires { SoundApp app.now }
-    ensures { result ≡ option_and_then (body_of_life app.now component.now.class) (slice_get (life_events component.now.kind) event) }
+    ensures { result ≡ option_and_then (body_of_life app.now component.now.class)
+        (slice_get (life_events component.now.kind) event) }
 {
     match event_rows(component.kind).get(event as usize) {
         Some(event) => body_named(

@@ -40,7 +40,8 @@ fn put_at<T: Exact + Drop>(
     requires room { HasRoom parts.old.items slot.part }
     requires kept { IsKept parts.old.items starts.old.items }
     requires few { length (all_rows parts.old.items) + 1 < 2 ^ 64 }
-    ensures ok { OnOk result (all_rows parts.new.items ≡ insert (all_rows parts.old.items) (place_of parts.old.items slot) row) }
+    ensures ok { OnOk result (all_rows parts.new.items ≡ insert (all_rows parts.old.items)
+        (place_of parts.old.items slot) row) }
     ensures err { OnErr result (all_rows parts.new.items ≡ all_rows parts.old.items) }
     ensures kept { IsKept parts.new.items starts.new.items }
 {
@@ -181,7 +182,8 @@ pub fn grow<T: Exact + Drop>(
     requires slot { IsSlot parts.old.items slot }
     requires kept { IsKept parts.old.items starts.old.items }
     requires few { length (all_rows parts.old.items) + 1 < 2 ^ 64 }
-    ensures ok { OnOk result (all_rows parts.new.items ≡ insert (all_rows parts.old.items) (place_of parts.old.items slot) row) }
+    ensures ok { OnOk result (all_rows parts.new.items ≡ insert (all_rows parts.old.items)
+        (place_of parts.old.items slot) row) }
     ensures err { OnErr result (all_rows parts.new.items ≡ all_rows parts.old.items) }
     ensures kept { IsKept parts.new.items starts.new.items }
 {

@@ -36,7 +36,8 @@ fn begins_counted<T: Exact + Drop, S: Stretch<T>>(part: &Part<T>, stretch: &S, i
 /// How many of the parts begin with a row that is counted, up to the first that does not.
 fn begun<T: Exact + Drop, S: Stretch<T>>(parts: &[Part<T>], stretch: &S, inside: bool) -> usize
     requires { Filled parts.now }
-    ensures { Between (BeginsWith (counted (S.side stretch.now) inside) true) (BeginsWith (counted (S.side stretch.now) inside) false) parts.now result result }
+    ensures { Between (BeginsWith (counted (S.side stretch.now) inside) true)
+        (BeginsWith (counted (S.side stretch.now) inside) false) parts.now result result }
 {
     let mut low = 0;
     let mut high = parts.len();
@@ -69,7 +70,9 @@ pub fn seek<T: Exact + Drop, S: Stretch<T>>(parts: &[Part<T>], stretch: &S, insi
 pub fn ends_with<T: Exact + Drop>(parts: &[Part<T>], slot: Slot, row: &T) -> bool
     requires slot { IsSlot parts.now slot }
     requires entered { 0 < slot.part → 0 < slot.place }
-    ensures { IsTrue result ↔ ((0 < place_of parts.now slot) × (slice_index_or (all_rows parts.now) (place_of parts.now slot - 1) row.now ≡ row.now)) }
+    ensures { IsTrue result
+        ↔ ((0 < place_of parts.now slot) × (slice_index_or (all_rows parts.now) (place_of parts.now slot - 1) row.now
+        ≡ row.now)) }
 {
     ends_before(&parts[slot.part].rows, slot.place, row)
 }

@@ -76,7 +76,8 @@ fn pass<S: Sink>(
     content: Content,
     out: &mut S,
 ) -> Result<(), S::Refusal>
-    ensures { OnOk result (out.new ≡ fold S.then out.old (passes step.now.act step.now.next step.now.catches node register content)) }
+    ensures { OnOk result (out.new ≡ fold S.then out.old (passes step.now.act step.now.next step.now.catches node
+        register content)) }
 {
     let premises = Premises::One(content.held(node, register));
     let moved = Inference { rule: 3, premises };

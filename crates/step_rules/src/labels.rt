@@ -42,7 +42,8 @@ fn get_rest<S: Sink>(
     from: Labelled,
     out: &mut S,
 ) -> Result<(), S::Refusal>
-    ensures { OnOk result (out.new ≡ fold S.then out.old (rest_gives left targets.now next.now from.node from.register from.path from.label)) }
+    ensures { OnOk result (out.new ≡ fold S.then out.old (rest_gives left targets.now next.now from.node from.register
+        from.path from.label)) }
 {
     match left {
         None => Ok(()),
@@ -59,7 +60,8 @@ fn get_rest<S: Sink>(
 
 /// What a label gives that an object does not give so.
 fn label_alone<S: Sink>(step: &Step, held: Labelled, out: &mut S) -> Result<(), S::Refusal>
-    ensures { OnOk result (out.new ≡ fold S.then out.old (label_gives step.now.act step.now.next held.node held.register held.path held.label)) }
+    ensures { OnOk result (out.new ≡ fold S.then out.old (label_gives step.now.act step.now.next held.node held.register
+        held.path held.label)) }
 {
     let premises = Premises::One(held.row());
     let next = step.next.as_slice();
@@ -96,7 +98,8 @@ fn label_alone<S: Sink>(step: &Step, held: Labelled, out: &mut S) -> Result<(), 
 /// What a register leads that may lead to a label: what follows from it alone.
 pub fn lead_label<S: Sink>(app: &App, held: Labelled, out: &mut S) -> Result<(), S::Refusal>
     requires { SoundApp app.now }
-    ensures { OnOk result (out.new ≡ fold S.then out.old (taint_leads (step_here app.now held.node) held.node held.register held.path held.label)) }
+    ensures { OnOk result (out.new ≡ fold S.then out.old (taint_leads (step_here app.now held.node) held.node
+        held.register held.path held.label)) }
 {
     match step_at(app, held.node.by.method, held.node.pc) {
         None => Ok(()),
@@ -116,7 +119,8 @@ pub fn from_label<F: Facts, S: Sink>(
     out: &mut S,
 ) -> Result<(), S::Refusal>
     requires { SoundApp app.now }
-    ensures { OnOk result (out.new ≡ fold S.then out.old (taint_on (step_here app.now held.node) (F.hits facts.now) held.node held.register held.path held.label)) }
+    ensures { OnOk result (out.new ≡ fold S.then out.old (taint_on (step_here app.now held.node) (F.hits facts.now)
+        held.node held.register held.path held.label)) }
 {
     match step_at(app, held.node.by.method, held.node.pc) {
         None => Ok(()),

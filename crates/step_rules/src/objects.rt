@@ -101,7 +101,8 @@ fn object_alone<F: Facts, S: Sink>(
     held: Holding,
     out: &mut S,
 ) -> Result<(), S::Refusal>
-    ensures { OnOk result (out.new ≡ fold S.then out.old (object_gives (F.hits facts.now) step.now.act step.now.next held.node held.register held.site)) }
+    ensures { OnOk result (out.new ≡ fold S.then out.old (object_gives (F.hits facts.now) step.now.act step.now.next
+        held.node held.register held.site)) }
 {
     match &step.act {
         Act::Fill(elements, _) => {
@@ -152,7 +153,8 @@ pub fn lead_object<F: Facts, S: Sink>(
     out: &mut S,
 ) -> Result<(), S::Refusal>
     requires { SoundApp app.now }
-    ensures { OnOk result (out.new ≡ fold S.then out.old (points_lead (step_here app.now held.node) (F.hits facts.now) held.node held.register held.site)) }
+    ensures { OnOk result (out.new ≡ fold S.then out.old (points_lead (step_here app.now held.node) (F.hits facts.now)
+        held.node held.register held.site)) }
 {
     match step_at(app, held.node.by.method, held.node.pc) {
         None => Ok(()),
@@ -177,7 +179,8 @@ pub fn from_object<F: Facts, S: Sink>(
     out: &mut S,
 ) -> Result<(), S::Refusal>
     requires { SoundApp app.now }
-    ensures { OnOk result (out.new ≡ fold S.then out.old (points_on (step_here app.now held.node) (F.hits facts.now) held.node held.register held.site)) }
+    ensures { OnOk result (out.new ≡ fold S.then out.old (points_on (step_here app.now held.node) (F.hits facts.now)
+        held.node held.register held.site)) }
 {
     match step_at(app, held.node.by.method, held.node.pc) {
         None => Ok(()),
@@ -198,7 +201,8 @@ fn get_held<S: Sink>(
     held: Site,
     out: &mut S,
 ) -> Result<(), S::Refusal>
-    ensures { OnOk result (out.new ≡ fold S.then out.old (gets step.now.act step.now.next from.node from.register from.site key held)) }
+    ensures { OnOk result (out.new ≡ fold S.then out.old (gets step.now.act step.now.next from.node from.register
+        from.site key held)) }
 {
     match &step.act {
         Act::Get(targets, register, own) => {

@@ -113,7 +113,8 @@ pub fn read_statics<F: Facts, S: Sink>(
     node: Node,
     out: &mut S,
 ) -> Result<(), S::Refusal>
-    ensures { OnOk result (out.new ≡ fold S.then out.old (statics_read (F.hits facts.now) step.now.act step.now.next node)) }
+    ensures { OnOk result (out.new ≡ fold S.then out.old (statics_read (F.hits facts.now) step.now.act step.now.next
+        node)) }
 {
     match &step.act {
         Act::GetStatic(_, number) => {
@@ -133,7 +134,9 @@ fn to_readers<F: Facts, S: Sink>(
     out: &mut S,
 ) -> Result<(), S::Refusal>
     requires { SoundApp with.now.app.now }
-    ensures { OnOk result (out.new ≡ fold S.then out.old (flat_map (reader_takes with.now.app.now (F.hits facts.now) with.now.number with.now.content) readers.now)) }
+    ensures { OnOk result
+        (out.new ≡ fold S.then out.old
+        (flat_map (reader_takes with.now.app.now (F.hits facts.now) with.now.number with.now.content) readers.now)) }
 {
     for reader in readers {
         let key = Key::ReachedAt(reader.method, reader.pc);

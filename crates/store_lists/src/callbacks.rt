@@ -111,7 +111,8 @@ fn sources_at(
     categories: &Index<Name>,
 ) -> Result<Vec<(u32, u8)>, Stop<Fault>>
     requires { length categories.now ≤ 200 }
-    ensures { Gives (λ v. v.items) result (named_at Section.Callback Key.Sources count categories.now (table_view table.now)) }
+    ensures { Gives (λ v. v.items) result (named_at Section.Callback Key.Sources count categories.now
+        (table_view table.now)) }
 {
     let items = items_at(table, Section::Callback, Key::Sources, Shape::NamedPair)?;
     let sources = source_rows(alloc, items, count, categories)?;
@@ -126,7 +127,8 @@ fn source_rows(
     categories: &Index<Name>,
 ) -> Result<Vec<(u32, u8)>, Stop<Fault>>
     requires { length categories.now ≤ 200 }
-    ensures { Gives (λ v. (v.items, tt)) result (named_rows Section.Callback Key.Sources count categories.now (map view items.now)) }
+    ensures { Gives (λ v. (v.items, tt)) result (named_rows Section.Callback Key.Sources count categories.now
+        (map view items.now)) }
 {
     let mut sources = Vec::new(alloc);
     for value in items {
@@ -144,7 +146,8 @@ fn source_row(
     categories: &Index<Name>,
 ) -> Result<(u32, u8), Stop<Fault>>
     requires { length categories.now ≤ 200 }
-    ensures { Gives (λ p. (p, tt)) result (named_row Section.Callback Key.Sources count categories.now (view value.now) tt) }
+    ensures { Gives (λ p. (p, tt)) result (named_row Section.Callback Key.Sources count categories.now (view value.now)
+        tt) }
 {
     let Some(parts) = items_in(value) else {
         return Err(Stop::Fault(Fault::Range(Section::Callback, Key::Sources)));

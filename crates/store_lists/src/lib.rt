@@ -1,5 +1,5 @@
-//! Reads the lists of the office: the categories, and what is said of the library's classes, shared objects, methods and
-//! callbacks.
+//! Reads the lists of the office: the categories, and what is said of the library's classes, shared objects, methods
+//! and callbacks.
 #![tactic(auto)]
 
 mod callbacks;

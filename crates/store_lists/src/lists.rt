@@ -197,7 +197,8 @@ fn rows_of(
 ) -> Result<Rows, Stop<Fault>>
     requires categories { length categories ≤ 200 }
     requires shared { length shared_tables.now ≤ 65536 }
-    ensures { Gives (λ x. x) result (rows_of categories (map view class_tables.now) (map view shared_tables.now) (map view method_tables.now) (map view callback_tables.now)) }
+    ensures { Gives (λ x. x) result (rows_of categories (map view class_tables.now) (map view shared_tables.now)
+        (map view method_tables.now) (map view callback_tables.now)) }
 {
     let (class_names, classes) = classes_of(alloc, class_tables)?.into_parts();
     let shared = shared_of(alloc, shared_tables)?;

@@ -51,7 +51,8 @@ pub fn outcome_of_rows(
 ) -> Result<Outcome, Memory>
     requires sound { SoundApp app.now }
     requires within { AreWithin app.now rows.now }
-    ensures { IfOk result (λ o. o ≡ outcome_of (causes_of app.now rows.now) (findings_of app.now papers.now.lists papers.now.declaration rows.now)) }
+    ensures { IfOk result (λ o. o ≡ outcome_of (causes_of app.now rows.now)
+        (findings_of app.now papers.now.lists papers.now.declaration rows.now)) }
 {
     let causes = causes_of(alloc, app, rows)?;
     let findings = findings_of(alloc, app, &papers.lists, &papers.declaration, rows)?;
@@ -83,8 +84,8 @@ fn judged_by(alloc: Global, app: &App, papers: &Papers, flow: Flow) -> Result<Ju
     }
 }
 
-/// What a linked app comes to, as `judge` says of its parts: the app, the lists and the declaration are those that `linked_parts`
-/// gave, so nothing is linked a second time.
+/// What a linked app comes to, as `judge` says of its parts: the app, the lists and the declaration are those that
+/// `linked_parts` gave, so nothing is linked a second time.
 pub fn judge_linked<T: Threads + Wait + Sync, G: Gate>(
     alloc: Global,
     linked: &Linked,
@@ -95,7 +96,8 @@ pub fn judge_linked<T: Threads + Wait + Sync, G: Gate>(
     ensures value { IfOk result (λ j. ComesTo linked.now.app linked.now.papers.lists linked.now.papers.declaration j) }
 
     // Unless the app is too large, the outcome leaves out nothing that a run does.
-    ensures told { IfOk result (λ j. IsFollowed j.outcome → TellsAll linked.now.app linked.now.papers.lists linked.now.papers.declaration j.outcome) }
+    ensures told { IfOk result (λ j. IsFollowed j.outcome → TellsAll linked.now.app linked.now.papers.lists
+        linked.now.papers.declaration j.outcome) }
     ensures table { IfOk result (λ j. IfSome j.table IsTable) }
 {
     nothing_is_left_out();
@@ -128,17 +130,17 @@ fn judged_parts<T: Threads + Wait + Sync, G: Gate>(
 /// What the parts of an app come to.
 ///
 /// Refused with the first fault: that of the manifest's form, a number of DEX files that is not the manifest's (a range
-/// fault of its `dex_files`), those of the forms of layouts, declaration and lists, that of each DEX file, and then that of
-/// the app that they are. Else undecided where a run may come to a call without a row of the lists, to native code or to
-/// reflection, where there is a content provider, where a layout names a class of the app, or where more rows follow than the
-/// lists allow; else flagged where a value of a source may come to a sink and the declaration does not name the pair; else
-/// clear, and then no run of the app brings one there.
+/// fault of its `dex_files`), those of the forms of layouts, declaration and lists, that of each DEX file, and then
+/// that of the app that they are. Else undecided where a run may come to a call without a row of the lists, to native
+/// code or to reflection, where there is a content provider, where a layout names a class of the app, or where more
+/// rows follow than the lists allow; else flagged where a value of a source may come to a sink and the declaration does
+/// not name the pair; else clear, and then no run of the app brings one there.
 ///
 /// Causes and findings stand in ascending order and each once: places by cause, providers and classes by name; findings
 /// by the names of source and sink and then by place. A place goes by class, name and descriptor of the method, and
-/// address. Of an app that is too large only that, its providers and its layouts' classes are told, and there is no table; nor
-/// is there one where the parts are refused. Else the table is there, with all rows that follow and no others. Nothing of this
-/// depends on the crew that finds what follows.
+/// address. Of an app that is too large only that, its providers and its layouts' classes are told, and there is no
+/// table; nor is there one where the parts are refused. Else the table is there, with all rows that follow and no
+/// others. Nothing of this depends on the crew that finds what follows.
 #[tactic(auto, using(crate::proofs::Outcomes::refused_with, crate::proofs::Outcomes::no_followed_refusal, crate::proofs::Outcomes::clear_is_safe))]
 pub fn judge<T: Threads + Wait + Sync, G: Gate>(
     alloc: Global,

@@ -20,8 +20,8 @@ pub fn lower_laws()
     one_flow();
 }
 
-/// Parts of which the verdict is clear make a safe app, where they were linked: this is so of every verdict, whoever came to
-/// it, and nothing is judged here.
+/// Parts of which the verdict is clear make a safe app, where they were linked: this is so of every verdict, whoever
+/// came to it, and nothing is judged here.
 pub fn a_clear_verdict_is_of_a_safe_app()
     ensures { ClearIsSafe }
 {

@@ -79,15 +79,15 @@ fn rejudged_parts(alloc: Global, parts: &Parts, rows: &[Row], seed: u64) -> Resu
 
 /// What the parts of an app come to by rows that anyone made, as those of a certificate.
 ///
-/// Refused with the first fault, as `judge` refuses, whatever the rows are. Else the rows are checked, and where they are no
-/// good table of the app, that is told: the least row that names what app and lists do not have; or else the least start row
-/// that is not among them; or else the least row that follows from them and is not among them. Else the outcome is that of the
-/// causes and findings which these rows tell, in the order that `judge` has. A good table may have more rows than follow, so
-/// there may be more of both than `judge` finds, and never less; where the outcome is clear, no run of the app brings a
-/// value of a source to a sink unless the declaration names the pair.
+/// Refused with the first fault, as `judge` refuses, whatever the rows are. Else the rows are checked, and where they
+/// are no good table of the app, that is told: the least row that names what app and lists do not have; or else the
+/// least start row that is not among them; or else the least row that follows from them and is not among them. Else the
+/// outcome is that of the causes and findings which these rows tell, in the order that `judge` has. A good table may
+/// have more rows than follow, so there may be more of both than `judge` finds, and never less; where the outcome is
+/// clear, no run of the app brings a value of a source to a sink unless the declaration names the pair.
 ///
-/// The number of rows has no limit here: it is never told that an app is too large. The order of the rows, and how often a row
-/// stands among them, makes no difference; nor does the seed, which says where rows are stored meanwhile.
+/// The number of rows has no limit here: it is never told that an app is too large. The order of the rows, and how
+/// often a row stands among them, makes no difference; nor does the seed, which says where rows are stored meanwhile.
 #[tactic(auto, using(crate::proofs::Rechecks::refused_anyway, crate::proofs::Rechecks::only_refused, crate::proofs::Rechecks::clear_by_is_safe))]
 pub fn judge_table(
     alloc: Global,

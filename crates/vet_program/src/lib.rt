@@ -1,5 +1,6 @@
 //! The program over whatever system runs it: the words, a seed, the files and the standard output go to the top call,
-//! and its status is the exit status. `vet` runs it where its words ask for no desk, and so do the programs that test it.
+//! and its status is the exit status. `vet` runs it where its words ask for no desk, and so do the programs that test
+//! it.
 #![tactic(auto)]
 
 ghost use Rattle.std.specs.Prelude.{◌≡◌, map, string_bytes, IfErr};
@@ -61,16 +62,18 @@ pub fn vetted<F: Files, O: Sink, T: Threads + Wait + Sync>(
     rt: &T,
     seed: u64,
 ) -> ExitCode
-    // The exit status, the printed text and the files are those that are due to the words, unless a read or the put failed
-    // in this very call, or memory ran out.
+    // The exit status, the printed text and the files are those that are due to the words, unless a read or the put
+    // failed in this very call, or memory ran out.
     ensures ends { EndsAsDue (parse (map string_bytes words.now))
         (outside (F.told files.old) (F.fault_count files.old) (O.taken out.old) (O.fault_count out.old))
-        (outside (F.told files.new) (F.fault_count files.new) (O.taken out.new) (O.fault_count out.new)) (exit_status result) }
+        (outside (F.told files.new) (F.fault_count files.new) (O.taken out.new) (O.fault_count out.new))
+        (exit_status result) }
 
     // Nothing else is due, where the files tell what they hold.
     ensures only { EndsAsOnlyDue (parse (map string_bytes words.now))
         (outside (F.told files.old) (F.fault_count files.old) (O.taken out.old) (O.fault_count out.old))
-        (outside (F.told files.new) (F.fault_count files.new) (O.taken out.new) (O.fault_count out.new)) (exit_status result) }
+        (outside (F.told files.new) (F.fault_count files.new) (O.taken out.new) (O.fault_count out.new))
+        (exit_status result) }
 
     // Clear is a theorem about the very bytes handed in.
     ensures sound { SaysClear (parse (map string_bytes words.now)) (exit_status result) →
@@ -80,7 +83,8 @@ pub fn vetted<F: Files, O: Sink, T: Threads + Wait + Sync>(
     ensures full { SaysFound (parse (map string_bytes words.now)) (exit_status result) →
         PrintsFullReport (parse (map string_bytes words.now))
         (outside (F.told files.old) (F.fault_count files.old) (O.taken out.old) (O.fault_count out.old))
-        (outside (F.told files.new) (F.fault_count files.new) (O.taken out.new) (O.fault_count out.new)) (exit_status result) }
+        (outside (F.told files.new) (F.fault_count files.new) (O.taken out.new) (O.fault_count out.new))
+        (exit_status result) }
 {
     let crew = Crew {
         rt,

@@ -104,7 +104,8 @@ fn unreadable(stop: Stop<CertFault>) -> Result<Answer, Memory>
 /// What parts come to by a certificate.
 fn rechecked_by(alloc: Global, parts: &Parts, cert: &Cert, seed: u64) -> Result<Answer, Memory>
     requires { AreShort parts.now }
-    ensures { (bytes : List ℕ) → IsCert bytes cert.now.digest cert.now.rows → IfOk result (λ a. FindsOfParts (Unit {0}) (RechecksBy bytes) parts.now (due_of a)) }
+    ensures { (bytes : List ℕ) → IsCert bytes cert.now.digest cert.now.rows
+        → IfOk result (λ a. FindsOfParts (Unit {0}) (RechecksBy bytes) parts.now (due_of a)) }
 {
     certificates_keep_their_laws();
     let digest = digest_of(parts);

@@ -150,7 +150,8 @@ fn found_by_make<T: Threads + Wait + Sync, G: Gate>(
     requires app_seed { app_seed < 2147483648 }
     requires some { 1 ≤ size }
     requires most { size ≤ 2000 }
-    ensures { (told : Option Told) (count : ℕ) → IsFound (Some (Make app_seed size workers)) told told count count result }
+    ensures { (told : Option Told) (count : ℕ) → IsFound (Some (Make app_seed size workers)) told told count count
+        result }
 {
     said(made(alloc, app_seed, size, workers, crew))
 }

@@ -45,7 +45,8 @@ fn write_file<F: Files>(
     path: &str,
     bytes: &[u8],
 ) -> Result<(), Status>
-    ensures { WritesDue (Some (path.now, bytes.now)) (F.told files.old) (F.told files.new) (F.fault_count files.old) (F.fault_count files.new) result }
+    ensures { WritesDue (Some (path.now, bytes.now)) (F.told files.old) (F.told files.new) (F.fault_count files.old)
+        (F.fault_count files.new) result }
 {
     match files.write(alloc, path, bytes) {
         Ok(()) => Ok(()),
@@ -55,7 +56,8 @@ fn write_file<F: Files>(
 
 /// Writes the file that is due with the answer, if any.
 fn write_due<F: Files>(alloc: Global, files: &mut F, answer: &Answer) -> Result<(), Status>
-    ensures { WritesDue (due_of answer.now).written (F.told files.old) (F.told files.new) (F.fault_count files.old) (F.fault_count files.new) result }
+    ensures { WritesDue (due_of answer.now).written (F.told files.old) (F.told files.new) (F.fault_count files.old)
+        (F.fault_count files.new) result }
 {
     match answer {
         Answer::Usage => Ok(()),
@@ -72,7 +74,8 @@ fn write_due<F: Files>(alloc: Global, files: &mut F, answer: &Answer) -> Result<
 
 /// Writes the file that is due with what was found, if any.
 fn written<F: Files>(alloc: Global, files: &mut F, found: &Found) -> Result<(), Status>
-    ensures { WritesDue (file_of found.now) (F.told files.old) (F.told files.new) (F.fault_count files.old) (F.fault_count files.new) result }
+    ensures { WritesDue (file_of found.now) (F.told files.old) (F.told files.new) (F.fault_count files.old)
+        (F.fault_count files.new) result }
 {
     match found {
         Found::Said(answer) => write_due(alloc, files, answer),
@@ -82,7 +85,8 @@ fn written<F: Files>(alloc: Global, files: &mut F, found: &Found) -> Result<(), 
 }
 
 fn printed<O: Sink>(alloc: Global, out: &mut O, status: Status, text: &[u8]) -> Status
-    ensures { PutsText (O.taken out.old) (O.taken out.new) (O.fault_count out.old) (O.fault_count out.new) status text.now result }
+    ensures { PutsText (O.taken out.old) (O.taken out.new) (O.fault_count out.old) (O.fault_count out.new) status
+        text.now result }
 {
     match out.put(alloc, text) {
         Ok(()) => status,
@@ -126,16 +130,17 @@ fn run<F: Files, O: Sink, T: Threads + Wait + Sync, G: Gate>(
 /// Runs the words over files, and prints the answer to a sink as one text that ends with one line feed and goes out in
 /// one put.
 ///
-/// The words are `check DIR WORKERS`, which judges the app in a folder; `certify DIR CERT`, which also writes the table of
-/// what follows in the app to a file, as a certificate, before it prints; `recheck DIR CERT`, which judges the app by the
-/// table of a certificate that anyone may have made; or `make SEED SIZE WORKERS`, which judges an app that is drawn from a
-/// seed, reads no file, and prints a summary in place of the report: how many methods, rows and findings there are, and the
-/// outcome's word. Where an app is refused or too large no certificate is written.
+/// The words are `check DIR WORKERS`, which judges the app in a folder; `certify DIR CERT`, which also writes the table
+/// of what follows in the app to a file, as a certificate, before it prints; `recheck DIR CERT`, which judges the app
+/// by the table of a certificate that anyone may have made; or `make SEED SIZE WORKERS`, which judges an app that is
+/// drawn from a seed, reads no file, and prints a summary in place of the report: how many methods, rows and findings
+/// there are, and the outcome's word. Where an app is refused or too large no certificate is written.
 ///
 /// The status is:
 /// - 0, clear: the folder that the words name gives the parts of an app that is safe, that is, no run of the machine
 ///   brings a value of a listed source to a listed sink unless the declaration names that pair, or comes to what is not
-///   modelled. Where the files tell what they hold, those parts are the files of the folder. For `make` the generated app
+///   modelled. Where the files tell what they hold, those parts are the files of the folder. For `make` the generated
+/// app
 ///   is safe. The report is printed, as it is for 1 to 3, or the summary.
 /// - 1, flagged: a value of a source may come to a sink, and the declaration does not name the pair.
 /// - 2, undecided: a run may come to what is not modelled, or the app is too large.
@@ -144,13 +149,14 @@ fn run<F: Files, O: Sink, T: Threads + Wait + Sync, G: Gate>(
 /// - 5: a read of a file of this command failed in this call. A line with the file's name is printed.
 /// - 6: the put failed in this call, and a front of the text that was due was printed; or the write of the certificate
 ///   failed in this call, its file has its old bytes or a front of the new ones, and nothing was printed.
-/// - 7: memory ran out, or a hostile app would list more than is allowed, which is answered alike. Nothing was printed; a
+/// - 7: memory ran out, or a hostile app would list more than is allowed, which is answered alike. Nothing was printed;
+/// a
 ///   certificate that was due is written or not.
 /// - 9: the certificate is refused: its bytes are none, or it is about other files, or its table is no table of the app
 ///   that holds all that follows. A line that says which is printed.
 ///
-/// The crew finds what follows in an app: `check` and `make` with WORKERS workers, from 1 to 16, `certify` with as many as it
-/// has. No answer depends on it, or on how its workers take turns.
+/// The crew finds what follows in an app: `check` and `make` with WORKERS workers, from 1 to 16, `certify` with as many
+/// as it has. No answer depends on it, or on how its workers take turns.
 pub fn vet<F: Files, O: Sink, T: Threads + Wait + Sync, G: Gate>(
     alloc: Global,
     words: &[String],
@@ -158,8 +164,8 @@ pub fn vet<F: Files, O: Sink, T: Threads + Wait + Sync, G: Gate>(
     out: &mut O,
     crew: &Crew<'_, T, G>,
 ) -> Status
-    // The status, the printed text and the files are those that are due to the words, unless a read or the put failed in
-    // this very call, or memory ran out.
+    // The status, the printed text and the files are those that are due to the words, unless a read or the put failed
+    // in this very call, or memory ran out.
     ensures ends { EndsAsDue (parse (map string_bytes words.now))
         (outside (F.told files.old) (F.fault_count files.old) (O.taken out.old) (O.fault_count out.old))
         (outside (F.told files.new) (F.fault_count files.new) (O.taken out.new) (O.fault_count out.new)) result.0 }

@@ -13,7 +13,8 @@ use std::io::ErrorKind;
 pub fn words_given(alloc: Global, given: io::Result<Vec<String>>) -> Result<Vec<String>, Status>
     ensures read { IfOk given (λ words. result ≡ Ok words) }
     ensures memory { IfErr given (λ e. error_kind e ≡ ErrorKind.OutOfMemory → result ≡ Err (status 7)) }
-    ensures unread { IfErr given (λ e. error_kind e ≢ ErrorKind.OutOfMemory → IsOkAnd result (λ words. words.items ≡ [])) }
+    ensures unread { IfErr given (λ e. error_kind e ≢ ErrorKind.OutOfMemory → IsOkAnd result (λ words. words.items
+        ≡ [])) }
 {
     match given {
         Ok(words) => Ok(words),

@@ -88,7 +88,8 @@ fn any_marked(app: &App, class: &[u8], quality: Quality) -> bool
 fn add_each(app: &App, names: &[Name], seen: &mut Marks, waiting: &mut Marks)
     requires sound { SoundApp app.now }
     requires room { length app.now.classes ≤ 131072 }
-    ensures { Adds app.now names.now (is_marked seen.old.words) (is_marked waiting.old.words) (is_marked seen.new.words) (is_marked waiting.new.words) }
+    ensures { Adds app.now names.now (is_marked seen.old.words) (is_marked waiting.old.words) (is_marked seen.new.words)
+        (is_marked waiting.new.words) }
 {
     for name in names {
         add(app, name.as_bytes(), seen, waiting);
@@ -100,7 +101,8 @@ fn add_each(app: &App, names: &[Name], seen: &mut Marks, waiting: &mut Marks)
 fn add(app: &App, name: &[u8], seen: &mut Marks, waiting: &mut Marks)
     requires sound { SoundApp app.now }
     requires room { length app.now.classes ≤ 131072 }
-    ensures { Adds app.now (name.now ∷ []) (is_marked seen.old.words) (is_marked waiting.old.words) (is_marked seen.new.words) (is_marked waiting.new.words) }
+    ensures { Adds app.now (name.now ∷ []) (is_marked seen.old.words) (is_marked waiting.old.words)
+        (is_marked seen.new.words) (is_marked waiting.new.words) }
 {
     let Some(i) = number_of(app, name) else {
         return;

@@ -47,7 +47,8 @@ pub fn classes_above<'a>(app: &App, class: Option<&'a Name>) -> ClassWalk<'a>
 #[tactic(auto, using(crate::proofs::Walking::left_none, crate::proofs::Walking::left_ended, crate::proofs::Walking::left_outside, crate::proofs::Walking::left_class))]
 pub fn next_class<'a>(app: &'a App, walk: ClassWalk<'a>) -> Option<(&'a Class, ClassWalk<'a>)>
     requires { SoundApp app.now }
-    ensures { MatchOption result (classes_left app.now walk.entry ≡ []) (λ next. classes_left app.now walk.entry ≡ next.0.now ∷ classes_left app.now next.1) }
+    ensures { MatchOption result (classes_left app.now walk.entry ≡ []) (λ next. classes_left app.now walk.entry
+        ≡ next.0.now ∷ classes_left app.now next.1) }
 {
     match walk.name {
         None => None,

@@ -55,7 +55,8 @@ fn text_of(proto: &Proto) -> Text<'_>
 
 /// The next part and those after it.
 fn next_part(later: Later) -> Option<Text>
-    ensures { MatchOption result (later_parts later.entry ≡ []) (λ t. later_parts later.entry ≡ t.part.now ∷ later_parts t.later) }
+    ensures { MatchOption result (later_parts later.entry ≡ []) (λ t. later_parts later.entry
+        ≡ t.part.now ∷ later_parts t.later) }
 {
     match later {
         Later::Params([param, params @ ..], ret) => Some(Text {
@@ -93,7 +94,8 @@ fn after_common<'a, 'b>(a: &'a [u8], b: &'b [u8]) -> Result<(&'a [u8], &'b [u8])
 /// What is left of the first behind the second, where it begins with it; else how they compare.
 fn after<'a>(text: Text<'a>, front: &[u8]) -> Result<Text<'a>, Ordering>
     ensures alike { IfOk result (λ left. text_left text.entry ≡ front.now ++ text_left left) }
-    ensures differ { IfErr result (λ order. (more : List ℕ) → slice_cmp nat_cmp (text_left text.entry) (front.now ++ more) ≡ order) }
+    ensures differ { IfErr result (λ order. (more : List ℕ) → slice_cmp nat_cmp (text_left text.entry)
+        (front.now ++ more) ≡ order) }
 {
     let mut text = text;
     let mut front = front;

@@ -42,7 +42,8 @@ fn compare_key(key: &Key, class: &[u8], name: &[u8], kind: &[u8]) -> Ordering
 }
 
 fn compare_parts(a: (&[u8], &[u8], &[u8]), b: (&[u8], &[u8], &[u8])) -> Ordering
-    ensures { result ≡ field_order (a.entry.0.now, a.entry.1.now, a.entry.2.now) (b.entry.0.now, b.entry.1.now, b.entry.2.now) }
+    ensures { result ≡ field_order (a.entry.0.now, a.entry.1.now, a.entry.2.now)
+        (b.entry.0.now, b.entry.1.now, b.entry.2.now) }
 {
     match a.0.cmp(b.0) {
         Ordering::Equal => match a.1.cmp(b.1) {

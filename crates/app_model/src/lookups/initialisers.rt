@@ -56,7 +56,8 @@ pub fn next_initialiser<'a>(
     walk: InitialiserWalk<'a>,
 ) -> Option<(u32, InitialiserWalk<'a>)>
     requires { SoundApp app.now }
-    ensures { MatchOption result (initialisers_left app.now walk.entry ≡ []) (λ next. initialisers_left app.now walk.entry ≡ next.0 ∷ initialisers_left app.now next.1) }
+    ensures { MatchOption result (initialisers_left app.now walk.entry ≡ [])
+        (λ next. initialisers_left app.now walk.entry ≡ next.0 ∷ initialisers_left app.now next.1) }
 {
     let mut classes = walk.classes;
     while let Some((class, rest)) = next_class(app, classes) {

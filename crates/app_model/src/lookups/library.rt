@@ -13,7 +13,8 @@ use vet_base::Name;
 /// What the lists say under the key. None exactly where they have no such row or default.
 #[tactic(auto, unfolding(app_machine::specs::Summaries::summary))]
 pub fn summary_of(lists: &Lists, key: SummaryId) -> Option<SummaryView<'_>>
-    ensures { (at : MethodRef) (is_static : Bool) → option_map (λ s. shown_summary s at is_static) result ≡ summary lists.now key at is_static }
+    ensures { (at : MethodRef) (is_static : Bool) → option_map (λ s. shown_summary s at is_static) result
+        ≡ summary lists.now key at is_static }
 {
     match key {
         SummaryId::Row(row) => match lists.methods.get(row as usize) {

@@ -44,7 +44,8 @@ impl Marks {
 
     /// The least number that is marked.
     pub(super) fn first(&self) -> Option<usize>
-        ensures { MatchOption result ((j : ℕ) → is_marked self.now.words j ≡ false) (λ i. (i < 131072) × (is_marked self.now.words i ≡ true)) }
+        ensures { MatchOption result ((j : ℕ) → is_marked self.now.words j ≡ false) (λ i. (i < 131072)
+            × (is_marked self.now.words i ≡ true)) }
     {
         for (at, word) in self.words.iter().enumerate() {
             if *word != 0 {

@@ -105,7 +105,8 @@ fn compare_by_text(method: &Method, class: &[u8], name: &[u8], descriptor: &[u8]
 
 /// How the method's class and name compare with these.
 fn compare_names(method: &Method, class: &[u8], name: &[u8]) -> Ordering
-    ensures { result ≡ ordering_then (name_order method.now.at.class class.now) (name_order method.now.at.name name.now) }
+    ensures { result ≡ ordering_then (name_order method.now.at.class class.now)
+        (name_order method.now.at.name name.now) }
 {
     match method.at.class.as_bytes().cmp(class) {
         Ordering::Equal => method.at.name.as_bytes().cmp(name),

@@ -41,7 +41,8 @@ pub fn target<'a>(
 /// The body of the method from this class upward, else a class of the library.
 fn body_from<'a>(app: &App, class: &Name, at: &MethodRef, library: &'a Name) -> Target<'a>
     requires { SoundApp app.now }
-    ensures { shown_target result ≡ body_or (find_body app.now class.now at.now.name at.now.proto) (Library library.now) }
+    ensures { shown_target result ≡ body_or (find_body app.now class.now at.now.name at.now.proto)
+        (Library library.now) }
 {
     match find_body(app, class, &at.name, &at.proto) {
         Some(body) => Target::Body(body),
