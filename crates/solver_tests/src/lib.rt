@@ -7,7 +7,3 @@ mod climb;
 mod of_cert_checker;
 #[cfg(test)]
 mod of_taint_solver;
-#[cfg(test)]
-mod of_worker_board;
-#[cfg(test)]
-mod of_worker_pool;
