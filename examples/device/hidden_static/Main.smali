@@ -1,0 +1,14 @@
+# Its static method does not override the one of Base, which is what the system calls.
+.class public La/Main;
+.super La/Base;
+
+.method public constructor <init>()V
+    .registers 1
+    invoke-direct {p0}, La/Base;-><init>()V
+    return-void
+.end method
+
+.method public static onCreate(Landroid/os/Bundle;)V
+    .registers 1
+    return-void
+.end method

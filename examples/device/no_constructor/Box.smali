@@ -1,0 +1,11 @@
+# Sends the device id when the collector of garbage finds that nobody needs it.
+.class public La/Box;
+.super Ljava/lang/Object;
+
+.method public finalize()V
+    .registers 2
+    invoke-static {}, Lvendor/Device;->id()Ljava/lang/String;
+    move-result-object v0
+    invoke-static {v0}, Lvendor/Net;->post(Ljava/lang/Object;)V
+    return-void
+.end method
