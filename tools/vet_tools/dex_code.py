@@ -348,11 +348,12 @@ class DexCode:
                     kept.append(sub)
         return kept
 
-    def unsummarised(self, instruction: Instruction) -> list[str]:
-        """The library classes at which a call may have come to a method without a row, nearest first.
+    def unsummarised(self, instruction: Instruction, has_summary: Callable[[list[str]], bool] | None = None) -> list[str]:
+        """The library classes at which a call may have come to a method without a row.
 
-        Where the call names a class outside the app it is that one. Else the object's class decides in a virtual call,
-        and these are the library classes of all app classes below the named one that have no body for the method.
+        Where the call names a class outside the app it is that one. Else the object's class decides in a virtual call:
+        of each app class below the named one that has no body for the method, and of whose library classes
+        `has_summary` does not say that the lists tell of it, the library classes, `java.lang.Object` last.
         """
         ref = instruction.called
         if ref is None:
@@ -362,7 +363,7 @@ class DexCode:
         names = self.below(ref.class_name) if instruction.virtual else [ref.class_name]
         found: dict[str, None] = {}
         for name in names:
-            if not self.has_body(name, ref):
-                for library in self.library_classes(name):
-                    found.setdefault(library)
-        return list(found)
+            libraries = self.library_classes(name)
+            if not self.has_body(name, ref) and not (has_summary and has_summary(libraries)):
+                found.update(dict.fromkeys(libraries))
+        return sorted(found, key=lambda library: library == "Ljava/lang/Object;")

@@ -167,6 +167,16 @@ def clicks_of(folder: Path) -> tuple[str, ...]:
     return tuple(dict.fromkeys(names))
 
 
+def layouts_with(folder: Path, class_name: str) -> list[str]:
+    """The names of the layouts in which this class stands, as they are printed. Raises `FormFault`."""
+    tree = _tree(folder, "layouts.toml")
+    try:
+        return [_printed(one["name"]) for one in tree.get("layout", [])
+                if class_name in map(_printed, one.get("classes", []))]
+    except (KeyError, TypeError, AttributeError):
+        raise FormFault("layouts.toml is not of its form; vet check says which key is at fault.") from None
+
+
 def declared_of(folder: Path) -> tuple[tuple[str, str], ...]:
     """The pairs of source and sink that the developer declares. Raises `FormFault`."""
     tree = _tree(folder, "declaration.toml")
