@@ -1,15 +1,20 @@
 """What the tests share: the examples with their answers, a stand-in for vet, dexdump, and an app with hostile names."""
 from __future__ import annotations
 
+import contextlib
+import importlib
+import io
 import os
 import re
 import shutil
 import subprocess
-import sys
 import tempfile
 import unittest
 from dataclasses import dataclass, field
 from pathlib import Path
+from unittest import mock
+
+from vet_tools.command import call
 
 TOOLS = Path(__file__).resolve().parents[1]
 ROOT = TOOLS.parent
@@ -52,6 +57,14 @@ sys.exit(int(status))
 """
 
 
+@dataclass(frozen=True)
+class Done:
+    """How a tool ended, and what it printed."""
+    returncode: int
+    stdout: str
+    stderr: str
+
+
 class ToolCase(unittest.TestCase):
     """A test with a folder of its own and a stand-in for vet that prints answers worked out by hand."""
 
@@ -69,11 +82,23 @@ class ToolCase(unittest.TestCase):
         if made is not None:
             shutil.copyfile(made, self.folder / "answers" / f"{name}.cert")
 
-    def run_tool(self, name: str, *words: str, vet: str | None = None, stdin: str = "") -> subprocess.CompletedProcess[str]:
-        """Runs tools/NAME with these words, and vet through the stand-in."""
-        environment = {**os.environ, "VET": vet or str(self.vet)}
-        return subprocess.run([sys.executable, str(TOOLS / name), *words], input=stdin, capture_output=True, text=True,
-                              env=environment, check=False)
+    def run_tool(self, name: str, *words: str, vet: str | None = None, stdin: str = "") -> Done:
+        """Runs a tool in this process with these words, and vet through the stand-in (or another program)."""
+        main = importlib.import_module(f"vet_tools.{name}").main
+        given = io.TextIOWrapper(io.BytesIO(stdin.encode()))
+        with mock.patch.dict(os.environ, {"VET": vet or str(self.vet)}), mock.patch("sys.stdin", given), \
+                contextlib.redirect_stdout(io.StringIO()) as out, contextlib.redirect_stderr(io.StringIO()) as err:
+            try:
+                status = call(f"tools/{name}", lambda: int(main(list(words))))
+            except SystemExit as ended:  # argparse's usage
+                status = ended.code if isinstance(ended.code, int) else 1
+        return Done(status, out.getvalue(), err.getvalue())
+
+    def spawn(self, name: str, *words: str, vet: str | None = None) -> Done:
+        """Runs a tool as a process of its own, as a person does."""
+        done = subprocess.run([str(TOOLS / name), *words], capture_output=True, text=True, check=False,
+                              env={**os.environ, "VET": vet or str(self.vet)})
+        return Done(done.returncode, done.stdout, done.stderr)
 
     def copied(self, example: str, name: str) -> Path:
         """A copy of an example under another name."""

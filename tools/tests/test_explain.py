@@ -47,7 +47,7 @@ class Examples(ToolCase):
     def test_vet_is_run_and_its_status_passed_on(self) -> None:
         for name in ("declared", "device_id_posted", "unlisted_call"):
             self.answer(name, *expected()[name])
-            done = self.run_tool("explain", str(EXAMPLES / name), "--workers", "2")
+            done = self.spawn("explain", str(EXAMPLES / name), "--workers", "2")
             self.assertEqual((done.stdout, done.returncode, done.stderr), (golden()[name], expected()[name][0], ""))
 
     def test_a_report_is_read_from_the_standard_input_and_vet_is_left_alone(self) -> None:
