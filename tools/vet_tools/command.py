@@ -3,12 +3,14 @@ from __future__ import annotations
 
 import argparse
 import os
+import re
 import sys
+import tempfile
 from pathlib import Path
 from typing import Callable
 
-from vet_tools import report
-from vet_tools.report import NoReport, Report
+from vet_tools import forms, report
+from vet_tools.report import NoReport, Report, ReportFault, shown
 
 
 def counted(number: int, one: str, many: str = "") -> str:
@@ -44,6 +46,31 @@ def refuse(tool: str, fault: Exception) -> int:
     """Says on stderr, in one sentence, why the tool gives nothing; the exit status."""
     print(f"{tool}: {fault}", file=sys.stderr)
     return fault.status if isinstance(fault, NoReport) else 1
+
+
+def write(target: Path, text: str, folder: Path) -> None:
+    """Writes a text beside its place and moves it there, so that nothing is left half written.
+
+    Raises `ReportFault`, also where the place is a file of the app.
+    """
+    name = target.name
+    read = name in forms.FORMS or re.fullmatch(r"classes\d*\.dex", name)
+    if target.is_dir() or (read and target.parent.resolve() == folder.resolve()):
+        what = "a folder" if target.is_dir() else "a file of the app"
+        raise ReportFault(f"{shown(str(target))} is {what}; name another file after -o.")
+    try:
+        handle, beside = tempfile.mkstemp(prefix=".vet_", dir=target.parent)
+        try:
+            with os.fdopen(handle, "w", encoding="utf-8") as file:
+                file.write(text)
+            os.chmod(beside, 0o644)
+            os.replace(beside, target)
+        except OSError:
+            os.unlink(beside)
+            raise
+    except OSError as fault:
+        raise ReportFault(f"{shown(str(target))} could not be written ({fault.strerror}); name another file "
+                          "after -o.") from None
 
 
 def call(tool: str, main: Callable[[], int]) -> int:

@@ -56,9 +56,10 @@ class MethodRef:
 
 @dataclass(frozen=True)
 class Instruction:
-    """One instruction: its address in code units, its text, the method that it calls, and whether an object decides."""
+    """One instruction: its address in code units, its text, its bytes, the method called, whether an object decides."""
     pc: int
     text: str
+    size: int = 2
     called: MethodRef | None = None
     virtual: bool = False
     registers: tuple[int, ...] = ()
@@ -83,6 +84,7 @@ class Method:
     static: bool
     native: bool
     code: Any = None
+    dex: str = ""
     source_file: str = ""
     index: int = -1
     _instructions: dict[int, Instruction] | None = field(default=None, repr=False)
@@ -101,6 +103,10 @@ class Method:
             found = self._reads(self.code) if self.code is not None and self._reads else iter(())
             self._instructions = {one.pc: one for one in found}
         return self._instructions
+
+    def offset_of(self, pc: int) -> int:
+        """The byte of the DEX file at which this address lies; the code's units stand 16 bytes behind its item."""
+        return int(self.code.get_off()) + 16 + 2 * pc
 
     def line_at(self, pc: int) -> SourceLine | None:
         """The source line of this address by the DEX's debug information, or `None` where it has none."""
@@ -222,7 +228,7 @@ class _File:
             code = self.vm.CM.get_code(item.get_code_off())
             if code is None:
                 raise DexFault(f"The map of {self.name} does not name all code, so what it holds is not shown.")
-        return Method(class_name, ref.name, ref.descriptor, ref.static, native, code, file, _reads=self.sweep)
+        return Method(class_name, ref.name, ref.descriptor, ref.static, native, code, self.name, file, _reads=self.sweep)
 
     def sweep(self, code: Any) -> Iterator[Instruction]:
         """The instructions of a method, first to last; stops where androguard can't go on."""
@@ -237,15 +243,16 @@ class _File:
     def _instruction(self, pc: int, one: Any) -> Instruction:
         op = one.get_op_value()
         if op > 0xFF:
-            return Instruction(pc, printed(one.get_name().encode(), " "))
+            return Instruction(pc, printed(one.get_name().encode(), " "), one.get_length())
         if op not in INVOKES | STRINGS | TYPES | FIELDS:
-            return Instruction(pc, f"{one.get_name()} {one.get_output(pc * 2)}".strip())
+            return Instruction(pc, f"{one.get_name()} {one.get_output(pc * 2)}".strip(), one.get_length())
         registers = tuple(value for kind, value, *_ in one.get_operands() if int(kind) == 0)
         names = ", ".join(f"v{number}" for number in registers)
         called = self.ref(one.get_ref_kind(), op in INVOKE_STATIC) if op in INVOKES else None
         named = str(called) if called else self._named(op, one.get_ref_kind())
         head = f"{{{names}}}" if op in BRACED else names
-        return Instruction(pc, f"{one.get_name()} {head}, {named}", called, op in VIRTUAL, registers)
+        text = f"{one.get_name()} {head}, {named}"
+        return Instruction(pc, text, one.get_length(), called, op in VIRTUAL, registers)
 
     def _named(self, op: int, index: int) -> str:
         if op in STRINGS:

@@ -18,11 +18,10 @@ HEADS = {CauseKind.NATIVE: "native code", CauseKind.REFLECTIVE: "methods chosen 
          CauseKind.TOO_LARGE: "more facts than the lists allow"}
 
 
-def missing_title(group: MissingClass) -> str:
+def missing_title(group: MissingClass) -> tuple[str, str]:
     """A missing class with the others that the object may be of, and whether the lists have it."""
     names = " or ".join([group.name, *group.others])
-    listed = "the lists have this class, and nothing for these methods" if group.listed else "the lists do not have it"
-    return f"{names} ({listed})"
+    return names, "the lists have it, but nothing for this call" if group.listed else "the lists do not have it"
 
 
 def summary_title(found: Explanation) -> str:
@@ -72,7 +71,7 @@ def _no_summary(found: Explanation) -> list[str]:
         return []
     lines = [f"== {summary_title(found)} ==", *_advice(advice.CAUSES[CauseKind.NO_SUMMARY])]
     for group in found.missing:
-        lines.append(missing_title(group))
+        lines.append("{} ({})".format(*missing_title(group)))
         for method in group.methods.values():
             lines.append(f"  {java_method(method.ref)}: {counted(len(method.lines), 'call')}")
             for one in method.lines:
