@@ -33,7 +33,8 @@ class Counted(unittest.TestCase):
         self.assertEqual(f"{len(found.reached)} of {found.with_code}", methods)
         self.assertEqual(f"{found.classes_reached} of {found.classes}", classes)
         self.assertEqual([component_text(one) for one in found.components], components)
-        self.assertEqual((counts(found.sources), counts(found.sinks), counts(found.arrivals)), (sources, sinks, arrivals))
+        met = (counts(found.sources), counts(found.sinks), counts(found.arrivals))
+        self.assertEqual(met, (sources, sinks, arrivals))
         return found
 
     def test_one_method_takes_and_posts(self) -> None:
@@ -109,7 +110,7 @@ class Loud(ToolCase):
         app = EXAMPLES / "made_elsewhere"
         done = self.run_tool("coverage", str(app), self.table(app, b"\x0e" + u4(0) + b"\x00"))
         self.assertEqual((done.returncode, done.stderr), (0, ""))
-        self.assertTrue(done.stdout.startswith("*** NOTHING WAS REACHED: of 4 methods with code none is run"), done.stdout)
+        self.assertRegex(done.stdout, r"^\*\*\* NOTHING WAS REACHED: of 4 methods with code none is run")
         self.assertIn("Methods with code that were reached: 0 of 4 (0.0 %)\n", done.stdout)
         self.assertIn("activity La/Main;: does not come to life; nothing of it is run; 0 of 1 method", done.stdout)
 

@@ -87,9 +87,10 @@ class Damaged(ToolCase):
 
     def test_a_damaged_file_is_a_fault_in_one_sentence(self) -> None:
         whole = (EXAMPLES / "ordinary" / "classes.dex").read_bytes()
-        for data in (b"", b"dex\n035\x00", whole[:200], whole[:52] + b"\xff\xff\xff\x7f" + whole[56:], b"PK" + whole[2:]):
-            self.assertRegex(self.fault_of(data), r"^classes.dex could not be read by androguard \(\w+\), so what it holds "
-                             r"is not shown\.$")
+        far = whole[:52] + b"\xff\xff\xff\x7f" + whole[56:]
+        for data in (b"", b"dex\n035\x00", whole[:200], far, b"PK" + whole[2:]):
+            self.assertRegex(self.fault_of(data), r"^classes.dex could not be read by androguard \(\w+\), "
+                             r"so what it holds is not shown\.$")
 
     def test_a_map_that_does_not_fit_the_header_is_not_gone_by(self) -> None:
         # The header's method_ids (offset 88) says one method more than the map: vet goes by it, androguard by the map.

@@ -126,7 +126,8 @@ class Hostile(ToolCase):
                     "a -> b at La/None;->go()V @0\n")
         done = self.run_tool("explain", str(EXAMPLES / "declared"))
         self.assertIn("    note   androguard reads no instruction at this address\n", done.stdout)
-        self.assertIn("    note   the DEX files have no such method, or more than one that is printed so\n", done.stdout)
+        self.assertIn("    note   the DEX files have no such method, or more than one that is printed so\n",
+                      done.stdout)
 
 
 class Words(unittest.TestCase):

@@ -1,4 +1,4 @@
-"""The page of an app: its text as a browser shows it, nothing of the app as markup, no request, nothing half written."""
+"""The page of an app: its text as a browser shows it, none of the app's as markup, no request, nothing half written."""
 from __future__ import annotations
 
 import base64
@@ -18,16 +18,15 @@ from vet_tools.explanation import Explanation, Step, explain
 from vet_tools.page import Subject, html
 from vet_tools.report import Place, parse
 
-TAGS = {"html", "head", "meta", "title", "style", "body", "a", "header", "h1", "h2", "h3", "h4", "span", "div", "strong", "p",
-        "nav", "ul", "li", "main", "section", "article", "table", "caption", "thead", "tbody", "tr", "th", "td", "dl", "dt",
-        "dd", "pre", "mark", "details", "summary", "progress", "small", "ol", "br", "code"}
+TAGS = set("html head meta title style body a header h1 h2 h3 h4 span div strong p nav ul li main section article "
+           "table caption thead tbody tr th td dl dt dd pre mark details summary progress small ol br code".split())
 VOID = {"meta", "br"}
-ATTRIBUTES = {"lang", "charset", "name", "content", "http-equiv", "class", "href", "id", "aria-label", "aria-labelledby",
-              "role", "tabindex", "scope", "data-head", "open", "max", "value"}
+ATTRIBUTES = set("lang charset name content http-equiv class href id aria-label aria-labelledby role tabindex scope "
+                 "data-head open max value".split())
 
 
 class Page(HTMLParser):
-    """A strict reader: tags close as they open, and tags, attributes and links are those that the page writes itself."""
+    """A strict reader: tags close as they open, and tags, attributes and links are those that the page itself has."""
 
     def __init__(self, text: str) -> None:
         super().__init__(convert_charrefs=True)
@@ -160,8 +159,9 @@ class Written(ToolCase):
     def test_a_place_that_cannot_be_written_and_a_file_of_the_app_are_refused(self) -> None:
         app = self.copied("declared", "kept")
         self.answer("kept", 0, "clear\n")
-        for target, due in ((app / "manifest.toml", "is a file of the app"), (app / "classes2.dex", "is a file of the app"),
-                            (app, "is a folder"), (self.folder / "no" / "app.html", "No such file or directory")):
+        for target, due in ((app / "manifest.toml", "is a file of the app"), (app, "is a folder"),
+                            (app / "classes2.dex", "is a file of the app"),
+                            (self.folder / "no" / "app.html", "No such file or directory")):
             before = sorted(app.iterdir())
             done = self.run_tool("page", str(app), "-o", str(target))
             self.assertEqual((done.returncode, done.stderr.count("\n")), (1, 1))

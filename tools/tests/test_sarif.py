@@ -68,12 +68,13 @@ class Results(ToolCase):
         done = self.run_tool("sarif", str(EXAMPLES / "device_id_posted"))
         self.assertEqual((done.returncode, done.stderr), (1, ""))
         result = valid(json.loads(done.stdout))["results"][0]
-        shown = subprocess.run(["dexdump", "-d", str(EXAMPLES / "device_id_posted" / "classes.dex")], capture_output=True,
-                               text=True, check=True).stdout
+        dex = str(EXAMPLES / "device_id_posted" / "classes.dex")
+        shown = subprocess.run(["dexdump", "-d", dex], capture_output=True, text=True, check=True).stdout
         line = next(line for line in shown.splitlines() if "|0004: " in line)
         self.assertEqual((result["ruleId"], result["kind"], result["level"]), ("undeclared-flow", "fail", "warning"))
         self.assertEqual(result["locations"], [{
-            "logicalLocations": [{"fullyQualifiedName": "La/Main;->onCreate(Landroid/os/Bundle;)V", "kind": "function"}],
+            "logicalLocations": [{"fullyQualifiedName": "La/Main;->onCreate(Landroid/os/Bundle;)V",
+                                  "kind": "function"}],
             "physicalLocation": {"artifactLocation": {"uri": "classes.dex", "uriBaseId": "APP"}, "region": {
                 "byteOffset": int(line.split(":")[0], 16), "byteLength": 6,
                 "snippet": {"text": "invoke-static {v0}, Lvendor/Net;->post(Ljava/lang/Object;)V"}}}}])

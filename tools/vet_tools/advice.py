@@ -51,10 +51,10 @@ FINDING = Advice(
     "Look at what the call is given, and where that was made. If the flow is meant, declare the pair in "
     "declaration.toml; a declared pair covers every place of the app. If it is not, take the value out. If it cannot "
     "happen, say why.",
-    "A finding is no proof that the flow happens. The analysis mixes up, on purpose: what branches decide; the elements "
-    "of one array, and all that a library object holds; objects made at one instruction in calls that look alike; what "
-    "comes back from a helper called three or more calls deep; fields behind more than five others. Ask for the way "
-    "from source to sink; if there is none, the explanation will name one of these.")
+    "A finding is no proof that the flow happens. The analysis mixes up, on purpose: what branches decide; the "
+    "elements of one array, and all that a library object holds; objects made at one instruction in calls that look "
+    "alike; what comes back from a helper called three or more calls deep; fields behind more than five others. Ask "
+    "for the way from source to sink; if there is none, the explanation will name one of these.")
 
 CAUSES: dict[CauseKind, Advice] = {
     CauseKind.NO_SUMMARY: Advice(
@@ -126,7 +126,8 @@ _TOO_MANY_WHAT = Mend("All files together have more classes, methods, fields or 
 FAULTS: dict[str, str] = {
     "opcode": "an instruction that the format does not have",
     "cut": "the instruction goes beyond the code",
-    "register": "it names a register that the method does not have, or a call has other than the registers that it needs",
+    "register": "it names a register that the method does not have, or a call has other than the registers that it "
+                "needs",
     "index": "it names a text, type, field or method that is not there",
     "target": "it jumps into the middle of an instruction or out of the code",
     "payload": "the table of cases or of data that it names is not there, or is of another kind",

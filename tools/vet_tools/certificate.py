@@ -1,4 +1,4 @@
-"""A certificate: the table of what follows in an app, as `vet certify` writes it (`docs/FORMATS.md`, "The certificate").
+"""A certificate: the table of what follows in an app, as `vet certify` writes it (`docs/FORMATS.md`).
 
 The rows are read strictly; bytes that are no certificate are a `CertificateFault` with the words of the program. That
 a table is closed is not looked at here: `vet recheck DIR CERT` does that.

@@ -28,8 +28,8 @@ def workers(word: str) -> int:
 def add_folder(parser: argparse.ArgumentParser) -> None:
     """The words that explain, page and sarif share: the folder, a report from a file, the workers."""
     parser.add_argument("folder", metavar="DIR", help="the folder of an unpacked app")
-    parser.add_argument("--report", metavar="FILE", help="read the report from FILE (- is the standard input) instead of "
-                        "running vet")
+    parser.add_argument("--report", metavar="FILE", help="read the report from FILE (- is the standard input) instead "
+                        "of running vet")
     parser.add_argument("--workers", type=workers, default=min(16, os.cpu_count() or 1), metavar="N",
                         help="threads of vet, 1 to 16; no answer depends on it")
 

@@ -170,8 +170,8 @@ def coverage(folder: Path, certificate: Certificate) -> Coverage:
     manifest = forms.manifest_of(folder)
     digest = forms.digest_of(folder, manifest.dex_files)
     if digest != certificate.digest:
-        raise CoverageFault(f"The certificate is about other files: its digest is {certificate.digest.hex()} and that of "
-                            f"these files {digest.hex()}; have it made anew by vet certify.")
+        raise CoverageFault(f"The certificate is about other files: its digest is {certificate.digest.hex()} and that "
+                            f"of these files {digest.hex()}; have it made anew by vet certify.")
     code = DexCode.read(forms.dex_paths(folder, manifest.dex_files))
     reading = _Reading(code, manifest, forms.clicks_of(folder), forms.lists_of(folder), certificate.count)
     try:
@@ -223,8 +223,9 @@ def text(found: Coverage) -> str:
         lines.append(f"  {pair[0]} -> {pair[1]}, at {counted(len(places), 'place')} ({said})")
     if found.unknown:
         lines += ["", "Where the analysis could not go on:"]
-        lines += [f"  {cause}: {counted(len(found.unknown[cause]), 'place')}" for cause in CAUSES if cause in found.unknown]
-    lines += ["", f"This is what the {counted(found.rows, 'row')} of the certificate say. Whether they may be believed, "
+        lines += [f"  {cause}: {counted(len(found.unknown[cause]), 'place')}"
+                  for cause in CAUSES if cause in found.unknown]
+    lines += ["", f"This is what the certificate says, in {counted(found.rows, 'row')}. Whether they may be believed, "
               "vet recheck DIR CERT says."]
     return "\n".join(lines) + "\n"
 
@@ -235,8 +236,8 @@ def main(arguments: list[str] | None = None) -> int:
         prog="tools/coverage", description="Says what of an app the analysis came to, by the certificate that vet "
         "certify makes: the components that come to life, the methods reached of all with code, the sources and sinks "
         "that were met. Where nothing was reached it says so loudly.",
-        epilog="Example: ./vet certify examples/other_box other_box.cert; tools/coverage examples/other_box other_box.cert. "
-        "The exit status is 0, or 1 where there is nothing to count.")
+        epilog="Example: ./vet certify examples/other_box other_box.cert; tools/coverage examples/other_box "
+        "other_box.cert. The exit status is 0, or 1 where there is nothing to count.")
     parser.add_argument("folder", metavar="DIR", help="the folder of an unpacked app")
     parser.add_argument("certificate", metavar="CERT", help="the certificate of that app")
     parser.add_argument("--unreached", action="store_true", help="print the methods with code that were not reached, "
@@ -245,8 +246,8 @@ def main(arguments: list[str] | None = None) -> int:
     try:
         found = coverage(report.app_folder(words.folder), Certificate.read(words.certificate))
     except CertificateFault as fault:
-        return refuse("tools/coverage", ReportFault(f"certificate refused: {fault.reason}; docs/REPORT.md says what to do "
-                                                    "(\"A refused certificate\")."))
+        return refuse("tools/coverage", ReportFault(f"certificate refused: {fault.reason}; docs/REPORT.md says what "
+                                                    "to do (\"A refused certificate\")."))
     except (ReportFault, CoverageFault, DexFault, FormFault) as fault:
         return refuse("tools/coverage", fault)
     sys.stdout.write("".join(f"{method}\n" for method in found.unreached) if words.unreached else text(found))

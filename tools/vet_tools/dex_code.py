@@ -228,7 +228,8 @@ class _File:
             code = self.vm.CM.get_code(item.get_code_off())
             if code is None:
                 raise DexFault(f"The map of {self.name} does not name all code, so what it holds is not shown.")
-        return Method(class_name, ref.name, ref.descriptor, ref.static, native, code, self.name, file, _reads=self.sweep)
+        return Method(class_name, ref.name, ref.descriptor, ref.static, native, code, self.name, file,
+                      _reads=self.sweep)
 
     def sweep(self, code: Any) -> Iterator[Instruction]:
         """The instructions of a method, first to last; stops where androguard can't go on."""
@@ -355,7 +356,8 @@ class DexCode:
                     kept.append(sub)
         return kept
 
-    def unsummarised(self, instruction: Instruction, has_summary: Callable[[list[str]], bool] | None = None) -> list[str]:
+    def unsummarised(self, instruction: Instruction,
+                     has_summary: Callable[[list[str]], bool] | None = None) -> list[str]:
         """The library classes at which a call may have come to a method without a row.
 
         Where the call names a class outside the app it is that one. Else the object's class decides in a virtual call:

@@ -29,7 +29,7 @@ class Step:
 
 @dataclass(frozen=True)
 class Explained:
-    """One line of the report. `notes` say what there is to say besides; `way` is a way to the sink, where one is known."""
+    """One line of the report. `notes` say what there is to say besides; `way` is a way to the sink, if one is known."""
     line: Cause | Finding
     method: Method | None = None
     instruction: Instruction | None = None
@@ -221,6 +221,13 @@ def _position(ref: MethodRef, position: int, registers: tuple[int, ...]) -> str:
     return f"{word} (v{registers[at]})" if at < len(registers) else word
 
 
+def _library_names(instruction: Instruction, ref: MethodRef, code: DexCode, lists: Lists | None) -> tuple[str, ...]:
+    """The library classes that a call without a summary may have come to, at least the one that it names."""
+    def has_summary(found: list[str]) -> bool:
+        return lists is not None and lists.has_summary(found, ref)
+    return tuple(code.unsummarised(instruction, has_summary)) or (ref.class_name,)
+
+
 def _missing(lines: list[Explained], code: DexCode, lists: Lists | None) -> list[MissingClass]:
     """The lines put together by missing class and method: the class with the most lines first, then by name."""
     groups: dict[tuple[str, ...], MissingClass] = {}
@@ -228,12 +235,9 @@ def _missing(lines: list[Explained], code: DexCode, lists: Lists | None) -> list
         if line.instruction is None or line.instruction.called is None:
             continue
         ref = line.instruction.called
-        names = code.unsummarised(line.instruction, (lambda found: lists.has_summary(found, ref)) if lists else None)
-        if not names:
-            names = [ref.class_name]
-        key = tuple(names)
+        key = _library_names(line.instruction, ref, code, lists)
         if key not in groups:
-            groups[key] = MissingClass(names[0], lists is not None and names[0] in lists.parents, key[1:])
+            groups[key] = MissingClass(key[0], lists is not None and key[0] in lists.parents, key[1:])
         text = f"{ref.name}{ref.descriptor}{'s' if ref.static else ''}"
         groups[key].methods.setdefault(text, MissingMethod(ref)).lines.append(line)
     for group in groups.values():

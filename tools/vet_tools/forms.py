@@ -116,9 +116,9 @@ def _printed(name: str) -> str:
 
 
 def _row(one: dict[str, Any]) -> ListRow:
-    return ListRow(_printed(one["class"]), _printed(one["name"]), _printed(one["proto"]), bool(one.get("static", False)),
-                   one.get("source", ""), one.get("sink", ""), tuple(one.get("positions", ())),
-                   bool(one.get("reflective", False)))
+    return ListRow(_printed(one["class"]), _printed(one["name"]), _printed(one["proto"]),
+                   bool(one.get("static", False)), one.get("source", ""), one.get("sink", ""),
+                   tuple(one.get("positions", ())), bool(one.get("reflective", False)))
 
 
 def _callback(one: dict[str, Any]) -> Callback:
@@ -130,7 +130,8 @@ def _tree(folder: Path, name: str) -> dict[str, Any]:
     try:
         return tomllib.loads((folder / name).read_bytes().decode("utf-8"))
     except OSError as fault:
-        raise FormFault(f"{name} could not be read ({fault.strerror}); vet check says which file is at fault.") from None
+        raise FormFault(f"{name} could not be read ({fault.strerror}); "
+                        "vet check says which file is at fault.") from None
     except (ValueError, RecursionError):
         raise FormFault(f"{name} is no TOML; vet check says which file is at fault.") from None
 
@@ -207,7 +208,7 @@ def digest_of(folder: Path, dex_files: int) -> bytes:
 
 
 def toml_text(name: str) -> str | None:
-    """A printed name as a TOML string with its quotes, or `None` where its bytes are no UTF-8, so no form can name it."""
+    """A printed name as a TOML string with its quotes, or `None` where it is no UTF-8, so no form can name it."""
     try:
         text = unprinted(name).decode("utf-8")
     except UnicodeDecodeError:

@@ -48,7 +48,8 @@ def _next(one: Advice) -> str:
 
 
 def _section(name: str, title: str, body: str) -> str:
-    return f'<section id="{name}" aria-labelledby="{name}-title"><h2 id="{name}-title">{escape(title)}</h2>\n{body}</section>\n'
+    return (f'<section id="{name}" aria-labelledby="{name}-title"><h2 id="{name}-title">{escape(title)}</h2>\n'
+            f"{body}</section>\n")
 
 
 def _pre(body: str, label: str) -> str:
@@ -80,7 +81,8 @@ def _way(one: Explained) -> str:
     for step in one.way:
         line = f" <span class=\"dim\">({escape(str(step.source_line))})</span>" if step.source_line else ""
         code = f"<br><code>{escape(step.instruction.text)}</code>" if step.instruction else ""
-        steps.append(f"<li>{escape(step.says)}<br><span class=\"name\">{escape(str(step.place))}</span>{line}{code}</li>")
+        steps.append(f"<li>{escape(step.says)}<br>"
+                     f"<span class=\"name\">{escape(str(step.place))}</span>{line}{code}</li>")
     return f'<h4>The way to the sink</h4><ol class="way">{"".join(steps)}</ol>'
 
 
@@ -120,8 +122,8 @@ def _missing(found: Explanation) -> str:
         text += f'<h3><span class="name">{escape(names)}</span> <small>({escape(listed)})</small></h3>\n'
         for method in group.methods.values():
             calls = counted(len(method.lines), "call")
-            text += (f'<details open class="item"><summary><span class="name">{escape(java_method(method.ref))}</span>: '
-                     f"{calls}</summary>\n")
+            text += ('<details open class="item"><summary>'
+                     f'<span class="name">{escape(java_method(method.ref))}</span>: {calls}</summary>\n')
             for line in method.lines:
                 text += f'<h4 class="name">{escape(str(line.line))}</h4>\n{_behind(line)}'
             text += "</details>\n"
@@ -179,7 +181,8 @@ def _coverage(subject: Subject) -> str:
              f'<progress max="{max(found.with_code, 1)}" value="{len(found.reached)}" aria-label="methods reached">'
              f"{share}</progress>\n")
     text += _table("Components that run", ["kind", "class", "what of it runs", "methods reached"], [
-        [one.component.kind, one.component.class_name, ", ".join(one.runs) or "nothing", f"{one.reached} of {one.with_code}"]
+        [one.component.kind, one.component.class_name, ", ".join(one.runs) or "nothing",
+         f"{one.reached} of {one.with_code}"]
         for one in found.components], 1)
     if found.handed:
         text += _table("Callbacks on objects that were handed to the library", ["callback", "methods"],
@@ -218,7 +221,8 @@ def html(subject: Subject) -> str:
     links = "".join(f'<li><a href="#{name}">{title}</a></li>'
                     for name, title in re.findall(r'<h2 id="([a-z-]+)-title">(.*?)</h2>', body))
     faults = "".join(f'<p class="loud">Not shown: {escape(fault)}</p>\n' for fault in subject.found.faults)
-    digest = f'<p class="dim">Digest of the files: <span class="name">{subject.digest}</span></p>' if subject.digest else ""
+    digest = (f'<p class="dim">Digest of the files: <span class="name">{subject.digest}</span></p>'
+              if subject.digest else "")
     return f"""<!DOCTYPE html>
 <html lang="en">
 <head>

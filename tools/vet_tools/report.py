@@ -205,7 +205,8 @@ def read_file(path: str) -> Report:
     try:
         data = sys.stdin.buffer.read() if path == "-" else Path(path).read_bytes()
     except OSError as fault:
-        raise ReportFault(f"The report {shown(path)} could not be read ({fault.strerror}); name a file that can.") from None
+        raise ReportFault(f"The report {shown(path)} could not be read ({fault.strerror}); "
+                          "name a file that can.") from None
     return parse(data.decode("utf-8", "surrogateescape"))
 
 
@@ -236,7 +237,8 @@ def run(words: list[str]) -> tuple[int, str]:
         clock.start()
         done = subprocess.run([program(), *words], stdin=subprocess.DEVNULL, stdout=subprocess.PIPE, check=False)
     except OSError as fault:
-        raise NoReport(1, f"{shown(program())} could not be started ({fault.strerror}); set VET to the vet program.") from None
+        raise NoReport(1, f"{shown(program())} could not be started ({fault.strerror}); "
+                          "set VET to the vet program.") from None
     finally:
         tells.set()
         clock.join()

@@ -1,7 +1,7 @@
 """`tools/sarif`: a report as SARIF 2.1.0 (OASIS, "Static Analysis Results Interchange Format"), for other tools.
 
-A finding is a result of the kind `fail`, a cause one of the kind `open`: there was not enough to decide. A result stands
-at the source line where the DEX file has one, and else at the bytes of its instruction in the DEX file.
+A finding is a result of the kind `fail`, a cause one of the kind `open`: there was not enough to decide. A result
+stands at the source line where the DEX file has one, and else at the bytes of its instruction in the DEX file.
 """
 from __future__ import annotations
 
@@ -94,7 +94,8 @@ def _locations(one: Explained) -> tuple[list[Json], list[Json]]:
     first = source or code
     if first:
         where["physicalLocation"] = first
-    return [where], [{"physicalLocation": code, "message": message("the instruction in the DEX file")}] if source and code else []
+    related = {"physicalLocation": code, "message": message("the instruction in the DEX file")}
+    return [where], [related] if source and code else []
 
 
 def _code_flows(one: Explained) -> list[Json]:
@@ -150,8 +151,8 @@ def main(arguments: list[str] | None = None) -> int:
     parser = argparse.ArgumentParser(
         prog="tools/sarif", description="Writes the report of vet as SARIF 2.1.0, for editors and code hosts: findings "
         "with the kind fail, causes with the kind open.",
-        epilog="Example: tools/sarif examples/device_id_posted -o report.sarif. The exit status is that of vet: 0 clear, "
-        "1 flagged, 2 undecided, 3 refused; 1 also where there is no report.")
+        epilog="Example: tools/sarif examples/device_id_posted -o report.sarif. The exit status is that of vet: "
+        "0 clear, 1 flagged, 2 undecided, 3 refused; 1 also where there is no report.")
     add_folder(parser)
     parser.add_argument("-o", "--output", metavar="FILE", help="the file; without it the standard output")
     words = parser.parse_args(arguments)
