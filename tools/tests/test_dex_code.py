@@ -99,6 +99,14 @@ class Damaged(ToolCase):
         changed = whole[:88] + (count + 1).to_bytes(4, "little") + whole[92:]
         self.assertIn("The map of classes.dex does not fit its header", self.fault_of(changed))
 
+    def test_annotations_are_not_looked_at(self) -> None:
+        # The first class definition's annotations_off (its bytes 20 to 23) leads nowhere; vet does not go there either.
+        whole = (ROOT / "crates" / "dex_list" / "data" / "empty.dex").read_bytes()
+        row = int.from_bytes(whole[100:104], "little") + 20
+        path = self.folder / "classes.dex"
+        path.write_bytes(whole[:row] + b"\xff\xff\xff\x7f" + whole[row + 4:])
+        self.assertIsNotNone(DexCode.read([path]).method("Le/Marked;->debugged(I)V"))
+
     def test_a_wrong_checksum_does_not_matter(self) -> None:
         whole = (EXAMPLES / "ordinary" / "classes.dex").read_bytes()
         path = self.folder / "classes.dex"

@@ -202,7 +202,7 @@ class InABrowser(ToolCase):
         page = Page(done.stdout)
         shown = "".join(page.text)
         self.assertIn("no summary: L<script>xx;->onLocationChanged(Landroid/location/Location;)V @4", shown)
-        self.assertIn('calls void "><img.s.>.post(java.lang.Object)', shown)
+        self.assertIn('void "><img.s.>.post(java.lang.Object): 1 call', shown)
         self.assertEqual([path for path in Seen.asked if path != "/favicon.ico"], ["/app.html"])
 
 

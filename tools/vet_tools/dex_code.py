@@ -11,7 +11,7 @@ from dataclasses import dataclass, field
 from pathlib import Path
 from typing import Any, Callable, Iterable, Iterator
 
-from vet_tools.report import Place, printed, unprinted
+from vet_tools.report import Place, printed, progress, unprinted
 
 logging.getLogger("androguard").setLevel(logging.CRITICAL + 1)
 
@@ -146,6 +146,33 @@ def _line(debug: Any, pc: int) -> int | None:
     return found
 
 
+# The items of a map by which code is found: header, ids, class definitions, lists of types, class data, code, texts.
+_NEEDED = {0x0000, 0x0001, 0x0002, 0x0003, 0x0004, 0x0005, 0x0006, 0x1001, 0x2000, 0x2001, 0x2002}
+
+
+def _lean(data: bytes) -> bytes:
+    """The file without annotations and static values, which no report needs and androguard takes long for.
+
+    The map stands anew at the end with what is needed; the checksum is set right, since the program does not look at
+    it and androguard refuses a wrong one. What is damaged stays so.
+    """
+    whole = bytearray(data[:int.from_bytes(data[32:36], "little")])
+    at = int.from_bytes(whole[52:56], "little")
+    count = int.from_bytes(whole[at:at + 4], "little")
+    rows = [bytes(whole[row:row + 12]) for row in range(at + 4, min(at + 4 + 12 * count, len(whole)), 12)]
+    kept = [row for row in rows if int.from_bytes(row[:2], "little") in _NEEDED]
+    classes, first = (int.from_bytes(whole[place:place + 4], "little") for place in (96, 100))
+    for row in range(first, min(first + 32 * classes, len(whole) - 31), 32):
+        whole[row + 20:row + 24] = whole[row + 28:row + 32] = bytes(4)
+    whole += bytes(-len(whole) % 4)
+    if rows:
+        whole[52:56] = len(whole).to_bytes(4, "little")
+        whole += len(kept).to_bytes(4, "little") + b"".join(kept)
+    whole[32:36] = len(whole).to_bytes(4, "little")
+    whole[8:12] = zlib.adler32(bytes(whole[12:])).to_bytes(4, "little")
+    return bytes(whole)
+
+
 class _File:
     """One DEX file. All androguard calls are here; whatever they raise becomes a `DexFault`."""
 
@@ -153,11 +180,7 @@ class _File:
         from androguard.core.bytecodes import dvm, dvm_types
         self.name = name
         try:
-            # The program does not look at the checksum, and androguard refuses a wrong one.
-            size = int.from_bytes(data[32:36], "little")
-            whole = data[:size]
-            whole = whole[:8] + zlib.adler32(whole[12:]).to_bytes(4, "little") + whole[12:]
-            self.vm = dvm.DalvikVMFormat(whole)
+            self.vm = dvm.DalvikVMFormat(_lean(data))
             kinds = dvm_types.TypeMapItem
             items = {kind: self.vm.map_list.get_item_type(kind) for kind in kinds}
             self.types, self.protos = items[kinds.TYPE_ID_ITEM], items[kinds.PROTO_ID_ITEM]
@@ -289,11 +312,13 @@ class DexCode:
         """Reads DEX files in their order. Raises `DexFault`."""
         classes: list[AppClass] = []
         for path in paths:
+            progress(f"reading {printed(path.name.encode())}")
             try:
                 data = path.read_bytes()
             except OSError as fault:
                 raise DexFault(f"{printed(path.name.encode())} could not be read ({fault.strerror}).") from None
             classes.extend(_File(printed(path.name.encode()), data).classes())
+        progress("")
         return DexCode(classes)
 
     def method(self, text: str) -> Method | None:

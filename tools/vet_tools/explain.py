@@ -5,7 +5,7 @@ import argparse
 import sys
 import textwrap
 
-from vet_tools import advice, report
+from vet_tools import advice
 from vet_tools.command import add_folder, counted, refuse, report_of
 from vet_tools.explanation import Explained, Explanation, MissingClass, explain, java_method, java_place
 from vet_tools.list_rows import rows
@@ -73,7 +73,7 @@ def _no_summary(found: Explanation) -> list[str]:
     for group in found.missing:
         lines.append("{} ({})".format(*missing_title(group)))
         for method in group.methods.values():
-            lines.append(f"  {java_method(method.ref)}: {counted(len(method.lines), 'call')}")
+            lines.append(f"  {group.java_method(method)}: {counted(len(method.lines), 'call')}")
             for one in method.lines:
                 lines += line_text(one, "    ")
     for one in found.unknown():
@@ -129,8 +129,6 @@ def main(arguments: list[str] | None = None) -> int:
         one, folder = report_of(words)
     except (ReportFault, NoReport) as fault:
         return refuse("tools/explain", fault)
-    report.progress("reading the DEX files")
     found = explain(one, folder)
-    report.progress("")
     sys.stdout.write(rows(found) if words.rows else text(found))
     return one.outcome.status

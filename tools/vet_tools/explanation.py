@@ -5,7 +5,7 @@ file has one. Lines without a summary are put together by missing class and meth
 """
 from __future__ import annotations
 
-from dataclasses import dataclass, field
+from dataclasses import dataclass, field, replace
 from pathlib import Path
 
 from vet_tools import forms
@@ -62,6 +62,10 @@ class MissingClass:
     listed: bool
     others: tuple[str, ...]
     methods: dict[str, MissingMethod] = field(default_factory=dict)
+
+    def java_method(self, method: MissingMethod) -> str:
+        """A missing method of the class, as Java writes it; a call may have named it of an app's class below."""
+        return java_method(replace(method.ref, class_name=self.name))
 
     @property
     def count(self) -> int:
@@ -132,7 +136,9 @@ def explain(report: Report, folder: Path) -> Explanation:
     found = Explanation(report)
     if report.outcome in (Outcome.CLEAR, Outcome.REFUSED):
         return found
-    code, lists = _code(folder, found.faults), _lists(folder, found.faults)
+    placed = bool(report.findings) or any(cause.place is not None for cause in report.causes)
+    code = _code(folder, found.faults) if placed else None
+    lists = _lists(folder, found.faults) if placed else None
     found.object_listed = lists is None or OBJECT in lists.parents
     for finding in report.findings:
         found.findings.append(_explained(finding, code, lists, ()))

@@ -6,10 +6,10 @@ from vet_tools.explanation import OBJECT, Explanation, MissingClass
 from vet_tools.forms import toml_text
 
 HEAD = """\
-# Rows for lists.toml. They are careful ones: each argument goes into the receiver, and all of them into the result.
-# Look each through before it is pasted: a method that gives personal data needs a `source`, one that sends a `sink`,
-# one that keeps what it is given elsewhere `stores`, one that runs a method by its name `reflective`; and a class its
-# true parents.
+# Rows for lists.toml. They are careful ones: each argument goes into the receiver, and all of
+# them into the result. Look each through before it is pasted: a method that gives personal data
+# needs a `source`, one that sends a `sink`, one that keeps what it is given elsewhere `stores`,
+# one that runs a method by its name `reflective`; and a class needs its true parents.
 """
 
 

@@ -57,15 +57,15 @@ def _pre(body: str, label: str) -> str:
     return f'<pre tabindex="0" role="group" aria-label="{escape(label)}">{body}</pre>\n'
 
 
-def _code(one: Explained) -> str:
+def _code(one: Explained, before: int = BEFORE, after: int = AFTER) -> str:
     """The instruction of a line among those around it."""
     if one.method is None or one.instruction is None:
         return ""
     around = list(one.method.instructions().values())
     at = next(number for number, each in enumerate(around) if each.pc == one.instruction.pc)
-    first = max(0, at - BEFORE)
+    first = max(0, at - before)
     lines = []
-    for each in around[first:at + AFTER + 1]:
+    for each in around[first:at + after + 1]:
         text = f"{each.pc:04x}  {escape(each.text)}"
         lines.append(f"<mark>{text}</mark>" if each.pc == one.instruction.pc else text)
     if first:
@@ -86,17 +86,17 @@ def _way(one: Explained) -> str:
     return f'<h4>The way to the sink</h4><ol class="way">{"".join(steps)}</ol>'
 
 
-def _behind(one: Explained) -> str:
-    """What stands behind a line: method, source line, called method, notes, code, way."""
+def _behind(one: Explained, grouped: bool = False) -> str:
+    """What stands behind a line: method, source line, called method, notes, code, way; shorter in a group."""
     parts = []
     if one.method is not None:
         line = f", {escape(str(one.source_line))}" if one.source_line else ""
         parts.append(f'In <span class="name">{escape(java_place(one.method))}</span>{line}')
-    if one.called is not None:
+    if one.called is not None and not grouped:
         parts.append(f'calls <span class="name">{escape(java_method(one.called))}</span>')
     text = f"<p>{'; '.join(parts)}.</p>\n" if parts else ""
     text += "".join(f"<p>{escape(note[:1].upper() + note[1:])}.</p>\n" for note in one.notes)
-    return text + _code(one) + _way(one)
+    return text + (_code(one, 2, 1) if grouped else _code(one)) + _way(one)
 
 
 def _item(one: Explained, name: str, head: str = "h3") -> str:
@@ -123,9 +123,9 @@ def _missing(found: Explanation) -> str:
         for method in group.methods.values():
             calls = counted(len(method.lines), "call")
             text += ('<details open class="item"><summary>'
-                     f'<span class="name">{escape(java_method(method.ref))}</span>: {calls}</summary>\n')
+                     f'<span class="name">{escape(group.java_method(method))}</span>: {calls}</summary>\n')
             for line in method.lines:
-                text += f'<h4 class="name">{escape(str(line.line))}</h4>\n{_behind(line)}'
+                text += f'<h4 class="name">{escape(str(line.line))}</h4>\n{_behind(line, True)}'
             text += "</details>\n"
     for number, line in enumerate(found.unknown(), 1):
         text += _item(line, f"unknown-{number}")
@@ -181,7 +181,8 @@ def _coverage(subject: Subject) -> str:
              f'<progress max="{max(found.with_code, 1)}" value="{len(found.reached)}" aria-label="methods reached">'
              f"{share}</progress>\n")
     text += _table("Components that run", ["kind", "class", "what of it runs", "methods reached"], [
-        [one.component.kind, one.component.class_name, ", ".join(one.runs) or "nothing",
+        [one.component.kind, one.component.class_name,
+         (", ".join(one.runs) or "nothing") + ("" if one.alive else "; it does not come to life"),
          f"{one.reached} of {one.with_code}"]
         for one in found.components], 1)
     if found.handed:
@@ -258,9 +259,7 @@ def subject_of(words: argparse.Namespace) -> Subject:
     else:
         folder = report.app_folder(words.folder)
         one, reached, why = _certified(folder, words.workers)
-    report.progress("reading the DEX files")
     found = explain(one, folder)
-    report.progress("")
     try:
         manifest = forms.manifest_of(folder)
         package, digest = manifest.package, forms.digest_of(folder, manifest.dex_files).hex()

@@ -13,7 +13,7 @@ from pathlib import Path
 from typing import Any
 from urllib.parse import quote
 
-from vet_tools import advice, report
+from vet_tools import advice
 from vet_tools.advice import Advice
 from vet_tools.command import add_folder, refuse, report_of, write
 from vet_tools.explanation import Explained, Explanation, explain, java_method
@@ -158,9 +158,7 @@ def main(arguments: list[str] | None = None) -> int:
     words = parser.parse_args(arguments)
     try:
         one, folder = report_of(words)
-        report.progress("reading the DEX files")
         text = json.dumps(document(explain(one, folder)), indent=2) + "\n"
-        report.progress("")
         if words.output:
             write(Path(words.output), text, folder)
         else:
