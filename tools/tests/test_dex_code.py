@@ -5,10 +5,10 @@ import re
 import unittest
 from pathlib import Path
 
-from tests.support import EXAMPLES, ROOT, ToolCase, as_reported, dexdump
+from tests.support import EXAMPLES, ROOT, ToolCase, as_reported, certificate, dexdump, expected
 from vet_tools.certificate import Certificate, Kind, node_of
 from vet_tools.dex_code import DexCode, DexFault, MethodRef, SourceLine
-from vet_tools.report import Place, printed
+from vet_tools.report import Place, parse, printed
 
 REFERRING = re.compile(r"(invoke|const-string|const-class|check-cast|instance-of|new-|filled-new|[is](get|put))")
 
@@ -61,13 +61,19 @@ class AgainstDexdump(unittest.TestCase):
 
 class Numbers(unittest.TestCase):
     def test_methods_are_numbered_as_certificates_number_them(self) -> None:
-        # The one place without a summary of the certificate is that of the report.
-        app = EXAMPLES / "unlisted_call"
-        code = DexCode.read([app / "classes.dex"])
-        rows = Certificate.read(str(ROOT / "crates" / "cert_cases" / "data" / "unlisted_call.cert")).rows()
-        nodes = [node_of(row[1:])[0] for row in rows if row[0] == Kind.UNKNOWN]
-        places = [Place(str(code.numbered[node.method]), node.pc) for node in nodes]
-        self.assertEqual(places, [Place("La/Main;->onCreate(Landroid/os/Bundle;)V", 0)])
+        # The places of a certificate, by these numbers, are those of the report: where nothing is declared, all
+        # arrivals are findings, and each place without a summary or native is a cause.
+        for name in ("unlisted_call", "native_method", "device_id_posted", "click", "click_listener",
+                     "location_listener", "application", "other_box"):
+            code = DexCode.read([EXAMPLES / name / "classes.dex"])
+            places: set[Place] = set()
+            for row in Certificate.read(str(certificate(name))).rows():
+                if row[0] in (Kind.UNKNOWN, Kind.ARRIVE):
+                    node, _ = node_of(row[1 if row[0] == Kind.UNKNOWN else 3:])
+                    places.add(Place(str(code.numbered[node.method]), node.pc))
+            report = parse(expected()[name][1])
+            due = {cause.place for cause in report.causes} | {finding.place for finding in report.findings}
+            self.assertEqual(places, due, name)
 
     def test_a_method_reference_counts_positions_and_wide_arguments_once(self) -> None:
         code = DexCode.read([ROOT / "crates" / "dex_list" / "data" / "calls.dex"])

@@ -149,6 +149,9 @@ class Written(ToolCase):
         self.assertIn("Not known: The certificate is about other files", path.read_text())
         self.assertEqual(self.run_tool("page", *words).returncode, 0)
         self.assertIn("Not known: no certificate was given with the report", path.read_text())
+        done = self.run_tool("page", str(EXAMPLES / "other_box"), "--report", str(report), "-o", str(report))
+        self.assertEqual((done.returncode, report.read_text()), (1, "clear\n"))
+        self.assertIn("is a file that is read; name another file after -o.", done.stderr)
 
     def test_where_there_is_no_report_the_old_page_stays(self) -> None:
         path = self.folder / "app.html"

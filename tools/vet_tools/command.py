@@ -48,15 +48,20 @@ def refuse(tool: str, fault: Exception) -> int:
     return fault.status if isinstance(fault, NoReport) else 1
 
 
-def write(target: Path, text: str, folder: Path) -> None:
+def write(target: Path, text: str, folder: Path, given: tuple[str | None, ...] = ()) -> None:
     """Writes a text beside its place and moves it there, so that nothing is left half written.
 
-    Raises `ReportFault`, also where the place is a file of the app.
+    Raises `ReportFault`, also where the place is a file of the app or one of those that were given.
     """
-    name = target.name
-    read = name in forms.FORMS or re.fullmatch(r"classes\d*\.dex", name)
-    if target.is_dir() or (read and target.parent.resolve() == folder.resolve()):
-        what = "a folder" if target.is_dir() else "a file of the app"
+    read = target.name in forms.FORMS or re.fullmatch(r"classes\d*\.dex", target.name)
+    what = ""
+    if target.is_dir():
+        what = "a folder"
+    elif read and target.parent.resolve() == folder.resolve():
+        what = "a file of the app"
+    elif any(path and Path(path).resolve() == target.resolve() for path in given):
+        what = "a file that is read"
+    if what:
         raise ReportFault(f"{shown(str(target))} is {what}; name another file after -o.")
     try:
         handle, beside = tempfile.mkstemp(prefix=".vet_", dir=target.parent)

@@ -298,6 +298,10 @@ class DexCode:
         for one in classes:
             self.classes.setdefault(one.name, one)
             self.methods.extend(one.methods)
+        self._below: dict[str, list[str]] = {}
+        for one in self.classes.values():
+            for up in (one.superclass, *one.interfaces):
+                self._below.setdefault(up, []).append(one.name)
         self._by_text: dict[str, list[Method]] = {}
         for method in self.methods:
             self._by_text.setdefault(str(method), []).append(method)
@@ -370,12 +374,8 @@ class DexCode:
         """The class and the app's classes that stand below it, through interfaces too."""
         kept: list[str] = [name]
         seen = {name}
-        subs: dict[str, list[str]] = {}
-        for one in self.classes.values():
-            for up in (one.superclass, *one.interfaces):
-                subs.setdefault(up, []).append(one.name)
         for at in kept:
-            for sub in subs.get(at, []):
+            for sub in self._below.get(at, []):
                 if sub not in seen:
                     seen.add(sub)
                     kept.append(sub)

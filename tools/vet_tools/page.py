@@ -307,7 +307,7 @@ def main(arguments: list[str] | None = None) -> int:
     words = parser.parse_args(arguments)
     try:
         subject = subject_of(words)
-        write(Path(words.output), html(subject), Path(words.folder))
+        write(Path(words.output), html(subject), Path(words.folder), (words.certificate, words.report))
     except (ReportFault, NoReport) as fault:
         return refuse("tools/page", fault)
     print(f"{subject.found.report.first_line}; the page is in {shown(words.output)}", file=sys.stderr)

@@ -160,7 +160,7 @@ def main(arguments: list[str] | None = None) -> int:
         one, folder = report_of(words)
         text = json.dumps(document(explain(one, folder)), indent=2) + "\n"
         if words.output:
-            write(Path(words.output), text, folder)
+            write(Path(words.output), text, folder, (words.report,))
         else:
             sys.stdout.write(text)
     except (ReportFault, NoReport) as fault:
