@@ -1,0 +1,1 @@
+"""What stands around the proved program for the people who use it. Nothing here decides."""

@@ -1,0 +1,215 @@
+"""A certificate: the table of what follows in an app, as `vet certify` writes it (`docs/FORMATS.md`).
+
+The rows are read strictly; bytes that are no certificate are a `CertificateFault` with the words of the program. That
+a table is closed is not looked at here: `vet recheck DIR CERT` does that.
+"""
+from __future__ import annotations
+
+import struct
+from dataclasses import dataclass
+from enum import IntEnum
+from pathlib import Path
+from typing import Iterator
+
+from vet_tools.report import progress, shown
+
+MAGIC, OLD_MAGIC = b"VETCERT2", b"VETCERT1"
+LONGEST = 536_870_912
+
+
+class CertificateFault(Exception):
+    """The bytes are no certificate: `reason` in the words of `docs/FORMATS.md`, such as `cut at 44`."""
+
+    def __init__(self, reason: str) -> None:
+        super().__init__(reason)
+        self.reason = reason
+
+
+class Kind(IntEnum):
+    """The kinds of rows."""
+    REACHED = 1
+    POINTS = 2
+    TAINT = 3
+    CELL = 4
+    BACK = 5
+    STATIC_POINTS = 6
+    STATIC_TAINT = 7
+    CALLS = 8
+    CALLED_BY = 9
+    EFFECT = 10
+    METHOD_EFFECT = 11
+    EXIT_POINTS = 12
+    EXIT_TAINT = 13
+    LIVE = 14
+    COMP_TAINT = 15
+    HANDED = 16
+    HANDED_TAINT = 17
+    ARRIVE = 18
+    UNKNOWN = 19
+    USES = 20
+
+
+class ContextKind(IntEnum):
+    """Why a method runs."""
+    EVENT = 0
+    CALLBACK = 1
+    CLICK = 2
+    HANDED = 3
+    INITIALISER = 4
+    CALL = 5
+    TWO_CALLS = 6
+
+
+Context = tuple[int, ...]
+
+
+@dataclass(frozen=True)
+class Node:
+    """An instruction of a method in a context: the context's kind and numbers, the method's number, the address."""
+    context: Context
+    method: int
+    pc: int
+
+
+# The fields of each kind: n node, a activation, s site, p path, 4 number, 1 byte, h how (0, 1), c cause (1 to 3),
+# u use (0, 1).
+_FIELDS = {1: "n", 2: "n4s", 3: "n4p1", 4: "s4s", 5: "s4s", 6: "4s", 7: "4p1", 8: "na", 9: "an", 10: "nsp1",
+           11: "asp1", 12: "ahs", 13: "ahp1", 14: "41", 15: "41p1", 16: "s", 17: "sp1", 18: "11n", 19: "nc", 20: "nu4"}
+_NUMBERS = {count: struct.Struct(f"<{count}I") for count in range(1, 8)}
+_LIMITS = {"h": (0, 1), "c": (1, 3), "u": (0, 1)}
+
+Flat = tuple[int, ...]
+
+
+class _Bad(Exception):
+    """A byte that no row has there."""
+
+
+class _Reader:
+    """Reads one row's fields as numbers, in the order in which rows are compared."""
+
+    def __init__(self, data: bytes) -> None:
+        self.data = data
+        self.at = 0
+
+    def row(self) -> Flat:
+        """One row: its kind and its fields. Raises `_Bad`, and `IndexError` or `struct.error` where it is cut."""
+        found = [self.byte()]
+        fields = _FIELDS.get(found[0])
+        if fields is None:
+            raise _Bad
+        for sign in fields:
+            if sign == "n":
+                self.context(found, 2)
+            elif sign == "a":
+                self.context(found, 1)
+            elif sign == "s":
+                self.site(found)
+            elif sign == "p":
+                self.path(found)
+            elif sign == "4":
+                self.numbers(found, 1)
+            else:
+                found.append(self.byte())
+                low, high = _LIMITS.get(sign, (0, 255))
+                if not low <= found[-1] <= high:
+                    raise _Bad
+        return tuple(found)
+
+    def byte(self) -> int:
+        value = self.data[self.at]
+        self.at += 1
+        return value
+
+    def numbers(self, found: list[int], count: int) -> None:
+        found.extend(_NUMBERS[count].unpack_from(self.data, self.at))
+        self.at += 4 * count
+
+    def context(self, found: list[int], more: int) -> None:
+        """A context and `more` numbers behind it: the method, and the address."""
+        kind = self.byte()
+        if kind > 6:
+            raise _Bad
+        found.append(kind)
+        # Of the kinds 3 and 4 the second number is 0, byte for byte.
+        if kind in (3, 4) and any(self.data[self.at + 4:self.at + 8]):
+            raise _Bad
+        self.numbers(found, (4 if kind == 6 else 2) + more)
+
+    def site(self, found: list[int]) -> None:
+        kind = self.byte()
+        if kind > 3:
+            raise _Bad
+        found.append(kind)
+        if kind == 0:
+            self.context(found, 2)
+        elif kind == 1:
+            self.context(found, 1)
+        else:
+            self.numbers(found, 1)
+
+    def path(self, found: list[int]) -> None:
+        first = self.byte()
+        if first & 127 > 5:
+            raise _Bad
+        found.append(first)
+        if first & 127:
+            self.numbers(found, first & 127)
+
+
+class Certificate:
+    """The bytes of a certificate, with its digest and the number of its rows."""
+
+    def __init__(self, data: bytes) -> None:
+        """Raises `CertificateFault` where the head is none."""
+        if len(data) < 8 or data[:8] not in (MAGIC, OLD_MAGIC):
+            raise CertificateFault("magic")
+        if data[:8] == OLD_MAGIC:
+            raise CertificateFault("version 1")
+        if len(data) < 40:
+            raise CertificateFault("cut at 8")
+        if len(data) < 44:
+            raise CertificateFault("cut at 40")
+        self.data = data
+        self.digest = data[8:40]
+        self.count = int.from_bytes(data[40:44], "little")
+
+    @staticmethod
+    def read(path: str) -> Certificate:
+        """A certificate from a file. Raises `CertificateFault`; a file that can't be read has the reason `absent`."""
+        file = Path(path)
+        try:
+            if file.stat().st_size > LONGEST:
+                raise CertificateFault(f"longer than {LONGEST}")
+            return Certificate(file.read_bytes())
+        except OSError as fault:
+            raise CertificateFault(f"the file {shown(path)} could not be read ({fault.strerror})") from None
+
+    def rows(self) -> Iterator[Flat]:
+        """All rows in their order, each as its kind and the numbers of its fields. Raises `CertificateFault`."""
+        reader = _Reader(self.data)
+        reader.at = 44
+        last: Flat = ()
+        for number in range(self.count):
+            begin = reader.at
+            try:
+                row = reader.row()
+            except _Bad:
+                raise CertificateFault(f"bad at {begin}") from None
+            except (IndexError, struct.error):
+                raise CertificateFault(f"cut at {begin}") from None
+            if row <= last:
+                raise CertificateFault(f"order at {begin}")
+            last = row
+            if number % 50_000 == 49_999:
+                progress(f"reading the certificate: {number + 1} of {self.count} rows")
+            yield row
+        progress("")
+        if reader.at != len(self.data):
+            raise CertificateFault(f"rest at {reader.at}")
+
+
+def node_of(fields: Flat) -> tuple[Node, Flat]:
+    """The node with which these fields begin, and the fields behind it."""
+    end = 5 if fields[0] == ContextKind.TWO_CALLS else 3
+    return Node(fields[:end], fields[end], fields[end + 1]), fields[end + 2:]

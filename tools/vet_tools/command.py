@@ -1,0 +1,99 @@
+"""What the commands share: their words, their sentences on stderr, and that no trace of Python reaches the person."""
+from __future__ import annotations
+
+import argparse
+import os
+import re
+import sys
+import tempfile
+from pathlib import Path
+from typing import Callable
+
+from vet_tools import forms, report
+from vet_tools.report import NoReport, Report, ReportFault, shown
+
+
+def counted(number: int, one: str, many: str = "") -> str:
+    """`1 finding`, `2 findings`."""
+    return f"{number} {one}" if number == 1 else f"{number} {many or one + 's'}"
+
+
+def workers(word: str) -> int:
+    """A number of workers, 1 to 16, for argparse."""
+    if not word.isascii() or not word.isdigit() or not 1 <= int(word[:3]) <= 16:
+        raise argparse.ArgumentTypeError("give a number from 1 to 16")
+    return int(word)
+
+
+def add_folder(parser: argparse.ArgumentParser) -> None:
+    """The words that explain, page and sarif share: the folder, a report from a file, the workers."""
+    parser.add_argument("folder", metavar="DIR", help="the folder of an unpacked app")
+    parser.add_argument("--report", metavar="FILE", help="read the report from FILE (- is the standard input) instead "
+                        "of running vet")
+    parser.add_argument("--workers", type=workers, default=min(16, os.cpu_count() or 1), metavar="N",
+                        help="threads of vet, 1 to 16; no answer depends on it")
+
+
+def report_of(words: argparse.Namespace) -> tuple[Report, Path]:
+    """The report that these words ask for, and the app's folder. Raises `ReportFault` and `NoReport`."""
+    folder = report.app_folder(words.folder)
+    if words.report:
+        return report.read_file(words.report), folder
+    return report.check(folder, words.workers), folder
+
+
+def refuse(tool: str, fault: Exception) -> int:
+    """Says on stderr, in one sentence, why the tool gives nothing; the exit status."""
+    print(f"{tool}: {fault}", file=sys.stderr)
+    return fault.status if isinstance(fault, NoReport) else 1
+
+
+def write(target: Path, text: str, folder: Path, given: tuple[str | None, ...] = ()) -> None:
+    """Writes a text beside its place and moves it there, so that nothing is left half written.
+
+    Raises `ReportFault`, also where the place is a file of the app or one of those that were given.
+    """
+    read = target.name in forms.FORMS or re.fullmatch(r"classes\d*\.dex", target.name)
+    what = ""
+    if target.is_dir():
+        what = "a folder"
+    elif read and target.parent.resolve() == folder.resolve():
+        what = "a file of the app"
+    elif any(path and Path(path).resolve() == target.resolve() for path in given):
+        what = "a file that is read"
+    if what:
+        raise ReportFault(f"{shown(str(target))} is {what}; name another file after -o.")
+    try:
+        handle, beside = tempfile.mkstemp(prefix=".vet_", dir=target.parent)
+        try:
+            with os.fdopen(handle, "w", encoding="utf-8") as file:
+                file.write(text)
+            os.chmod(beside, 0o644)
+            os.replace(beside, target)
+        except OSError:
+            os.unlink(beside)
+            raise
+    except OSError as fault:
+        raise ReportFault(f"{shown(str(target))} could not be written ({fault.strerror}); name another file "
+                          "after -o.") from None
+
+
+def call(tool: str, main: Callable[[], int]) -> int:
+    """Runs a command. What it did not foresee is said in one sentence; a closed pipe ends it without one."""
+    try:
+        status = main()
+        sys.stdout.flush()
+        return status
+    except BrokenPipeError:
+        os.dup2(os.open(os.devnull, os.O_WRONLY), sys.stdout.fileno())
+        return 1
+    except KeyboardInterrupt:
+        print(f"{tool}: stopped", file=sys.stderr)
+        return 130
+    except MemoryError:
+        print(f"{tool}: out of memory; run it again with more, or on a smaller app.", file=sys.stderr)
+        return 7
+    except Exception as fault:  # the last resort, so that the person gets a sentence
+        print(f"{tool}: a fault of the tool itself ({type(fault).__name__}); vet's own report is not touched by it, "
+              "so run ./vet and tell the office.", file=sys.stderr)
+        return 1
