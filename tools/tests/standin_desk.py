@@ -210,7 +210,7 @@ class Handler(BaseHTTPRequestHandler):
     def _reply(self, status: int, body: object) -> None:
         data = body if isinstance(body, bytes) else json.dumps(body, separators=(",", ":"), sort_keys=True).encode()
         self.send_response(status)
-        self.send_header("content-type", "text/plain; charset=utf-8" if isinstance(body, bytes) else "application/json")
+        self.send_header("content-type", "text/plain" if isinstance(body, bytes) else "application/json")
         self.send_header("content-length", str(len(data)))
         self.send_header("connection", "close")
         self.end_headers()
@@ -251,8 +251,9 @@ class Handler(BaseHTTPRequestHandler):
         except ValueError:
             raise No(400, "not json") from None
         if act == "submit":
+            reference = text(value, "reference", NAME)
             forms = [text(value, field, None).encode() for field in FORMS]
-            return [text(value, "reference", NAME), [*forms, *dex_files(value)]]
+            return [reference, [*forms, *dex_files(value)]]
         if act == "appeal":
             return [text(value, "text", re.compile(r".{1,4000}", re.S))]
         names = [text(value, "developer", NAME), text(value, "reference", NAME)]

@@ -90,7 +90,7 @@ def serve(server: Server) -> None:
     for number in (signal.SIGTERM, signal.SIGINT, signal.SIGHUP):
         signal.signal(number, lambda *_: threading.Thread(target=server.shutdown).start())
     with server:
-        server.serve_forever()
+        server.serve_forever(poll_interval=0.05)
 
 
 def run(words: argparse.Namespace) -> None:
