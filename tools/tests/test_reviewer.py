@@ -413,7 +413,20 @@ class Beginning(Office):
         rex = self.reviewer("rex")
         reply = rex.ask("GET", rex.root)
         self.assertEqual(reply.status, 503)
-        self.assertIn("desk.sqlite has no tables of a desk", reply.text)
+        self.assertIn("desk.sqlite is no database of a desk", reply.text)
+
+    def test_a_database_without_tables_has_no_case_and_one_of_another_version_is_not_read(self) -> None:
+        self.desk.kill()
+        for name in ("desk.sqlite-wal", "desk.sqlite"):
+            (self.desk.office / name).unlink(missing_ok=True)
+        base = sqlite3.connect(self.desk.office / "desk.sqlite", isolation_level=None)
+        base.execute("PRAGMA user_version = 1")
+        rex = self.reviewer("rex")
+        self.assertIn("No case waits for a decision.", rex.look().text)
+        base.executescript(TABLES)
+        base.execute("INSERT INTO version VALUES (1, 1)")
+        base.close()
+        self.assertIn("desk.sqlite is of another version", rex.ask("GET", rex.root).text)
 
 
 if __name__ == "__main__":

@@ -143,6 +143,14 @@ class Cases:
         if rows != [(VERSION,)]:
             raise CasesError("desk.sqlite is of another version: let this version's desk take a request once.")
 
+    @staticmethod
+    def are_in(connection: sqlite3.Connection) -> bool:
+        """Whether there are tables at all: a desk makes them at its first request."""
+        try:
+            return connection.execute("SELECT count(*) FROM sqlite_schema").fetchone() != (0,)
+        except sqlite3.Error:
+            raise CasesError("desk.sqlite is no database of a desk: try again, or look to the disk.") from None
+
     def _ask(self, query: str, values: tuple[object, ...] = ()) -> Iterator[tuple[object, ...]]:
         try:
             yield from self._connection.execute(query, values)

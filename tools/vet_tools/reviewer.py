@@ -100,7 +100,7 @@ def run(words: argparse.Namespace) -> None:
             raise NoStart("A port is 1 to 65535.")
     office, token = office_of(words), token_of(words)
     who, desk = who_of(office, token), Desk(words.port or office.port, token)
-    known = desk.knows_token(3.0)
+    known = desk.knows_token(5.0)
     if known is False:
         raise NoStart("The desk knows no such token: ask who runs the desk.")
     if known is None:

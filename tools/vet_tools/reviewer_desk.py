@@ -49,9 +49,13 @@ class Store:
             return self._copied
         self._taken += 1
         before, self._copied = self._copied, None
-        self._copied = copy_database(self._database, self._folder / str(self._taken), before)
-        if before is not None:
-            shutil.rmtree(before.file.parent, ignore_errors=True)
+        folder = self._folder / str(self._taken)
+        try:
+            self._copied = copy_database(self._database, folder, before)
+        finally:
+            old = [] if before is None else [before.file.parent]
+            for left in old + ([folder] if self._copied is None else []):
+                shutil.rmtree(left, ignore_errors=True)
         return self._copied
 
     @contextmanager
@@ -63,7 +67,7 @@ class Store:
                 yield None
                 return
             with closing(open_copy(copied)) as connection:
-                yield Cases(connection)
+                yield Cases(connection) if Cases.are_in(connection) else None
 
 
 class Forms:
