@@ -1,7 +1,7 @@
 """A desk at work in a copy of examples/office, for tests.
 
-Where VET_DESK names a program it is run with the words `serve OFFICE N`; else the proved program is, where it was built;
-else the stand-in of tests/standin_desk.py.
+Where VET_DESK names a program it is run with the words `serve OFFICE N`; else the proved program is, where it was
+built; else the stand-in of tests/standin_desk.py.
 """
 
 from __future__ import annotations

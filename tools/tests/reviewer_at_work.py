@@ -65,25 +65,11 @@ class Page(HTMLParser):
         return next((way, fields) for name, way, fields in self.forms if name == label)
 
 
-class ReviewerAtWork:
-    """One run of tools/reviewer over an office, by the token of a reviewer."""
+class Visitor:
+    """One who looks at the pages of a server, and sends their forms."""
 
-    def __init__(self, office: Path, token: str) -> None:
-        self.errors = tempfile.TemporaryFile()
-        self.process = subprocess.Popen(
-            [str(TOOLS / "reviewer"), str(office)], stdin=subprocess.DEVNULL, stdout=subprocess.PIPE,
-            stderr=self.errors, env=os.environ | {"VET_TOKEN": token}, text=True,
-        )
-        self.address = self.process.stdout.readline().strip()
-        parts = urlsplit(self.address)
-        self.port, self.root = parts.port, parts.path
-
-    def end(self) -> None:
-        """Ends the run as Ctrl-C does."""
-        self.process.terminate()
-        self.process.wait(10)
-        self.process.stdout.close()
-        self.errors.close()
+    def __init__(self, port: int, root: str) -> None:
+        self.port, self.root = port, root
 
     def ask(self, method: str, path: str, body: str | None = None, **head: str) -> Reply:
         """One request with these fields in its head, and what came back."""
@@ -120,6 +106,27 @@ class ReviewerAtWork:
         reply = self.send(*page.form(label))
         assert reply.status == 303, (reply.status, reply.text)
         return self.look(reply.head["Location"].removeprefix(self.root))
+
+
+class ReviewerAtWork(Visitor):
+    """One run of tools/reviewer over an office, by the token of a reviewer."""
+
+    def __init__(self, office: Path, token: str) -> None:
+        self.errors = tempfile.TemporaryFile()
+        self.process = subprocess.Popen(
+            [str(TOOLS / "reviewer"), str(office)], stdin=subprocess.DEVNULL, stdout=subprocess.PIPE,
+            stderr=self.errors, env=os.environ | {"VET_TOKEN": token}, text=True,
+        )
+        self.address = self.process.stdout.readline().strip()
+        parts = urlsplit(self.address)
+        super().__init__(parts.port or 0, parts.path)
+
+    def end(self) -> None:
+        """Ends the run as a signal does."""
+        self.process.terminate()
+        self.process.wait(10)
+        self.process.stdout.close()
+        self.errors.close()
 
 
 def browsed(address: str) -> str:

@@ -1,8 +1,8 @@
-"""A desk for tests, that answers by the tables of docs/DESK.md and docs/CASES.md: `python3 -m tests.standin_desk OFFICE N`.
+"""A desk for tests, that answers by the tables of docs/DESK.md and docs/CASES.md.
 
-It stands in where the program is not built. It keeps the tables that crates/sqlite_keeper has, holds the database for
-itself as the program does, and knows of apps only what examples/expected.txt says. A file `day` in the office's folder
-says which day it is.
+`python3 -m tests.standin_desk serve OFFICE N` runs it. It stands in where the program is not built. It keeps the tables
+that crates/sqlite_keeper has, holds the database for itself as the program does, and knows of apps only what
+examples/expected.txt says. A file `day` in the office's folder says which day it is.
 """
 
 from __future__ import annotations
@@ -68,6 +68,10 @@ class Desk:
             raise No(404, "no such case")
         return found
 
+    def dex(self, number: int) -> list[bytes]:
+        rows = self.base.execute("SELECT bytes FROM dex WHERE number = ? ORDER BY place", (number,))
+        return [row[0] for row in rows]
+
     def last(self, number: int) -> tuple | None:
         return self.one(
             "SELECT e.place, e.outcome, e.report, e.reviewer, e.day, a.day, r.word FROM entries e"
@@ -78,8 +82,7 @@ class Desk:
         old = self.one("SELECT number, state FROM states WHERE party = ? AND reference = ?", who, reference)
         if old is not None:
             forms = self.one("SELECT manifest, layouts, declaration FROM cases WHERE number = ?", old[0])
-            dex = [row[0] for row in self.base.execute("SELECT bytes FROM dex WHERE number = ? ORDER BY place", old[:1])]
-            if [*forms, *dex] != content:
+            if [*forms, *self.dex(old[0])] != content:
                 raise No(409, "other content under this reference")
             return 200, {"reference": reference, "state": old[1]}
         open_cases = self.one("SELECT count(*) FROM states WHERE party = ? AND state = 'queued'", who)[0]
@@ -95,8 +98,7 @@ class Desk:
 
     def judge(self, who: str, number: int, developer: str, reference: str) -> tuple[int, object]:
         forms = self.one("SELECT manifest, layouts, declaration FROM cases WHERE number = ?", number)
-        dex = [row[0] for row in self.base.execute("SELECT bytes FROM dex WHERE number = ? ORDER BY place", (number,))]
-        report = answers().get((*forms, *dex), "refused manifest.toml: not toml\n")
+        report = answers().get((*forms, *self.dex(number)), "refused manifest.toml: not toml\n")
         outcome = report.split()[0]
         place = self.one("SELECT count(*) FROM entries WHERE number = ?", number)[0]
         self.base.execute("INSERT INTO entries VALUES (?, ?, ?, ?, ?, ?, ?)",
@@ -132,7 +134,8 @@ class Desk:
         last_day = entry[4] + self.form["appeal_days"]
         if self.today() > last_day:
             raise No(409, f"too late, last day {last_day}")
-        self.base.execute("INSERT INTO entry_appeals VALUES (?, ?, ?, ?)", (number, entry[0], self.today(), text.encode()))
+        row = (number, entry[0], self.today(), text.encode())
+        self.base.execute("INSERT INTO entry_appeals VALUES (?, ?, ?, ?)", row)
         self.base.execute("UPDATE states SET state = 'appealed' WHERE number = ?", (number,))
         return 200, {"reference": reference, "state": "appealed"}
 
@@ -145,7 +148,8 @@ class Desk:
             raise No(409, "ruled already")
         if entry[3] == who:
             raise No(403, "same reviewer")
-        self.base.execute("INSERT INTO entry_rulings VALUES (?, ?, ?, ?, ?)", (number, entry[0], who, self.today(), ruling))
+        row = (number, entry[0], who, self.today(), ruling)
+        self.base.execute("INSERT INTO entry_rulings VALUES (?, ?, ?, ?, ?)", row)
         self.base.execute("UPDATE states SET state = 'ruled' WHERE number = ?", (number,))
         return 200, {"developer": developer, "reference": reference, "ruling": ruling}
 
@@ -278,7 +282,7 @@ def dex_files(value: dict[str, object]) -> list[bytes]:
 
 
 def main() -> int:
-    office, most = Path(sys.argv[2] if sys.argv[1] == "serve" else sys.argv[1]), int(sys.argv[-1])
+    office, most = Path(sys.argv[2]), int(sys.argv[3])
     Handler.desk = Desk(office)
     with HTTPServer(("127.0.0.1", Handler.desk.form["port"]), Handler) as server:
         for _ in range(most):

@@ -184,8 +184,8 @@ class Units(unittest.TestCase):
     def test_systemd_finds_no_fault_in_the_units(self) -> None:
         with tempfile.TemporaryDirectory() as folder:
             for file in DEPLOY.glob("vet-*"):
-                text = file.read_text().replace("/opt/vet/bin/vet", "/bin/true").replace("/opt/vet/deploy/", f"{DEPLOY}/")
-                (Path(folder) / file.name).write_text(text)
+                text = file.read_text().replace("/opt/vet/bin/vet", "/bin/true")
+                (Path(folder) / file.name).write_text(text.replace("/opt/vet/deploy/", f"{DEPLOY}/"))
             units = sorted(str(file) for file in Path(folder).iterdir())
             self.assertEqual([Path(unit).name for unit in units],
                              ["vet-backup.service", "vet-backup.timer", "vet-desk.service"])
@@ -245,7 +245,8 @@ class Backup(unittest.TestCase):
         done = self.run_it("--keep", "3")
         self.assertEqual((done.returncode, done.stderr), (0, ""))
         left = {"notes.txt", "desk.sqlite", "desk-2025-01-01T00-00-00Z.sqlite.old", ".desk-now"}
-        self.assertEqual({file.name for file in self.folder.iterdir()}, left | {*old[3:], Path(done.stdout.strip()).name})
+        left |= {*old[3:], Path(done.stdout.strip()).name}
+        self.assertEqual({file.name for file in self.folder.iterdir()}, left)
 
     def test_where_there_is_no_backup_it_says_why_and_leaves_nothing(self) -> None:
         self.desk.kill()

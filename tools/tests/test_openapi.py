@@ -30,9 +30,9 @@ class Pages(unittest.TestCase):
     def errors(self, operation: dict[str, object]) -> set[tuple[int, str]]:
         found = set()
         for status, reply in operation["responses"].items():
-            error = reply["content"].get("application/json", {"schema": {}})["schema"].get("properties", {}).get("error")
-            for text in (error or {}).get("enum", [(error or {}).get("pattern")] if error else []):
-                found.add((int(status), text))
+            schema = reply["content"].get("application/json", {"schema": {}})["schema"]
+            error = schema.get("properties", {}).get("error", {"enum": []})
+            found |= {(int(status), text) for text in error.get("enum", [error.get("pattern")])}
         return found
 
     def test_it_has_the_requests_of_the_page_and_no_other_ones(self) -> None:
@@ -59,7 +59,8 @@ class Pages(unittest.TestCase):
             self.assertTrue(any(form.fullmatch(said) for form in forms), text)
         self.assertLessEqual(plain, due)
         fields = {text.removeprefix("field ") for status, text in found if text.startswith("field ")}
-        self.assertEqual(fields, {"declaration", "developer", "dex", "layouts", "manifest", "reference", "ruling", "text"})
+        due = {"declaration", "developer", "dex", "layouts", "manifest", "reference", "ruling", "text"}
+        self.assertEqual(fields, due)
         for status, text in ((404, "no route"), (405, "no such method")):
             self.assertIn(f"{status} `{text}`", self.description.form["info"]["description"])
 

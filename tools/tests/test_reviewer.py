@@ -19,9 +19,14 @@ from pathlib import Path
 from unittest.mock import patch
 
 from tests.desk_at_work import TOKENS, TOOLS, TOP, DeskAtWork, free_port, submission
-from tests.reviewer_at_work import Page, ReviewerAtWork, browsed
+from tests.reviewer_at_work import Page, ReviewerAtWork, Visitor, browsed
 from tests.standin_desk import TABLES
+from vet_tools.desk_client import Desk
+from vet_tools.office import read_office
 from vet_tools.reviewer import main
+from vet_tools.reviewer_apps import AppPages
+from vet_tools.reviewer_desk import Forms, Reviewing, Store
+from vet_tools.reviewer_server import Server
 
 FLOW = "device_id -> network at La/Main;->onCreate(Landroid/os/Bundle;)V @4"
 APPEAL = "The number goes to our own server.\n<script>document.title = 'taken'</script>\u202e\x1b[31m & \"more\""
@@ -121,7 +126,8 @@ class WorkedCase(Office):
         self.desk.done("ann", "POST", "/cases/r1/appeal", json.dumps({"text": "No."}))
         sue = self.reviewer("sue")
         page = sue.look("case/1")
-        self.desk.done("sue", "POST", "/rulings", json.dumps({"developer": "ann", "reference": "r1", "ruling": "uphold"}))
+        ruling = {"developer": "ann", "reference": "r1", "ruling": "uphold"}
+        self.desk.done("sue", "POST", "/rulings", json.dumps(ruling))
         reply = sue.send(*page.form("Overturn the decision"))
         self.assertEqual(reply.status, 409)
         self.assertIn("The case has changed since you looked.", reply.text)
@@ -316,8 +322,53 @@ class WhoIsLetIn(unittest.TestCase):
             self.assertIn(("a", {"class": "skip", "href": "#main"}), page.elements)
             self.assertFalse([values for _, values in page.elements if "tabindex" in values or "onclick" in values])
             named = {values.get("for") for tag, values in page.elements if tag == "label"}
-            seen = {values.get("id") for tag, values in page.elements if tag == "input" and values.get("type") != "hidden"}
+            inputs = [values for tag, values in page.elements if tag == "input"]
+            seen = {values.get("id") for values in inputs if values.get("type") != "hidden"}
             self.assertLessEqual(seen, named)
+
+
+class AppPage(Office):
+    """The page that tools/page makes of an app; a small program stands in for tools/page."""
+
+    standin = True
+
+    def test_the_page_of_an_app_is_made_and_no_script_of_it_runs(self) -> None:
+        folder = tempfile.TemporaryDirectory()
+        self.addCleanup(folder.cleanup)
+        program, seen = Path(folder.name) / "page", Path(folder.name) / "seen"
+        program.write_text(
+            f"#!/bin/sh\nls \"$1\" > {seen}\necho \"<p>page</p><script>document.title = 'taken'</script>\" > \"$3\"\n"
+            "exit 2\n"
+        )
+        program.chmod(0o755)
+        self.desk.done("ann", "POST", "/cases", submission("declared", "r1"))
+        rex = self.serve(program, Path(folder.name))
+        self.assertEqual(rex.ask("GET", f"{rex.root}case/1/page").status, 404)
+        page = rex.press(rex.look("case/1"), "Make the app's page")
+        self.assertIn("The app's page is made: see under App.", page.text)
+        due = ["classes.dex", "declaration.toml", "layouts.toml", "lists.toml", "manifest.toml"]
+        self.assertEqual(seen.read_text().split(), due)
+        self.assertIn(("a", {"href": f"{rex.root}case/1/page"}), page.elements)
+        reply = rex.ask("GET", f"{rex.root}case/1/page")
+        self.assertIn("<p>page</p>", reply.text)
+        policy = reply.head["Content-Security-Policy"].split("; ")
+        self.assertEqual(policy[:2], ["sandbox", "default-src 'none'"])
+        self.assertFalse([rule for rule in policy if rule.startswith("script-src")])
+        program.write_text("#!/bin/sh\nprintf 'page: no \\033[31mlists\\n' >&2\nexit 1\n")
+        page = rex.press(page, "Make the app's page")
+        self.assertIn("tools/page made no page (status 1). It says: page: no \\x1b[31mlists", page.text)
+
+    def serve(self, program: Path, folder: Path) -> Visitor:
+        """The pages of a server in this process, with this program as its tools/page."""
+        store = Store(self.desk.office / "desk.sqlite", folder)
+        desk = Desk(self.desk.port, TOKENS["rex"])
+        apps = AppPages(program, folder)
+        reviewing = Reviewing(read_office(self.desk.office), desk, "rex", store, Forms(), apps, "secret")
+        server = Server(0, reviewing)
+        threading.Thread(target=server.serve_forever, args=(0.05,), daemon=True).start()
+        self.addCleanup(server.server_close)
+        self.addCleanup(server.shutdown)
+        return Visitor(server.server_port, reviewing.root)
 
 
 class Waiting(unittest.TestCase):

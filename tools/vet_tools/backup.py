@@ -19,7 +19,8 @@ from vet_tools.shown import visible
 EXAMPLE = """\
 example:
   deploy/backup /var/lib/vet /var/backups/vet --keep 14
-      writes /var/backups/vet/desk-2026-11-29T22-30-00Z.sqlite and prints its name, and takes away all but the latest 14.
+      writes /var/backups/vet/desk-2026-11-29T22-30-00Z.sqlite and prints its name, and takes away all but the latest
+      14 of them.
 
 The desk runs on meanwhile: its files are read and never opened as a database. The copy was tested by SQLite before it
 got its name, so whatever has that name is whole. To bring one back: stop the desk, move desk.sqlite and
@@ -48,7 +49,10 @@ def parser() -> argparse.ArgumentParser:
 
 
 def write_whole(copied_from: sqlite3.Connection, file: Path) -> None:
-    """Writes the database behind a connection as one file, by SQLite's own backup. Raises NoBackup where it is damaged."""
+    """Writes the database behind a connection as one file, by SQLite's own backup.
+
+    Raises NoBackup where it is damaged.
+    """
     with closing(sqlite3.connect(file, isolation_level=None)) as target:
         copied_from.backup(target)
         if target.execute("PRAGMA integrity_check").fetchall() != [("ok",)]:
@@ -104,7 +108,8 @@ def main(arguments: list[str] | None = None) -> int:
         print(f"backup: {visible(str(error))}", file=sys.stderr)
         return 1
     except sqlite3.Error:
-        print("backup: desk.sqlite is no whole database: keep the older backups, and look to the disk.", file=sys.stderr)
+        print("backup: desk.sqlite is no whole database: keep the older backups, and look to the disk.",
+              file=sys.stderr)
         return 1
     except OSError as error:
         print(f"backup: {visible(os.strerror(error.errno or 0))}: see the room and the rights of {words.folder}.",

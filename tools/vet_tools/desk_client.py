@@ -73,7 +73,7 @@ class Desk:
             reply = connection.getresponse()
             return _sentence(reply.status, reply.read(BODY_LIMIT))
         except (OSError, http.client.HTTPException):
-            return Told(False, "The desk did not reply. It may have done what was asked all the same: look at the case.")
+            return Told(False, "The desk did not reply. It may have done what was asked all the same: see the case.")
         finally:
             connection.close()
 

@@ -14,6 +14,7 @@ from pathlib import Path
 
 from vet_tools.desk_client import Desk
 from vet_tools.office import Office, OfficeError, read_office
+from vet_tools.reviewer_apps import AppPages
 from vet_tools.reviewer_desk import Forms, Reviewing, Store
 from vet_tools.reviewer_server import Server
 from vet_tools.shown import visible
@@ -41,7 +42,7 @@ class NoStart(Exception):
 def parser() -> argparse.ArgumentParser:
     """The words of the command line."""
     made = argparse.ArgumentParser(
-        "reviewer", description="A page on this machine for a reviewer of the desk: the queue, reports, appeals, rulings.",
+        "reviewer", description="A page on this machine for a reviewer: the queue, reports, appeals, rulings.",
         epilog=EXAMPLE, formatter_class=argparse.RawDescriptionHelpFormatter,
     )
     made.add_argument("office", metavar="OFFICE", type=Path, help="the folder of the office, as `vet serve` has it")
@@ -57,13 +58,15 @@ def token_of(words: argparse.Namespace) -> str:
         try:
             token = (words.token_file.read_text(encoding="ascii").splitlines() or [""])[0].strip()
         except (OSError, UnicodeDecodeError):
-            raise NoStart(f"{words.token_file} could not be read: name a file whose first line is your token.") from None
+            file = words.token_file
+            raise NoStart(f"{file} could not be read: name a file whose first line is your token.") from None
     else:
         token = os.environ.pop("VET_TOKEN", "")
         if not token and sys.stdin.isatty():
             token = getpass.getpass("Your token: ")
     if not 8 <= len(token) <= 128 or not all("!" <= character <= "~" for character in token):
-        raise NoStart("A token has 8 to 128 visible ASCII characters: give yours when asked, in VET_TOKEN, or by --token-file.")
+        raise NoStart("A token has 8 to 128 visible ASCII characters: give yours when asked, in VET_TOKEN or by"
+                      " --token-file.")
     return token
 
 
@@ -104,11 +107,13 @@ def run(words: argparse.Namespace) -> None:
     if known is False:
         raise NoStart("The desk knows no such token: ask who runs the desk.")
     if known is None:
-        print(f"reviewer: the desk on port {desk.port} gives no reply now; cases are shown all the same", file=sys.stderr)
+        print(f"reviewer: the desk on port {desk.port} gives no reply now; cases are shown all the same",
+              file=sys.stderr)
     os.umask(0o077)
     with tempfile.TemporaryDirectory(prefix="reviewer-") as folder:
         store = Store(office.folder / "desk.sqlite", Path(folder))
-        reviewing = Reviewing(office, desk, who, store, Forms(), secrets.token_urlsafe(32))
+        apps = AppPages(Path(__file__).resolve().parents[1] / "page", Path(folder))
+        reviewing = Reviewing(office, desk, who, store, Forms(), apps, secrets.token_urlsafe(32))
         try:
             server = Server(words.listen, reviewing)
         except OSError:

@@ -17,6 +17,7 @@ from vet_tools.desk_cases import Cases
 from vet_tools.desk_client import Desk, Told
 from vet_tools.desk_copy import Copied, copy_database, open_copy
 from vet_tools.office import Office
+from vet_tools.reviewer_apps import AppPages
 
 FORMS_KEPT = 5000
 COMMANDS_KEPT = 500
@@ -135,6 +136,7 @@ class Reviewing:
     who: str
     store: Store
     forms: Forms
+    apps: AppPages
     secret: str
 
     @property

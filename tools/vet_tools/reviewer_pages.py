@@ -56,13 +56,14 @@ def page(frame: Frame, title: str, body: str, refresh: int | None = None) -> byt
 </head>
 <body>
 <a class="skip" href="#main">To the content</a>
-<header><strong><a href="{frame.root}">Reviewer's desk</a></strong><span>office <bdi>{escaped(frame.office)}</bdi></span>
-<span>as <bdi>{escaped(frame.who)}</bdi></span><span>today is {day_text(frame.today)} (UTC)</span></header>
+<header><strong><a href="{frame.root}">Reviewer's desk</a></strong>
+<span>office <bdi>{escaped(frame.office)}</bdi></span><span>as <bdi>{escaped(frame.who)}</bdi></span>
+<span>today is {day_text(frame.today)} (UTC)</span></header>
 <main id="main">
 {body}
 </main>
-<footer>This page is a client of the desk: it shows a copy of the desk's cases and hands commands on. What an app's outcome
-is, the proved program said; nothing here decides.</footer>
+<footer>This page is a client of the desk: it shows a copy of the desk's cases and hands commands on. What an app's
+outcome is, the proved program said; nothing here decides.</footer>
 </body>
 </html>
 """.encode("utf-8")
@@ -99,7 +100,8 @@ def _table(caption: str, heads: list[tuple[str, str]], rows: list[list[str]]) ->
     body = "\n".join(
         "<tr>" + "".join(f'<td class="{kind}">{cell}</td>' for kind, cell in zip(kinds, row)) + "</tr>" for row in rows
     )
-    return f'<div class="scroll"><table><caption>{caption}</caption><thead><tr>{head}</tr></thead><tbody>\n{body}\n</tbody></table></div>'
+    inner = f"<caption>{caption}</caption><thead><tr>{head}</tr></thead><tbody>\n{body}\n</tbody>"
+    return f'<div class="scroll"><table>{inner}</table></div>'
 
 
 def _developer(line: Line) -> str:
@@ -210,10 +212,11 @@ def _entry_part(frame: Frame, case: Case, place: int, entry: Entry, forms: str) 
         _report_part(frame, case, place, entry),
     ]
     if entry.appeal is not None:
-        text.append(f"<h3>Appeal of {day_text(entry.appeal.day)}</h3>\n<pre class=\"prose\">{prose(entry.appeal.text)}</pre>")
+        text.append(f"<h3>Appeal of {day_text(entry.appeal.day)}</h3>")
+        text.append(f'<pre class="prose">{prose(entry.appeal.text)}</pre>')
     if entry.ruling is not None:
-        ruled = f"{day_text(entry.ruling.day)} by <bdi>{escaped(entry.ruling.reviewer)}</bdi>: {_word(entry.ruling.word)}"
-        text.append(f"<h3>Ruling</h3>\n<p>{ruled}</p>")
+        by = f"{day_text(entry.ruling.day)} by <bdi>{escaped(entry.ruling.reviewer)}</bdi>"
+        text.append(f"<h3>Ruling</h3>\n<p>{by}: {_word(entry.ruling.word)}</p>")
     return "\n".join(text) + f"\n{forms}\n</section>"
 
 
@@ -228,7 +231,7 @@ def _form_part(name: str, data: bytes, is_open: bool) -> str:
     return f"<details{' open' if is_open else ''}><summary>{name} ({size(len(data))})</summary>{inner}</details>"
 
 
-def _app_part(frame: Frame, case: Case) -> str:
+def _app_part(frame: Frame, case: Case, looks: str) -> str:
     rows = [
         ["classes.dex" if n == 0 else f"classes{n + 1}.dex", f"<code>{dex.digest}</code>", f"{dex.size:,}"]
         for n, dex in enumerate(case.dex)
@@ -241,20 +244,25 @@ def _app_part(frame: Frame, case: Case) -> str:
         _form_part("manifest.toml", case.manifest, is_open=False),
         _form_part("layouts.toml", case.layouts, is_open=False),
         _table(count(len(case.dex), "DEX file", "DEX files"), heads, rows),
+        looks,
         f'<p class="only-screen">Take {link}: with the office\'s lists in it, as <code>vet check</code> reads it.</p>',
     ])
 
 
-def case_page(frame: Frame, case: Case, told: Told | None, forms: str) -> bytes:
-    """A case: its entries, the latest first, and its app. `forms` is what may be asked of the latest entry."""
+def case_page(frame: Frame, case: Case, told: Told | None, forms: str, looks: str) -> bytes:
+    """A case: its entries, the latest first, and its app.
+
+    `forms` is what may be asked of the latest entry, `looks` what more there is to see of the app.
+    """
     name = f"<bdi>{escaped(case.developer)}</bdi> / <bdi>{escaped(case.reference)}</bdi>"
-    text = [told_part(told), f"<h1>{name}</h1>", f'<p>Case {case.number}, <span class="word">{case.state.value}</span>.</p>']
+    state = f'<p>Case {case.number}, <span class="word">{case.state.value}</span>.</p>'
+    text = [told_part(told), f"<h1>{name}</h1>", state]
     if case.state is State.QUEUED:
         text.append('<p class="note">It waits for its first decision. The desk judges the first case of its queue.</p>')
     last = len(case.entries) - 1
     for place in range(last, -1, -1):
         text.append(_entry_part(frame, case, place, case.entries[place], forms if place == last else ""))
-    text.append(_app_part(frame, case))
+    text.append(_app_part(frame, case, looks))
     title = f"{case.developer.decode('utf-8', 'replace')} / {case.reference.decode('utf-8', 'replace')}"
     return page(frame, title, "\n".join(text))
 

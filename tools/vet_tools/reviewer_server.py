@@ -13,27 +13,30 @@ import socketserver
 import sys
 import tempfile
 import threading
-import zipfile
+from collections.abc import Callable
 from http.server import BaseHTTPRequestHandler, HTTPServer
 from importlib.resources import files
-from typing import BinaryIO
 from urllib.parse import parse_qs, urlsplit
 
 from vet_tools import reviewer_pages as pages
 from vet_tools.desk_cases import Case, Cases, CasesError, State
 from vet_tools.desk_client import Told
 from vet_tools.desk_copy import CopyError
+from vet_tools.reviewer_apps import files_of, write_zip
 from vet_tools.reviewer_desk import Command, Reviewing
 
 FORM_LIMIT = 16_384
 CONNECTIONS = 32
 ROWS = 200
 NAME = re.compile(rb"[A-Za-z0-9._-]{1,64}")
+POLICY = (
+    "default-src 'none'; style-src 'self'; img-src data:; form-action 'self'; frame-ancestors 'none'; base-uri 'none'"
+)
+APP_POLICY = (
+    "sandbox; default-src 'none'; style-src 'unsafe-inline'; img-src data:; font-src data:; form-action 'none';"
+    " frame-ancestors 'none'; base-uri 'none'"
+)
 HEADERS = (
-    (
-        "Content-Security-Policy",
-        "default-src 'none'; style-src 'self'; img-src data:; form-action 'self'; frame-ancestors 'none'; base-uri 'none'",
-    ),
     ("X-Content-Type-Options", "nosniff"),
     ("X-Frame-Options", "DENY"),
     ("Referrer-Policy", "same-origin"),
@@ -110,7 +113,7 @@ class Handler(BaseHTTPRequestHandler):
         """Answers a form."""
         self._answer(self._form)
 
-    def _answer(self, act: object) -> None:
+    def _answer(self, act: Callable[[str], None]) -> None:
         try:
             act(self._asked())
         except Refused as refused:
@@ -139,11 +142,14 @@ class Handler(BaseHTTPRequestHandler):
         name = reviewing.office.folder.resolve().name or "/"
         return pages.Frame(reviewing.root, name, reviewing.who, reviewing.today(), reviewing.office.appeal_days)
 
-    def _send(self, status: int, body: bytes, kind: str = "text/html", more: tuple[tuple[str, str], ...] = ()) -> None:
+    def _send(
+        self, status: int, body: bytes, kind: str = "text/html", more: tuple[tuple[str, str], ...] = (),
+        policy: str = POLICY,
+    ) -> None:
         self.send_response(status)
         self.send_header("Content-Type", f"{kind}; charset=utf-8")
         self.send_header("Content-Length", str(len(body)))
-        for name, value in (*HEADERS, *more):
+        for name, value in (("Content-Security-Policy", policy), *HEADERS, *more):
             self.send_header(name, value)
         self.end_headers()
         self.wfile.write(body)
@@ -164,6 +170,8 @@ class Handler(BaseHTTPRequestHandler):
                 self._case(_number(number), query)
             case ["case", number, "report", place]:
                 self._report(_number(number), _number(place))
+            case ["case", number, "page"]:
+                self._page_of(_number(number))
             case ["case", number, "app.zip"]:
                 self._app(_number(number))
             case ["command", nonce]:
@@ -180,8 +188,7 @@ class Handler(BaseHTTPRequestHandler):
         page = min(_number(query.get("page", "0")), 1_000_000)
         with self.server.reviewing.store.cases() as cases:
             lists = _lists(cases, words, page)
-        nonce = {"once": self.server.reviewing.forms.nonce()}
-        decide = pages.button(self._frame(), "decide", "Decide the first case", nonce)
+        decide = pages.button(self._frame(), "decide", "Decide the first case", self._once({}))
         self._send(200, pages.first_page(self._frame(), lists, self._told(query), decide))
 
     def _found(self, number: int) -> Case:
@@ -193,7 +200,30 @@ class Handler(BaseHTTPRequestHandler):
 
     def _case(self, number: int, query: dict[str, str]) -> None:
         case = self._found(number)
-        self._send(200, pages.case_page(self._frame(), case, self._told(query), self._forms_of(case)))
+        forms, looks = self._forms_of(case), self._looks_of(case)
+        self._send(200, pages.case_page(self._frame(), case, self._told(query), forms, looks))
+
+    def _once(self, fields: dict[str, str]) -> dict[str, str]:
+        """The fields of a form that sends one command at most."""
+        return fields | {"once": self.server.reviewing.forms.nonce()}
+
+    def _looks_of(self, case: Case) -> str:
+        """The page of the app, where it was made, or the form that makes it, where there is a tools/page."""
+        apps, frame = self.server.reviewing.apps, self._frame()
+        link = ""
+        if apps.page_of(case.number) is not None:
+            link = f'<p class="only-screen">See <a href="{frame.root}case/{case.number}/page">the app\'s page</a>.</p>'
+        if not apps.can_make:
+            return link
+        fields = self._once({"case": str(case.number), "seen": case.seen})
+        return link + pages.button(frame, "page", "Make the app's page", fields, plain=True)
+
+    def _page_of(self, number: int) -> None:
+        """The page that tools/page made: it stands for itself, and no script of it runs."""
+        page = self.server.reviewing.apps.page_of(number)
+        if page is None:
+            raise Refused(404, "", "")
+        self._send(200, page, policy=APP_POLICY)
 
     def _forms_of(self, case: Case) -> str:
         """What may be asked of the last entry of a case."""
@@ -203,9 +233,10 @@ class Handler(BaseHTTPRequestHandler):
             mine = case.entries[-1].reviewer.decode("utf-8", "replace") == reviewing.who
             hint = "You made this decision, so the desk takes no ruling of yours: let another reviewer rule." if mine \
                 else "Uphold leaves the decision as it is. Overturn marks it as overturned; it is not called clear."
+            rulings = (("uphold", "Uphold the decision"), ("overturn", "Overturn the decision"))
             made = [
-                pages.button(frame, "rule", label, fields | {"ruling": word, "once": reviewing.forms.nonce()}, plain=True)
-                for word, label in (("uphold", "Uphold the decision"), ("overturn", "Overturn the decision"))
+                pages.button(frame, "rule", label, self._once(fields | {"ruling": word}), plain=True)
+                for word, label in rulings
             ]
             return f'<h3>Ruling</h3><p class="note only-screen">{hint}</p>\n<div class="row">{"".join(made)}</div>'
         if case.state in (State.DECIDED, State.RULED):
@@ -214,9 +245,18 @@ class Handler(BaseHTTPRequestHandler):
                 False: "The office's folder has other lists now. The desk judges by those that it read at its start.",
                 None: "A review needs other lists than those of the decisions.",
             }[reviewing.is_of_these_lists(case.entries[-1].edition)]
-            made = pages.button(frame, "review", "Review", fields | {"once": reviewing.forms.nonce()}, plain=True)
+            made = pages.button(frame, "review", "Review", self._once(fields), plain=True)
             return f'<h3 class="only-screen">Review</h3><p class="note only-screen">{hint}</p>\n{made}'
         return ""
+
+    def _making(self, case: Case) -> Callable[[], Told]:
+        """What makes the page of a case's app. The files are read now, so that the database is not held for long."""
+        reviewing = self.server.reviewing
+        if not reviewing.apps.can_make:
+            raise Refused(404, "", "")
+        with reviewing.store.cases() as cases:
+            files = list(files_of(case, cases, reviewing.lists())) if cases else []
+        return lambda: reviewing.apps.make(case, files)
 
     def _report(self, number: int, place: int) -> None:
         case = self._found(number)
@@ -231,7 +271,7 @@ class Handler(BaseHTTPRequestHandler):
                 case = cases.case(number) if cases else None
                 if case is None or cases is None:
                     raise Refused(404, "", "")
-                _write_app(file, case, cases, self.server.reviewing.lists())
+                write_zip(file, case, cases, self.server.reviewing.lists())
             length = file.tell()
             file.seek(0)
             self.send_response(200)
@@ -264,7 +304,8 @@ class Handler(BaseHTTPRequestHandler):
     def _fields(self) -> dict[str, str]:
         """The fields of a form. Raises Refused where it does not come from a page of this server."""
         origins = {f"http://{host}" for host in self.server.hosts}
-        if self.headers.get("Origin") not in origins or self.headers.get("Sec-Fetch-Site", "same-origin") != "same-origin":
+        site = self.headers.get("Sec-Fetch-Site", "same-origin")
+        if self.headers.get("Origin") not in origins or site != "same-origin":
             raise Refused(403, "Nothing was done", "This form does not come from a page of this desk.")
         length = self.headers.get("Content-Length", "")
         if not length.isdecimal() or int(length) > FORM_LIMIT or self.headers.get("Transfer-Encoding"):
@@ -287,15 +328,18 @@ class Handler(BaseHTTPRequestHandler):
             command.ended.wait(1.0)
         self._go(f"command/{nonce}")
 
-    def _asked_for(self, asked: str, fields: dict[str, str]) -> tuple[Command, object]:
+    def _asked_for(self, asked: str, fields: dict[str, str]) -> tuple[Command, Callable[[], Told]]:
+        """The command of a form. Raises Refused where it is none."""
         desk = self.server.reviewing.desk
         if asked == "decide":
             return Command("Deciding the first case", ""), desk.decide
-        if asked not in ("review", "rule"):
+        if asked not in ("review", "rule", "page"):
             raise Refused(404, "", "")
         case = self._found(_number(fields.get("case", "")))
         if case.seen != fields.get("seen"):
-            raise Refused(409, "Nothing was done", "The case has changed since you looked. Look at it again, and then ask.")
+            raise Refused(409, "Nothing was done", "The case has changed since you looked. Look at it again, then ask.")
+        if asked == "page":
+            return Command(f"Making the page of case {case.number}", f"case/{case.number}"), self._making(case)
         if not NAME.fullmatch(case.developer) or not NAME.fullmatch(case.reference):
             raise Refused(409, "Nothing was done", "This case has a name that no desk gives: look to its database.")
         developer, reference = case.developer.decode(), case.reference.decode()
@@ -327,11 +371,3 @@ def _lists(cases: Cases | None, words: str, page: int) -> pages.Lists:
     )
 
 
-def _write_app(file: BinaryIO, case: Case, cases: Cases, lists: bytes | None) -> None:
-    forms = {"manifest.toml": case.manifest, "layouts.toml": case.layouts, "declaration.toml": case.declaration}
-    with zipfile.ZipFile(file, "w", zipfile.ZIP_DEFLATED) as archive:
-        for name, data in (forms | ({} if lists is None else {"lists.toml": lists})).items():
-            archive.writestr(f"case-{case.number}/{name}", data)
-        for place, data in enumerate(cases.files(case.number)):
-            name = "classes.dex" if place == 0 else f"classes{place + 1}.dex"
-            archive.writestr(f"case-{case.number}/{name}", data)
