@@ -4,7 +4,6 @@ from __future__ import annotations
 
 import http.client
 import os
-import shutil
 import subprocess
 import tempfile
 import time
@@ -127,14 +126,3 @@ class ReviewerAtWork(Visitor):
         self.process.wait(10)
         self.process.stdout.close()
         self.errors.close()
-
-
-def browsed(address: str) -> str:
-    """The document that Chromium makes of a page, once its scripts, had it any, were run."""
-    profile = tempfile.mkdtemp(prefix="chromium-")
-    try:
-        words = ["chromium", "--headless", "--no-sandbox", "--disable-gpu", f"--user-data-dir={profile}",
-                 "--no-first-run", "--disable-extensions", "--disable-background-networking", "--dump-dom", address]
-        return subprocess.run(words, capture_output=True, text=True, timeout=60, check=True).stdout
-    finally:
-        shutil.rmtree(profile, ignore_errors=True)

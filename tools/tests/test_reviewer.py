@@ -19,11 +19,12 @@ from pathlib import Path
 from unittest.mock import patch
 
 from tests.desk_at_work import TOKENS, TOOLS, TOP, DeskAtWork, free_port, submission
-from tests.reviewer_at_work import Page, ReviewerAtWork, Visitor, browsed
+from tests.browser import Browser
+from tests.reviewer_at_work import Page, ReviewerAtWork, Visitor
 from tests.standin_desk import TABLES
 from vet_tools.desk_client import Desk
-from vet_tools.office import read_office
-from vet_tools.reviewer import main
+from vet_tools.office import Office, OfficeError, read_office
+from vet_tools.reviewer import main, office_of, parser
 from vet_tools.reviewer_apps import AppPages
 from vet_tools.reviewer_desk import Forms, Reviewing, Store
 from vet_tools.reviewer_server import Server
@@ -32,7 +33,16 @@ FLOW = "device_id -> network at La/Main;->onCreate(Landroid/os/Bundle;)V @4"
 APPEAL = "The number goes to our own server.\n<script>document.title = 'taken'</script>\u202e\x1b[31m & \"more\""
 
 
-class Office(unittest.TestCase):
+CHROMIUM: list[Browser] = []
+
+
+def setUpModule() -> None:
+    """One browser serves all tests."""
+    CHROMIUM.append(Browser())
+    unittest.addModuleCleanup(CHROMIUM[0].end)
+
+
+class AtAnOffice(unittest.TestCase):
     """A test with a desk at work."""
 
     standin = False
@@ -50,7 +60,7 @@ class Office(unittest.TestCase):
         return json.loads(self.desk.done("ann", "GET", f"/cases/{reference}"))
 
 
-class WorkedCase(Office):
+class WorkedCase(AtAnOffice):
     """The worked case, from the queue to the ruling."""
 
     def test_a_case_goes_from_the_queue_to_its_ruling(self) -> None:
@@ -84,18 +94,48 @@ class WorkedCase(Office):
         self.desk.done("ann", "POST", "/cases", submission("click", "r2"))
         self.desk.done("rex", "POST", "/decisions", "")
         self.desk.done("ann", "POST", "/cases/r1/appeal", json.dumps({"text": APPEAL}))
-        sue = self.reviewer("sue")
-        document = browsed(sue.address)
-        self.assertIn("<title>Cases</title>", document)
+        sue, browser = self.reviewer("sue"), CHROMIUM[0]
+        browser.go(sue.address)
+        self.assertIn("<title>Cases</title>", browser.document())
         for text in ("1 appeal waits for a ruling", "1 case waits for a decision", "r1", "r2", "undecided"):
-            self.assertIn(text, Page(document).text)
-        document = browsed(f"{sue.address}case/1")
+            self.assertIn(text, browser.text())
+        browser.go(f"{sue.address}case/1")
+        document = browser.document()
         page = Page(document)
         for text in ("provider: La/Prov;", FLOW, "The number goes to our own server.", "\\u{202e}\\x1b[31m"):
             self.assertIn(text, page.text)
         self.assertIn("<title>ann / r1</title>", document)
         self.assertNotIn("script", [tag for tag, _ in page.elements])
         self.assertIn("Uphold the decision", [label for label, _, _ in page.forms])
+
+    def test_a_case_goes_the_whole_way_by_keyboard_in_a_browser(self) -> None:
+        self.desk.done("ann", "POST", "/cases", submission("device_id_posted", "r1"))
+        rex, sue, browser = self.reviewer("rex"), self.reviewer("sue"), CHROMIUM[0]
+        browser.go(rex.address)
+        self.assertEqual(browser.tab_to("Decide the first case")[0], "To the content")
+        browser.enter("Decided: ann / r1 is flagged.")
+        self.desk.done("ann", "POST", "/cases/r1/appeal", json.dumps({"text": "It goes to our own server."}))
+        browser.go(sue.address)
+        browser.tab_to("r1")
+        browser.enter("It goes to our own server.")
+        browser.tab_to("manifest.toml (80 bytes)")
+        self.assertNotIn("package =", browser.text())
+        browser.press("Space")
+        self.assertIn("package =", browser.text())
+        browser.go(f"{sue.address}case/1")
+        browser.tab_to("Overturn the decision")
+        browser.enter("Ruled on ann / r1: overturn.")
+        self.assertEqual(self.shown()["ruling"], "overturn")
+
+    def test_in_print_stands_what_is_read_and_no_button(self) -> None:
+        self.desk.done("ann", "POST", "/cases", submission("device_id_posted", "r1"))
+        self.desk.done("rex", "POST", "/decisions", "")
+        self.desk.done("ann", "POST", "/cases/r1/appeal", json.dumps({"text": "No."}))
+        sue, browser = self.reviewer("sue"), CHROMIUM[0]
+        browser.go(f"{sue.address}case/1")
+        for selector, seen in (("h1", True), ("pre.prose", True), ("details:not([open]) pre", True), ("form", False),
+                               ("button", False), (".skip", False), (".only-screen", False)):
+            self.assertEqual(browser.shown_in_print(selector), seen, selector)
 
     def test_the_desk_is_not_disturbed_and_the_pages_are_of_now(self) -> None:
         sue = self.reviewer("sue")
@@ -148,7 +188,7 @@ class WorkedCase(Office):
         self.assertEqual(found, due)
 
 
-class Days(Office):
+class Days(AtAnOffice):
     """Days are shown as dates. Only the stand-in can be told which day it is."""
 
     standin = True
@@ -223,9 +263,11 @@ class Hostile(unittest.TestCase):
         self.assertIn("day 1099511627776", text)
 
     def test_a_browser_finds_no_script_in_them(self) -> None:
-        document = browsed(f"{self.sue.address}case/1")
-        self.assert_tame(document)
-        self.assertNotIn("<title>taken", document)
+        browser = CHROMIUM[0]
+        for way in ("case/1", "", "case/1/report/0"):
+            browser.go(self.sue.address + way)
+            self.assert_tame(browser.document())
+            self.assertNotIn("<title>taken", browser.document())
 
     def test_a_name_that_no_desk_gives_is_not_handed_on(self) -> None:
         reply = self.sue.send(*self.sue.look("case/1").form("Uphold the decision"))
@@ -327,7 +369,7 @@ class WhoIsLetIn(unittest.TestCase):
             self.assertLessEqual(seen, named)
 
 
-class AppPage(Office):
+class AppPage(AtAnOffice):
     """The page that tools/page makes of an app; a small program stands in for tools/page."""
 
     standin = True
@@ -419,7 +461,7 @@ class Waiting(unittest.TestCase):
         self.assertIn("It may have done what was asked all the same", page.text)
 
 
-class Beginning(Office):
+class Beginning(AtAnOffice):
     """What it says where it cannot begin."""
 
     standin = True
@@ -449,6 +491,13 @@ class Beginning(Office):
             self.assertEqual((status, printed), (1, ""), due)
             self.assertIn(due, said)
             self.assertEqual(said.count("\n"), 1)
+
+    def test_with_a_port_the_office_file_need_not_be_there(self) -> None:
+        with tempfile.TemporaryDirectory() as folder:
+            words = parser().parse_args([folder, "--port", "8650"])
+            self.assertEqual(office_of(words), Office(Path(folder), 8650, None, (), ()))
+            with self.assertRaises(OfficeError):
+                office_of(parser().parse_args([folder]))
 
     def test_help_has_an_example(self) -> None:
         done = subprocess.run([str(TOOLS / "reviewer"), "--help"], capture_output=True, text=True, timeout=20)

@@ -24,6 +24,7 @@ from vet_tools.desk_client import Told
 from vet_tools.desk_copy import CopyError
 from vet_tools.reviewer_apps import files_of, write_zip
 from vet_tools.reviewer_desk import Command, Reviewing
+from vet_tools.shown import visible
 
 FORM_LIMIT = 16_384
 CONNECTIONS = 32
@@ -238,7 +239,8 @@ class Handler(BaseHTTPRequestHandler):
                 pages.button(frame, "rule", label, self._once(fields | {"ruling": word}), plain=True)
                 for word, label in rulings
             ]
-            return f'<h3>Ruling</h3><p class="note only-screen">{hint}</p>\n<div class="row">{"".join(made)}</div>'
+            head = f'<h3 class="only-screen">Ruling</h3><p class="note only-screen">{hint}</p>'
+            return f'{head}\n<div class="row">{"".join(made)}</div>'
         if case.state in (State.DECIDED, State.RULED):
             hint = {
                 True: "It was decided under the lists that the office's folder has now; a review needs other ones.",
@@ -262,7 +264,7 @@ class Handler(BaseHTTPRequestHandler):
         case = self._found(number)
         if place >= len(case.entries):
             raise Refused(404, "", "")
-        self._send(200, case.entries[place].report, "text/plain")
+        self._send(200, visible(case.entries[place].report, keep="\n").encode(), "text/plain")
 
     def _app(self, number: int) -> None:
         """The folder of an app, with the office's lists, as a ZIP file."""
