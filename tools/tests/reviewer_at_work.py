@@ -123,6 +123,6 @@ class ReviewerAtWork(Visitor):
     def end(self) -> None:
         """Ends the run as a signal does."""
         self.process.terminate()
-        self.process.wait(10)
+        self.process.wait(30)
         self.process.stdout.close()
         self.errors.close()

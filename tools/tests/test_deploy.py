@@ -39,6 +39,13 @@ class Nginx(unittest.TestCase):
 class BeforeADesk(Nginx):
     """nginx and a desk at work."""
 
+    def test_nginx_finds_no_fault_in_the_site(self) -> None:
+        made = NginxAtWork(free_port())
+        self.addCleanup(made.end)
+        done = made.test()
+        self.assertEqual(done.returncode, 0, done.stderr)
+        self.assertNotRegex(done.stderr, "emerg|warn")
+
     def test_a_day_of_the_office_goes_through_tls(self) -> None:
         desk, description = DeskAtWork(), Description()
         self.addCleanup(desk.end)
