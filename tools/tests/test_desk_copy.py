@@ -51,9 +51,28 @@ class Copies(unittest.TestCase):
         self.assertEqual(self.source.stat().st_nlink, 1)
         self.write(2)
         self.assertFalse(copied.is_still(self.source))
-        later = copy_database(self.source, self.top / "2", copied)
+        later = copy_database(self.source, self.top / "1", copied)
         self.assertEqual(self.pair(later), (2, 2))
-        self.assertEqual(self.pair(copied), (1, 1))
+
+    def test_a_copy_is_brought_up_to_date_and_only_what_changed_is_written(self) -> None:
+        for number in range(1, 200):
+            self.write(number)
+        self.base.execute("PRAGMA wal_checkpoint(RESTART)")
+        time.sleep(0.1)
+        copied = copy_database(self.source, self.top / "1")
+        self.write(200)
+        time.sleep(0.1)
+        with patch.object(desk_copy, "_copy", wraps=desk_copy._copy) as copy:
+            copied = copy_database(self.source, self.top / "1", copied)
+        self.assertEqual([call.args[0].name for call in copy.call_args_list], ["desk.sqlite-wal"])
+        self.assertEqual(self.pair(copied), (200, 200))
+        self.base.execute("DELETE FROM room")
+        self.base.execute("VACUUM")
+        self.base.execute("PRAGMA wal_checkpoint(TRUNCATE)")
+        time.sleep(0.1)
+        copied = copy_database(self.source, self.top / "1", copied)
+        self.assertEqual(self.pair(copied), (200, 200))
+        self.assertEqual(copied.file.read_bytes(), self.source.read_bytes())
 
     def test_a_file_that_changed_while_it_was_copied_is_copied_again(self) -> None:
         self.write(1)
@@ -90,12 +109,13 @@ class Copies(unittest.TestCase):
         self.assertGreater(len(times), 2)
 
     def test_a_copy_taken_at_any_moment_is_one_state(self) -> None:
+        copied = None
         for number in range(1, 40):
             self.write(number)
             if number % 7 == 0:
                 self.base.execute("PRAGMA wal_checkpoint(RESTART)")
-            one, two = self.pair(copy_database(self.source, self.top / str(number)))
-            self.assertEqual((one, two), (number, number))
+            copied = copy_database(self.source, self.top / "1", copied)
+            self.assertEqual(self.pair(copied), (number, number))
 
     def test_there_may_be_no_database_and_one_may_never_be_still(self) -> None:
         self.assertIsNone(copy_database(self.top / "none.sqlite", self.top / "1"))

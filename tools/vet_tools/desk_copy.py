@@ -10,17 +10,20 @@ log only grows otherwise, and SQLite passes over what a copy has of a transactio
 
 from __future__ import annotations
 
+import errno
 import os
-import shutil
 import sqlite3
 import time
 from dataclasses import dataclass
 from pathlib import Path
 
+from vet_tools.progress import Progress
+
 LOG_HEADER = 32
 # A file's time moves in steps of some milliseconds; a change within the last one would not show in it.
 SETTLED = 0.05
 TRIES = 40
+BLOCK = 1 << 20
 
 
 class CopyError(Exception):
@@ -63,10 +66,25 @@ def _is_settled(mark: Mark) -> bool:
     return abs(time.time_ns() - mark.changed) > SETTLED * 1e9
 
 
+def _opened(file: Path, flags: int) -> int:
+    """A descriptor of a file; one that is made is for this user alone."""
+    return os.open(file, flags | os.O_CLOEXEC, 0o600)
+
+
 def _copy(source: Path, target: Path) -> None:
-    """Copies a file; the copy is for this user alone, whatever mode the original has."""
-    with source.open("rb") as read, open(os.open(target, os.O_WRONLY | os.O_CREAT | os.O_TRUNC, 0o600), "wb") as write:
-        shutil.copyfileobj(read, write, 1 << 20)
+    """Makes the target what the source is. What is the same in an earlier copy there is not written again."""
+    progress, at, whole = Progress("vet"), 0, source.stat().st_size
+    with (open(_opened(source, os.O_RDONLY), "rb", 0) as read,
+          open(_opened(target, os.O_RDWR | os.O_CREAT), "r+b", 0) as write):
+        while block := os.pread(read.fileno(), BLOCK, at):
+            if os.pread(write.fileno(), len(block), at) != block:
+                write.seek(at)
+                if write.write(block) != len(block):
+                    raise OSError(errno.ENOSPC, "no room")
+            at += len(block)
+            progress.say(f"copied {at // 10**6} of {whole // 10**6} MB of {source.name}")
+        write.truncate(at)
+    progress.end()
 
 
 @dataclass(frozen=True)
@@ -84,14 +102,13 @@ class Copied:
 
 def _try_copy(source: Path, target: Path, before: Copied | None) -> Copied | None:
     """One try: the copy, or None where the database changed meanwhile. An unchanged database file is not read again."""
+    for beside in ("-wal", "-shm"):
+        target.with_name(target.name + beside).unlink(missing_ok=True)
     log = log_of(source)
     mark, header, log_mark = mark_of(source), _header(log), mark_of(log)
     if mark is None or not _is_settled(mark):
         return None
-    if before is not None and before.database == mark:
-        target.unlink(missing_ok=True)
-        os.link(before.file, target)
-    else:
+    if before is None or before.database != mark:
         _copy(source, target)
     if log_mark is not None:
         _copy(log, log_of(target))
@@ -102,12 +119,12 @@ def _try_copy(source: Path, target: Path, before: Copied | None) -> Copied | Non
 
 
 def copy_database(source: Path, folder: Path, before: Copied | None = None) -> Copied | None:
-    """Copies the database `source` and its log into the folder `folder`, which is made.
+    """Copies the database `source` and its log into a folder, which is made where it is not there.
 
-    `before` is an earlier copy whose database file is taken again where it is still the same. The answer is None where
-    there is no database yet. Raises CopyError where it may not be read or is never still for long enough.
+    `before` is the earlier copy in that folder, if any: it becomes the new one, and must not be open. The answer is
+    None where there is no database yet. Raises CopyError where it may not be read or is never still for long enough.
     """
-    folder.mkdir(mode=0o700)
+    folder.mkdir(mode=0o700, exist_ok=True)
     try:
         for _ in range(TRIES):
             if mark_of(source) is None:
@@ -115,6 +132,7 @@ def copy_database(source: Path, folder: Path, before: Copied | None = None) -> C
             copied = _try_copy(source, folder / "desk.sqlite", before)
             if copied is not None:
                 return copied
+            before = None
             time.sleep(SETTLED)
     except PermissionError:
         raise CopyError(f"{source} may not be read by you: run this as the desk's user.") from None

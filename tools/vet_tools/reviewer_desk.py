@@ -4,7 +4,6 @@ from __future__ import annotations
 
 import hashlib
 import secrets
-import shutil
 import threading
 import time
 from collections import OrderedDict
@@ -37,26 +36,18 @@ class Command:
 
 
 class Store:
-    """Copies of the desk's database in a folder; one is taken anew where the database changed."""
+    """A copy of the desk's database in a folder; it is brought up to date where the database changed."""
 
     def __init__(self, database: Path, folder: Path) -> None:
         self._database, self._folder = database, folder
         self._lock = threading.Lock()
         self._copied: Copied | None = None
-        self._taken = 0
 
     def _refresh(self) -> Copied | None:
         if self._copied is not None and self._copied.is_still(self._database):
             return self._copied
-        self._taken += 1
         before, self._copied = self._copied, None
-        folder = self._folder / str(self._taken)
-        try:
-            self._copied = copy_database(self._database, folder, before)
-        finally:
-            old = [] if before is None else [before.file.parent]
-            for left in old + ([folder] if self._copied is None else []):
-                shutil.rmtree(left, ignore_errors=True)
+        self._copied = copy_database(self._database, self._folder / "copy", before)
         return self._copied
 
     @contextmanager
