@@ -50,7 +50,11 @@ class Browser:
         self._process.wait(20)
         self._read.close()
         self._write.close()
-        shutil.rmtree(self._profile, ignore_errors=True)
+        for _ in range(50):  # Its helpers write for a moment still.
+            shutil.rmtree(self._profile, ignore_errors=True)
+            if not os.path.exists(self._profile):
+                break
+            time.sleep(0.1)
 
     def _message(self) -> dict[str, Any]:
         while b"\0" not in self._rest:

@@ -342,6 +342,16 @@ class WhoIsLetIn(unittest.TestCase):
             self.assertNotIn(TOKENS["rex"], text)
         self.assertEqual(texts[-1], "")
 
+    def test_nothing_is_left_when_a_signal_ends_it(self) -> None:
+        with tempfile.TemporaryDirectory() as folder:
+            with patch.dict(os.environ, {"TMPDIR": folder}):
+                other = ReviewerAtWork(self.desk.office, TOKENS["rex"])
+            self.assertEqual(len(list(Path(folder).iterdir())), 1)
+            other.look()
+            other.end()
+            self.assertEqual(other.process.returncode, 0)
+            self.assertEqual(list(Path(folder).iterdir()), [])
+
     def test_each_start_has_another_address(self) -> None:
         other = ReviewerAtWork(self.desk.office, TOKENS["rex"])
         self.addCleanup(other.end)

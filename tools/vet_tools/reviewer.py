@@ -9,7 +9,8 @@ import secrets
 import signal
 import sys
 import tempfile
-import threading
+from collections.abc import Iterator
+from contextlib import contextmanager
 from pathlib import Path
 
 from vet_tools.desk_client import Desk
@@ -88,12 +89,19 @@ def who_of(office: Office, token: str) -> str:
     return party.name if party is not None else "a reviewer"
 
 
-def serve(server: Server) -> None:
-    """Serves until a signal comes."""
-    for number in (signal.SIGTERM, signal.SIGINT, signal.SIGHUP):
-        signal.signal(number, lambda *_: threading.Thread(target=server.shutdown).start())
-    with server:
-        server.serve_forever(poll_interval=0.05)
+@contextmanager
+def ended_by_signals() -> Iterator[None]:
+    """Within it a signal ends the program with status 0, once all that was opened within is closed."""
+
+    def end(*_: object) -> None:
+        raise SystemExit(0)
+
+    before = {number: signal.signal(number, end) for number in (signal.SIGTERM, signal.SIGINT, signal.SIGHUP)}
+    try:
+        yield
+    finally:
+        for number, handler in before.items():
+            signal.signal(number, handler)
 
 
 def run(words: argparse.Namespace) -> None:
@@ -110,7 +118,7 @@ def run(words: argparse.Namespace) -> None:
         print(f"reviewer: the desk on port {desk.port} gives no reply now; cases are shown all the same",
               file=sys.stderr)
     os.umask(0o077)
-    with tempfile.TemporaryDirectory(prefix="reviewer-") as folder:
+    with ended_by_signals(), tempfile.TemporaryDirectory(prefix="reviewer-", ignore_cleanup_errors=True) as folder:
         store = Store(office.folder / "desk.sqlite", Path(folder))
         apps = AppPages(Path(__file__).resolve().parents[1] / "page", Path(folder))
         reviewing = Reviewing(office, desk, who, store, Forms(), apps, secrets.token_urlsafe(32))
@@ -121,7 +129,8 @@ def run(words: argparse.Namespace) -> None:
         print(f"http://127.0.0.1:{server.server_port}{reviewing.root}", flush=True)
         if sys.stderr.isatty():
             print(f"reviewer: you are {visible(who)}; open this address in a browser; Ctrl-C ends it", file=sys.stderr)
-        serve(server)
+        with server:
+            server.serve_forever()
 
 
 def main(arguments: list[str] | None = None) -> int:
