@@ -1,0 +1,39 @@
+"""The classes that an app's DEX files have, by androguard."""
+from __future__ import annotations
+
+import struct
+
+from vet_tools.progress import Progress
+from vet_tools.refusal import Refusal
+
+# Where the header of a DEX file says how many classes it has.
+CLASS_COUNT = 0x60
+
+
+def classes_of(files: list[bytes], progress: Progress) -> set[str]:
+    """The descriptors of the classes in the DEX files, which are numbered from 1 in a `Refusal`."""
+    found: set[str] = set()
+    for i, raw in enumerate(files):
+        progress.say(f"reading names of classes, DEX file {i + 1} of {len(files)}")
+        found |= _in_one(raw, i + 1)
+    return found
+
+
+def _in_one(raw: bytes, number: int) -> set[str]:
+    from androguard.core.bytecodes import dvm  # only here: it takes longer to load than all else
+    try:
+        names = dvm.DalvikVMFormat(raw).get_classes_names()
+        found = set(map(_text, names))
+        told = struct.unpack_from("<I", raw, CLASS_COUNT)[0]
+    except Exception as error:  # androguard raises whatever a damaged file makes it stumble over
+        raise Refusal(f"DEX file {number} can't be read: it is damaged, or of a form that androguard does not know "
+                      f"({type(error).__name__})") from None
+    if len(names) != told:
+        raise Refusal(f"DEX file {number} has {told} classes by its header and {len(names)} by its map: it is damaged")
+    return found
+
+
+def _text(name: bytes) -> str:
+    """A DEX file's name as a text: what is above U+FFFF is spelled by two surrogates there."""
+    units = bytes(name).decode("utf-8", "surrogatepass").encode("utf-16", "surrogatepass")
+    return units.decode("utf-16", "replace")
