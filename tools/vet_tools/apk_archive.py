@@ -58,25 +58,24 @@ class Archive:
 
     def read(self, name: str, most: int) -> bytes:
         """The bytes of an entry, of which there may be `most`."""
-        try:
-            size = self.zip.getinfo(name).file_size
-            if size > most:
-                raise Refusal(f"{shown(name)} has {size} bytes, and at most {most} are read")
-            return self.zip.read(name)
-        except KeyError:
-            raise Refusal(f"the archive has no {shown(name)}") from None
-        except (OSError, zipfile.BadZipFile, RuntimeError, NotImplementedError, ValueError, EOFError) as error:
-            raise Refusal(f"{shown(name)} can't be read from the archive: {shown(str(error))}") from None
-        except Exception as error:  # a broken stream raises its own kinds, as `zlib.error` and `lzma.LZMAError`
-            raise Refusal(f"{shown(name)} can't be read from the archive: it is damaged ({type(error).__name__})") from None
+        if name not in self.names:
+            raise Refusal(f"the archive has no {shown(name)}")
+        size = self.zip.getinfo(name).file_size
+        if size > most:
+            raise Refusal(f"{shown(name)} has {size} bytes, and at most {most} are read")
+        return self._bytes(name, -1)
 
     def head(self, name: str) -> bytes:
         """The first eight bytes of an entry, or fewer where it has no more."""
+        return self._bytes(name, 8)
+
+    def _bytes(self, name: str, count: int) -> bytes:
         try:
             with self.zip.open(name) as stream:
-                return stream.read(8)
-        except Exception as error:  # as above
-            raise Refusal(f"{shown(name)} can't be read from the archive: {shown(str(error))}") from None
+                return stream.read(count)
+        except Exception as error:  # a broken entry raises what the module that unpacks it raises, as `zlib.error`
+            raise Refusal(f"{shown(name)} can't be read from the archive: it is damaged, or packed in a way that no device "
+                          f"takes ({type(error).__name__})") from None
 
     def dex_names(self) -> list[str]:
         """The DEX files that a device loads, in its order: `classes.dex`, `classes2.dex`, .. up to the first that is missing."""
