@@ -1,4 +1,4 @@
-"""APKs for tests, made by Debian's `aapt` of text; the platform's attributes come from a small framework made likewise."""
+"""APKs for tests, made by Debian's `aapt` of text; the platform's attributes come from a framework made likewise."""
 from __future__ import annotations
 
 import atexit
@@ -14,8 +14,8 @@ ANDROID = 'xmlns:android="http://schemas.android.com/apk/res/android"'
 PLATFORM = {
     "name": 0x01010003, "label": 0x01010001, "targetActivity": 0x01010202, "onClick": 0x0101026F,
     "backupAgent": 0x0101027F, "fragment": 0x010102E3, "layout": 0x010100F2, "id": 0x010100D0,
-    "isSplitRequired": 0x01010591, "actionViewClass": 0x010102FC, "text": 0x0101014F, "parentActivityName": 0x010103A7, "minSdkVersion": 0x0101020C,
-    "authorities": 0x01010018,
+    "isSplitRequired": 0x01010591, "actionViewClass": 0x010102FC, "text": 0x0101014F, "parentActivityName": 0x010103A7,
+    "minSdkVersion": 0x0101020C, "authorities": 0x01010018,
 }
 MAIN = ROOT / "examples" / "device_id_posted" / "classes.dex"  # the class La/Main;
 TWO = ROOT / "crates" / "vet_flagged" / "data" / "app"  # classes.dex has La/Main;, classes2.dex has La/Sender;
@@ -33,8 +33,8 @@ def framework() -> Path:
     held = tempfile.TemporaryDirectory(prefix="framework-")
     atexit.register(held.cleanup)
     folder = Path(held.name)
-    lines = [f'<public type="attr" name="{name}" id="0x{number:08x}"/><attr name="{name}" format="string|reference|boolean|integer"/>'
-             for name, number in PLATFORM.items()]
+    lines = [f'<public type="attr" name="{name}" id="0x{number:08x}"/>'
+             f'<attr name="{name}" format="string|reference|boolean|integer"/>' for name, number in PLATFORM.items()]
     write(folder, {"AndroidManifest.xml": f'<manifest {ANDROID} package="android"/>',
                    "res/values/attrs.xml": f"<resources>{''.join(lines)}</resources>"})
     return packed(folder, ["-x"])
@@ -70,6 +70,19 @@ def make(folder: Path, text: str, resources: dict[str, str] | None = None,
     with zipfile.ZipFile(found, "a") as archive:
         for name, raw in ({"classes.dex": MAIN.read_bytes()} if entries is None else entries).items():
             archive.writestr(name, raw)
+    return found
+
+
+def with_gaps(folder: Path, text: str, resources: dict[str, str]) -> Path:
+    """An APK without code whose table of resources has lists of entries with gaps, made by `aapt2`."""
+    write(folder, {"AndroidManifest.xml": text, **{f"res/{name}": it for name, it in resources.items()}})
+    found = folder / "made.apk"
+    for words in (["compile", "--dir", str(folder / "res"), "-o", str(folder / "compiled.zip")],
+                  ["link", "--enable-sparse-encoding", "--min-sdk-version", "26", "-I", str(framework()),
+                   "-o", str(found), "--manifest", str(folder / "AndroidManifest.xml"), str(folder / "compiled.zip")]):
+        run = subprocess.run(["aapt2", *words], capture_output=True, text=True, check=False)
+        if run.returncode:
+            raise AssertionError(f"aapt2 makes no APK of this test's text: {run.stderr}")
     return found
 
 

@@ -14,11 +14,12 @@ import zipfile
 from pathlib import Path
 from unittest import mock
 
-from tests.made_apk import ANDROID, MAIN, ROOT, RUNNABLE, TWO, dumped, entry, make, manifest, replaced
+from tests.made_apk import ANDROID, MAIN, ROOT, RUNNABLE, TWO, dumped, entry, make, manifest, replaced, with_gaps
 from vet_tools import device_keys, unpack
 
 REAL = Path("/usr/share/doc/androguard/examples")
 LINEAR = f"<LinearLayout {ANDROID}>"
+BUTTON = f'{LINEAR}<Button android:onClick="send"/></LinearLayout>'
 
 
 class UnpackTest(unittest.TestCase):
@@ -73,7 +74,7 @@ class ManifestTest(UnpackTest):
               <receiver android:name="a.Bell"/>
               <provider android:name=".Prov" android:authorities="a.p"/>
             </application></manifest>""",
-                   {"layout/m.xml": f'{LINEAR}<Button android:onClick="send"/></LinearLayout>'})
+                   {"layout/m.xml": BUTTON})
         status, out, said = self.run_tool(apk, "--lists", str(ROOT / "examples" / "lists.toml"))
         self.assertEqual((0, ""), (status, said))
         self.assertEqual("""package = "a"
@@ -113,7 +114,8 @@ classes = []
         self.assertIn("a: 1 DEX file, 5 components, 1 layout with clicks or classes", out)
 
     def test_an_alias_is_the_activity_that_it_names(self) -> None:
-        self.made(manifest('<activity android:name=".Main"/><activity-alias android:name=".Door" android:targetActivity=".Main"/>'
+        self.made(manifest('<activity android:name=".Main"/>'
+                           '<activity-alias android:name=".Door" android:targetActivity=".Main"/>'
                            '<activity-alias android:name=".Gate" android:targetActivity="a.Other"/>'))
         read = tomllib.loads(self.form("manifest.toml"))
         self.assertEqual([{"kind": "activity", "class": "La/Main;"}, {"kind": "activity", "class": "La/Other;"}],
@@ -121,7 +123,8 @@ classes = []
 
     def test_a_component_that_stands_twice_is_one(self) -> None:
         self.made(manifest('<service android:name=".Work"/><service android:name="a.Work"/>'))
-        self.assertEqual([{"kind": "service", "class": "La/Work;"}], tomllib.loads(self.form("manifest.toml"))["component"])
+        self.assertEqual([{"kind": "service", "class": "La/Work;"}],
+                         tomllib.loads(self.form("manifest.toml"))["component"])
 
     def test_a_name_by_reference_is_that_of_the_resource(self) -> None:
         self.made(manifest('<activity android:name="@string/main"/>'),
@@ -151,7 +154,8 @@ class LayoutTest(UnpackTest):
         self.made(manifest(""), {
             "layout/one.xml": f"""{LINEAR}<a.b.Box android:onClick="open"><Button android:onClick="send"/></a.b.Box>
                 <view class="a.Seen"/><include layout="@layout/two"/></LinearLayout>""",
-            "layout/two.xml": f'<merge {ANDROID}><fragment android:name="a.First"/><fragment class="a.Second"/></merge>',
+            "layout/two.xml": f"""<merge {ANDROID}><fragment android:name="a.First"/>
+                <fragment class="a.Second"/></merge>""",
             "layout-land/one.xml": f'{LINEAR}<Button android:onClick="turned"/></LinearLayout>',
             "layout/nothing.xml": f"{LINEAR}<Button/></LinearLayout>",
             "menu/m.xml": f'<menu {ANDROID}><item android:onClick="chosen"/></menu>',
@@ -169,17 +173,28 @@ class LayoutTest(UnpackTest):
             "values/s.xml": '<resources><string name="way">walk</string>'
                             '<style name="S"><item name="android:onClick">ride</item></style></resources>',
             "values-de/s.xml": '<resources><string name="way">gehen</string></resources>'})
-        self.assertEqual({"res/layout/one.xml": (["gehen", "walk"], []), "resources.arsc": (["ride"], [])}, self.layouts())
+        self.assertEqual({"res/layout/one.xml": (["gehen", "walk"], []), "resources.arsc": (["ride"], [])},
+                         self.layouts())
+
+    def test_a_table_of_resources_with_gaps_is_read(self) -> None:
+        many = "".join(f'<string name="s{i}">t{i}</string>' for i in range(100))
+        table = with_gaps(self.folder / "gaps", manifest("", "a.b"), {
+            "values/s.xml": f'<resources>{many}<string name="way">walk</string></resources>',
+            "values-de/s.xml": '<resources><string name="s77">x</string><string name="way">gehen</string></resources>',
+            "layout/one.xml": f'{LINEAR}<Button android:onClick="@string/way"/></LinearLayout>'})
+        status, _, said = self.run_tool(replaced(table, {"classes.dex": MAIN.read_bytes()}))
+        self.assertEqual(0, status, said)
+        self.assertEqual({"res/layout/one.xml": (["gehen", "walk"], [])}, self.layouts())
 
     def test_classes_of_the_app_are_found_where_names_are_told_otherwise(self) -> None:
         self.made(manifest(""), {"layout/one.xml": f"""{LINEAR}<androidx.fragment.app.FragmentContainerView
             android:name="a.Later"/><ImageView class="a.Main"/><TextView android:name="no.Class"/></LinearLayout>"""},
                   {"classes.dex": RUNNABLE.read_bytes()})
-        self.assertEqual({"res/layout/one.xml": ([], ["La/Later;", "La/Main;", "Landroidx/fragment/app/FragmentContainerView;"])},
-                         self.layouts())
+        due = ["La/Later;", "La/Main;", "Landroidx/fragment/app/FragmentContainerView;"]
+        self.assertEqual({"res/layout/one.xml": ([], due)}, self.layouts())
 
     def test_a_layout_in_another_folder_is_found(self) -> None:
-        apk = make(self.folder / "src", manifest(""), {"layout/one.xml": f'{LINEAR}<Button android:onClick="send"/></LinearLayout>'})
+        apk = make(self.folder / "src", manifest(""), {"layout/one.xml": BUTTON})
         hidden = bytearray(entry(apk, "res/layout/one.xml"))
         hidden[0:2] = b"\x77\x00"  # a device does not look at this kind
         status, _, said = self.run_tool(replaced(apk, {"assets/pic.png": bytes(hidden)}))
@@ -188,7 +203,8 @@ class LayoutTest(UnpackTest):
 
     def test_layouts_are_those_that_aapt_tells(self) -> None:
         apk = make(self.folder / "src", manifest(""), {
-            "layout/one.xml": f'{LINEAR}<x.y.Z android:onClick="a1"/><Button android:onClick="b2"/><q.R/></LinearLayout>'})
+            "layout/one.xml": f"""{LINEAR}<x.y.Z android:onClick="a1"/><Button android:onClick="b2"/>
+                <q.R/></LinearLayout>"""})
         self.run_tool(apk)
         self.assertEqual(told_by_aapt(apk, "res/layout/one.xml"), self.layouts()["res/layout/one.xml"])
 
@@ -217,7 +233,8 @@ class NamedTest(UnpackTest):
                 ({"values/s.xml": '<resources><string name="b">a.Later</string></resources>'}, r"resources\.arsc")]:
             with self.subTest(where):
                 self.setUp()
-                said = self.made(manifest('<activity android:name=".Main"/>'), resources, {"classes.dex": RUNNABLE.read_bytes()})
+                said = self.made(manifest('<activity android:name=".Main"/>'), resources,
+                                 {"classes.dex": RUNNABLE.read_bytes()})
                 self.assertRegex(said, rf"the class La/Later;, which is named by {where}\n")
 
 
@@ -226,21 +243,31 @@ class CarriedTest(UnpackTest):
     def test_dex_files_stand_in_their_order_up_to_the_first_gap(self) -> None:
         first, second = ((TWO / name).read_bytes() for name in ("classes.dex", "classes2.dex"))
         said = self.made(manifest('<activity android:name=".Main"/>'), None,
-                         {"classes2.dex": second, "classes.dex": first, "classes4.dex": second, "assets/more.dex": second})
+                         {"classes2.dex": second, "classes.dex": first, "classes4.dex": second,
+                          "assets/more.dex": second})
         self.assertEqual(2, tomllib.loads(self.form("manifest.toml"))["dex_files"])
-        self.assertEqual([first, second], [(self.folder / "app" / name).read_bytes() for name in ("classes.dex", "classes2.dex")])
+        app = self.folder / "app"
+        self.assertEqual([first, second], [(app / name).read_bytes() for name in ("classes.dex", "classes2.dex")])
         self.assertFalse((self.folder / "app" / "classes4.dex").exists())
         self.assertIn("not carried: classes4.dex, code that no device loads by itself\n", said)
         self.assertIn("not carried: assets/more.dex, code that no device loads by itself\n", said)
 
     def test_native_libraries_and_parts_are_said(self) -> None:
-        said = self.made(f'<manifest {ANDROID} package="a" android:isSplitRequired="true"><application/></manifest>', None,
+        text = f'<manifest {ANDROID} package="a" android:isSplitRequired="true"><application/></manifest>'
+        said = self.made(text, None,
                          {"classes.dex": MAIN.read_bytes(), "lib/x86/libn.so": b"\x7fELF\2\1\1\0\0",
                           "assets/pic.png": b"\x7fELF\2\1\1\0\0", "assets/b.apk": b"PK\3\4....."})
         self.assertIn("not carried: native library lib/x86/libn.so\n", said)
         self.assertIn("not carried: native library assets/pic.png\n", said)
         self.assertIn("not carried: assets/b.apk, another package\n", said)
         self.assertIn("not carried: the app needs further parts (split APKs)", said)
+
+    def test_of_many_of_one_kind_the_first_are_said(self) -> None:
+        said = self.made(manifest(""), None, {"classes.dex": MAIN.read_bytes(),
+                                              **{f"lib/{i:02}.so": b"\x7fELF\2\1\1\0\0" for i in range(25)}})
+        self.assertIn("native library lib/19.so\n", said)
+        self.assertNotIn("lib/20.so", said)
+        self.assertIn("not carried: 5 more of this kind\n", said)
 
     def test_a_dex_file_of_another_version_is_carried_and_said(self) -> None:
         newer = b"dex\n037\0" + MAIN.read_bytes()[8:]
@@ -249,7 +276,8 @@ class CarriedTest(UnpackTest):
         self.assertEqual(newer, (self.folder / "app" / "classes.dex").read_bytes())
 
     def test_names_of_an_app_reach_no_terminal_as_they_are(self) -> None:
-        said = self.made(manifest(""), None, {"classes.dex": MAIN.read_bytes(), "lib/\x1b[2J<script>.so": b"\x7fELF\2\1\1\0\0"})
+        said = self.made(manifest(""), None, {"classes.dex": MAIN.read_bytes(),
+                                              "lib/\x1b[2J<script>.so": b"\x7fELF\2\1\1\0\0"})
         self.assertIn(r"native library lib/\x1b[2J<script>.so", said)
         self.assertNotIn("\x1b", said)
 
@@ -258,8 +286,7 @@ class RefusalTest(UnpackTest):
 
     def apk(self, text: str = manifest('<activity android:name=".Main"/>'),
             entries: dict[str, bytes] | None = None) -> Path:
-        return make(self.folder / "src", text, {"layout/one.xml": f'{LINEAR}<Button android:onClick="send"/></LinearLayout>'},
-                    entries)
+        return make(self.folder / "src", text, {"layout/one.xml": BUTTON}, entries)
 
     def test_what_is_no_apk(self) -> None:
         text = self.folder / "text.apk"
@@ -325,10 +352,17 @@ class RefusalTest(UnpackTest):
         before.write_bytes(b"something before it" + self.apk().read_bytes())
         self.refuses(before, "is not where its end says")
 
+    def test_entries_that_a_device_reads_otherwise(self) -> None:
+        apk = self.apk()
+        with zipfile.ZipFile(apk, "a") as archive:
+            archive.writestr("assets/x", b"12345678", compress_type=zipfile.ZIP_BZIP2)
+        self.refuses(apk, "assets/x is packed in a way that a device reads otherwise")
+
     def test_archives_without_code_or_manifest(self) -> None:
         self.refuses(self.apk(entries={}), "no classes.dex")
         self.refuses(replaced(self.apk(), {"AndroidManifest.xml": None}), "no AndroidManifest.xml")
-        for name, word in [("base.apk", "a set of APKs"), ("base/manifest/AndroidManifest.xml", "a bundle"), ("x", "no APK")]:
+        for name, word in [("base.apk", "a set of APKs"), ("base/manifest/AndroidManifest.xml", "a bundle"),
+                           ("x", "no APK")]:
             other = self.folder / "other.apk"
             with zipfile.ZipFile(other, "w") as archive:
                 archive.writestr(name, b"PK")
@@ -343,9 +377,10 @@ class RefusalTest(UnpackTest):
     def test_what_the_forms_have_no_place_for(self) -> None:
         long = "a." + "x" * 300
         for text, part in [
-                (manifest('<activity android:name=".Main"/><service android:name=".Main"/>'), "as activity and as service"),
-                (f'<manifest {ANDROID} package="a"><application android:name=".M"><activity android:name=".M"/></application>'
-                 '</manifest>', "as application and as activity"),
+                (manifest('<activity android:name=".Main"/><service android:name=".Main"/>'),
+                 "as activity and as service"),
+                (f'<manifest {ANDROID} package="a"><application android:name=".M"><activity android:name=".M"/>'
+                 '</application></manifest>', "as application and as activity"),
                 (manifest(f'<activity android:name="{long}"/>'), "more than the 255 bytes")]:
             with self.subTest(part):
                 self.refuses(self.apk(text), part)
@@ -368,7 +403,8 @@ class RefusalTest(UnpackTest):
         raw = bytearray(entry(apk, "res/layout/one.xml"))
         at = raw.index(struct.pack("<HBB", 8, 0, 3))
         struct.pack_into("<IHBBI", raw, at - 4, 0xFFFFFFFF, 8, 0, 1, 0x01040000)
-        self.refuses(replaced(apk, {"res/layout/one.xml": bytes(raw)}), "an onClick in res/layout/one.xml refers to the resource")
+        self.refuses(replaced(apk, {"res/layout/one.xml": bytes(raw)}),
+                     "an onClick in res/layout/one.xml refers to the resource")
 
     def test_folders_and_files_that_are_not_as_they_should(self) -> None:
         apk = self.apk()
@@ -397,8 +433,8 @@ class CommandTest(UnpackTest):
 
     def test_the_command_makes_the_folder(self) -> None:
         apk = make(self.folder / "src", manifest('<activity android:name=".Main"/>'))
-        run = subprocess.run([str(ROOT / "tools" / "unpack"), str(apk), "app"], capture_output=True, text=True, check=True,
-                             cwd=self.folder)
+        run = subprocess.run([str(ROOT / "tools" / "unpack"), str(apk), "app"], capture_output=True, text=True,
+                             check=True, cwd=self.folder)
         self.assertIn("next: ./vet check app 4", run.stdout)
         self.assertTrue((self.folder / "app" / "manifest.toml").is_file())
 

@@ -8,7 +8,7 @@ from dataclasses import dataclass, field
 from pathlib import Path
 
 from vet_tools import binary_xml
-from vet_tools.refusal import Refusal, shown
+from vet_tools.refusal import Refusal, readable, shown
 from vet_tools.toml_text import LONGEST_FILE
 
 MOST_DEX = 16
@@ -17,11 +17,12 @@ LONGEST_TABLE = 268_435_456
 LONGEST_XML = 268_435_456
 READ = "035"
 END = b"PK\x05\x06"
+LONGEST_END = 22 + 65_535
 
 
 @dataclass
 class Contents:
-    """What of an archive matters by its first bytes: compiled XML, machine code, and code in places that no device loads."""
+    """What of an archive matters by its first bytes: compiled XML, machine code, and code that no device loads."""
     compiled: list[str] = field(default_factory=list)
     native: list[str] = field(default_factory=list)
     other_code: list[str] = field(default_factory=list)
@@ -36,11 +37,12 @@ class Archive:
         try:
             self.zip = zipfile.ZipFile(path)
         except FileNotFoundError:
-            raise Refusal(f"there is no file {path}") from None
+            raise Refusal(f"there is no file {readable(path)}") from None
         except IsADirectoryError:
-            raise Refusal(f"{path} is a folder; name the APK itself") from None
+            raise Refusal(f"{readable(path)} is a folder; name the APK itself") from None
         except (OSError, zipfile.BadZipFile, ValueError, NotImplementedError, struct.error) as error:
-            raise Refusal(f"{path} can't be read as an APK: it is no ZIP archive, or was cut ({error})") from None
+            raise Refusal(f"{readable(path)} can't be read as an APK: it is no ZIP archive, or was cut ({error})"
+                          ) from None
         self.names = self.zip.namelist()
         self._refuse_other_readings()
 
@@ -51,7 +53,9 @@ class Archive:
             if name in seen:
                 raise Refusal(f"the archive has {shown(name)} twice, so a device takes no such APK")
             seen.add(name)
-        tail = self.path.read_bytes()[-65557:]
+        with self.path.open("rb") as raw:
+            raw.seek(max(0, self.path.stat().st_size - LONGEST_END))
+            tail = raw.read()
         told = struct.unpack_from("<I", tail, tail.rindex(END) + 16)[0]
         if told != self.zip.start_dir:
             raise Refusal("the archive's list of entries is not where its end says; fetch the APK anew")
@@ -70,15 +74,20 @@ class Archive:
         return self._bytes(name, 8)
 
     def _bytes(self, name: str, count: int) -> bytes:
+        info = self.zip.getinfo(name)
+        stored = info.compress_type == zipfile.ZIP_STORED
+        whole = info.file_size == info.compress_size if stored else info.compress_type == zipfile.ZIP_DEFLATED
+        if not whole:
+            raise Refusal(f"{shown(name)} is packed in a way that a device reads otherwise; have the APK built anew")
         try:
             with self.zip.open(name) as stream:
                 return stream.read(count)
         except Exception as error:  # a broken entry raises what the module that unpacks it raises, as `zlib.error`
-            raise Refusal(f"{shown(name)} can't be read from the archive: it is damaged, or packed in a way that no device "
-                          f"takes ({type(error).__name__})") from None
+            raise Refusal(f"{shown(name)} can't be read from the archive: it is damaged, or under a password "
+                          f"({type(error).__name__})") from None
 
     def dex_names(self) -> list[str]:
-        """The DEX files that a device loads, in its order: `classes.dex`, `classes2.dex`, .. up to the first that is missing."""
+        """The DEX files that a device loads, in its order: `classes.dex`, `classes2.dex`, .. up to the first gap."""
         names = set(self.names)
         found = []
         while (name := f"classes{len(found) + 1 if found else ''}.dex") in names:
@@ -90,7 +99,7 @@ class Archive:
         found = Contents()
         loaded = set(self.dex_names())
         for info in self.zip.infolist():
-            if info.is_dir() or info.filename in loaded or info.file_size < 8:
+            if info.filename in loaded or info.file_size < 8:
                 continue
             head = self.head(info.filename)
             if head[:4] == b"\x7fELF":
@@ -103,14 +112,14 @@ class Archive:
                 found.compiled.append(info.filename)
         return found
 
-    def dex_files(self) -> list[bytes]:
+    def dex_files(self) -> dict[str, bytes]:
         """The DEX files that a device loads, as the folder takes them: 1 to 16, none above 16,777,216 bytes."""
         names = self.dex_names()
         if not names:
             raise Refusal(self._without_code())
         if len(names) > MOST_DEX:
             raise Refusal(f"the APK has {len(names)} DEX files, and the program reads at most {MOST_DEX}")
-        return [self.read(name, LONGEST_FILE) for name in names]
+        return {name: self.read(name, LONGEST_FILE) for name in names}
 
     def _without_code(self) -> str:
         if "AndroidManifest.xml" not in self.names:

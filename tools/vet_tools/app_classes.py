@@ -10,26 +10,26 @@ from vet_tools.refusal import Refusal
 CLASS_COUNT = 0x60
 
 
-def classes_of(files: list[bytes], progress: Progress) -> set[str]:
-    """The descriptors of the classes in the DEX files, which are numbered from 1 in a `Refusal`."""
+def classes_of(files: dict[str, bytes], progress: Progress) -> set[str]:
+    """The descriptors of the classes in the DEX files, by their name."""
     found: set[str] = set()
-    for i, raw in enumerate(files):
-        progress.say(f"reading names of classes, DEX file {i + 1} of {len(files)}")
-        found |= _in_one(raw, i + 1)
+    for name, raw in files.items():
+        progress.say(f"reading names of classes in {name}")
+        found |= _in_one(raw, name)
     return found
 
 
-def _in_one(raw: bytes, number: int) -> set[str]:
+def _in_one(raw: bytes, where: str) -> set[str]:
     from androguard.core.bytecodes import dvm  # only here: it takes longer to load than all else
     try:
         names = dvm.DalvikVMFormat(raw).get_classes_names()
         found = set(map(_text, names))
         told = struct.unpack_from("<I", raw, CLASS_COUNT)[0]
     except Exception as error:  # androguard raises whatever a damaged file makes it stumble over
-        raise Refusal(f"DEX file {number} can't be read: it is damaged, or of a form that androguard does not know "
+        raise Refusal(f"{where} can't be read: it is damaged, or of a form that androguard does not know "
                       f"({type(error).__name__})") from None
     if len(names) != told:
-        raise Refusal(f"DEX file {number} has {told} classes by its header and {len(names)} by its map: it is damaged")
+        raise Refusal(f"{where} has {told} classes by its header and {len(names)} by its map: it is damaged")
     return found
 
 

@@ -93,4 +93,4 @@ def _told(value: Value, about: AppNames) -> set[str]:
 
 def _short(name: str, about: AppNames) -> set[str]:
     """The app's classes that a name without a dot may mean: a device looks for it in packages of its own."""
-    return {found for front in INFLATED_FROM if (found := "L" + (front + name).replace(".", "/") + ";") in about.classes}
+    return {"L" + (front + name).replace(".", "/") + ";" for front in INFLATED_FROM} & about.classes

@@ -49,7 +49,7 @@ class Manifest:
 
 
 def read_manifest(root: Element, resources: ResourceTable) -> Manifest:
-    """What the manifest with this root says; refused is what no device would install, and what the form has no place for."""
+    """What the manifest with this root says; refused is what no device installs, and what the form has no place for."""
     if root.tag != "manifest":
         raise Refusal(f"AndroidManifest.xml begins with {shown(root.tag)} in place of manifest")
     found = Manifest(_one(root.plain("package"), "the package of the manifest", resources))
@@ -63,8 +63,8 @@ def read_manifest(root: Element, resources: ResourceTable) -> Manifest:
 
 def _one(values: list[Value], what: str, resources: ResourceTable) -> str:
     texts = {text for value in values for text in resources.texts(value, what)}
-    if len(texts) != 1 or len(values) > 1:
-        raise Refusal(f"{what} is {'there more than once' if texts else 'missing'} in AndroidManifest.xml")
+    if len(texts) != 1 or len(values) > 1 or "" in texts:
+        raise Refusal(f"{what} is {'there more than once' if len(texts) > 1 else 'missing'} in AndroidManifest.xml")
     return texts.pop()
 
 
@@ -87,9 +87,11 @@ def _add(found: Manifest, kind: Kind, name: str) -> None:
     """Takes a component; one that is named again, by an alias or another element, is the same one."""
     earlier = found.components.setdefault(name, kind)
     if earlier != kind:
-        raise Refusal(f"the manifest names {shown(name)} as {earlier.value} and as {kind.value}, and the form takes one")
+        raise Refusal(f"the manifest names {shown(name)} as {earlier.value} and as {kind.value}, and the form takes one"
+                      " of them")
     if name == found.application:
-        raise Refusal(f"the manifest names {shown(name)} as application and as {kind.value}, and the form takes one")
+        raise Refusal(f"the manifest names {shown(name)} as application and as {kind.value}, and the form takes one of"
+                      " them")
 
 
 def _parts(root: Element, applications: list[Element], resources: ResourceTable) -> list[str]:

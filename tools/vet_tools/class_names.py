@@ -28,14 +28,14 @@ def descriptor(name: str) -> str:
 
 
 def full_name(package: str, name: str) -> str:
-    """The class that a component's name means: a device puts the package before one that begins with a dot or has none."""
+    """The class that a component's name means: the package comes before a name that begins with a dot or has none."""
     if name.startswith("."):
         return package + name
     return name if "." in name else f"{package}.{name}"
 
 
 def mentioned(package: str, text: str) -> set[str]:
-    """The descriptors of classes that a text may mean where a class is named: in full, behind the package, or as `a.b/.C`."""
+    """The descriptors of classes that a text may mean: in full, behind the package as `.C`, or as `a.b/.C`."""
     names = {text}
     if "/" in text:
         before, _, behind = text.partition("/")

@@ -1,7 +1,7 @@
 """The table of resources of an APK (`resources.arsc`), as far as names of classes and methods may come from it.
 
-It is read by androguard. That goes through entries as if each began where the one before ends, so each is read once more
-here where the table says that it lies; a table in a form that androguard does not know is refused.
+It is read by androguard. That goes through entries as if each began where the one before ends, so each is read once
+more here where the table says that it lies; a table in a form that androguard does not know is refused.
 """
 from __future__ import annotations
 
@@ -65,7 +65,7 @@ class ResourceTable:
             yield from (it.text for it in values if it.kind == axml.TYPE_STRING)
 
     def _take(self, parser: axml.ARSCParser) -> None:
-        """Takes what the parser read: for each package its tables of names, then chunks, each with places of entries."""
+        """Takes what the parser read: for each package its names, then chunks, each with the places of its entries."""
         for parts in parser.packages.values():
             for part in parts:
                 if isinstance(part, axml.ARSCHeader):

@@ -7,6 +7,7 @@ from __future__ import annotations
 
 import argparse
 import logging
+import shlex
 import shutil
 import sys
 import tempfile
@@ -20,13 +21,14 @@ from vet_tools.app_layouts import AppNames, Layout
 from vet_tools.app_manifest import Manifest, read_manifest
 from vet_tools.named_classes import named_classes
 from vet_tools.progress import Progress
-from vet_tools.refusal import Refusal, shown
+from vet_tools.refusal import Refusal, readable, shown
 from vet_tools.resource_table import ResourceTable
 from vet_tools.toml_text import LONGEST_FILE
 
 ROOT = Path(__file__).resolve().parents[2]
 MANIFEST = "AndroidManifest.xml"
 TABLE = "resources.arsc"
+MOST_SAID = 20
 EXAMPLE = """example:
   tools/unpack shop.apk shop          makes the folder shop
   ./vet check shop 4                  judges it
@@ -40,7 +42,7 @@ class App:
     """What was read of an APK."""
     manifest: Manifest
     layouts: list[Layout]
-    dex: list[bytes]
+    dex: dict[str, bytes]
     named: dict[str, str]
     contents: Contents
 
@@ -66,11 +68,11 @@ def read_app(archive: Archive, progress: Progress) -> App:
 
 def read_compiled(archive: Archive, contents: Contents, resources: ResourceTable,
                   progress: Progress) -> dict[str, binary_xml.Element]:
-    """The root of each compiled XML file but the manifest, by its name in the archive; a layout that is none is refused."""
+    """The root of each compiled XML file but the manifest, by the file's name; a layout that is none is refused."""
     names = sorted(set(contents.compiled) - {MANIFEST})
     for name in archive.names:
-        is_layout = "layout" in resources.files.get(name, ()) or name.startswith("res/layout")
-        if is_layout and name.endswith(".xml") and name not in contents.compiled:
+        is_layout = "layout" in resources.files.get(name, ()) or name.startswith("res/layout") and name.endswith(".xml")
+        if is_layout and name not in contents.compiled:
             raise Refusal(f"the layout {shown(name)} can't be read: it is no compiled XML")
     found: dict[str, binary_xml.Element] = {}
     size = 0
@@ -86,19 +88,25 @@ def read_compiled(archive: Archive, contents: Contents, resources: ResourceTable
 
 def not_carried(app: App) -> list[str]:
     """What of the app the folder does not have, or has in vain, a sentence each."""
-    said = [f"not carried: native library {shown(name)}" for name in app.contents.native]
-    said += [f"not carried: {shown(name)}, code that no device loads by itself" for name in app.contents.other_code]
-    said += [f"not carried: {shown(name)}, another package" for name in app.contents.packed]
-    said += [f"not carried: {part}; what another part does is not judged" for part in app.manifest.parts]
-    for i, dex in enumerate(app.dex):
-        found = apk_archive.version(dex)
+    said = _some([f"native library {shown(name)}" for name in app.contents.native])
+    said += _some([f"{shown(name)}, code that no device loads by itself" for name in app.contents.other_code])
+    said += _some([f"{shown(name)}, another package" for name in app.contents.packed])
+    said += _some([f"{part}; what another part does is not judged" for part in app.manifest.parts])
+    for name, raw in app.dex.items():
+        found = apk_archive.version(raw)
         if found != apk_archive.READ:
-            said.append(f"{dex_name(i)} has version {found}, and the program reads {apk_archive.READ} alone: it will refuse "
+            said.append(f"{name} has version {found}, and the program reads {apk_archive.READ} alone: it will refuse "
                         "this app; build it with a lower min-api")
     if not device_keys.READS_DEVICE_KEYS:
-        said += [f"not carried: the class {shown(name)}, which is named by {shown_place(where)}"
-                 for name, where in app.named.items()]
+        said += _some([f"the class {shown(name)}, which is named by {shown_place(where)}"
+                       for name, where in app.named.items()])
     return said
+
+
+def _some(said: list[str]) -> list[str]:
+    """The first of what is said, each as something that was not carried, and how many more there are."""
+    more = [f"not carried: {len(said) - MOST_SAID} more of this kind"] if len(said) > MOST_SAID else []
+    return [f"not carried: {it}" for it in said[:MOST_SAID]] + more
 
 
 def shown_place(where: str) -> str:
@@ -106,15 +114,8 @@ def shown_place(where: str) -> str:
     return " ".join(map(shown, where.split(" ")))
 
 
-def dex_name(i: int) -> str:
-    """The name of the DEX file of this number, counted from 0."""
-    return f"classes{i + 1 if i else ''}.dex"
-
-
-def lists_file(chosen: str | None) -> Path:
-    """The file of the lists: the one chosen, else the Android lists of this repository, else the sample ones."""
-    if chosen is not None:
-        return Path(chosen)
+def default_lists() -> Path:
+    """The Android lists of this repository, else the sample ones."""
     android = ROOT / "lists" / "android.toml"
     return android if android.is_file() else ROOT / "examples" / "lists.toml"
 
@@ -124,9 +125,9 @@ def read_form(path: Path, what: str) -> bytes:
     try:
         raw = path.read_bytes()
     except OSError as error:
-        raise Refusal(f"{what} {path} can't be read: {error.strerror}") from None
+        raise Refusal(f"{what} {readable(path)} can't be read: {error.strerror}") from None
     if len(raw) > LONGEST_FILE:
-        raise Refusal(f"{what} {path} has {len(raw)} bytes, and the program reads at most {LONGEST_FILE}")
+        raise Refusal(f"{what} {readable(path)} has {len(raw)} bytes, and the program reads at most {LONGEST_FILE}")
     return raw
 
 
@@ -143,15 +144,15 @@ def write_folder(target: Path, files: dict[str, bytes]) -> None:
         finally:
             shutil.rmtree(made, ignore_errors=True)
     except OSError as error:
-        raise Refusal(f"the folder {target} can't be written: {error.strerror}") from None
+        raise Refusal(f"the folder {readable(target)} can't be written: {error.strerror}") from None
 
 
 def refuse_existing(target: Path) -> None:
     """A folder that is there is left as it is."""
     if target.exists() or target.is_symlink():
-        raise Refusal(f"{target} is there already; name a folder that is not, or remove it")
+        raise Refusal(f"{readable(target)} is there already; name a folder that is not, or remove it")
     if not target.parent.is_dir():
-        raise Refusal(f"there is no folder {target.parent} to make {target.name} in")
+        raise Refusal(f"there is no folder {readable(target.parent)} to make {readable(target.name)} in")
 
 
 def run(apk: Path, target: Path, lists: Path, declaration: Path | None, progress: Progress) -> App:
@@ -163,7 +164,7 @@ def run(apk: Path, target: Path, lists: Path, declaration: Path | None, progress
     named = list(app.named) if device_keys.READS_DEVICE_KEYS else None
     forms["manifest.toml"] = app.manifest.form(len(app.dex), named)
     forms["layouts.toml"] = app_layouts.form(app.layouts)
-    write_folder(target, {**forms, **{dex_name(i): raw for i, raw in enumerate(app.dex)}})
+    write_folder(target, {**forms, **app.dex})
     return app
 
 
@@ -173,39 +174,49 @@ def summary(app: App, target: Path) -> str:
     counted = [f"{len(app.dex)} DEX file{'s' * (len(app.dex) != 1)}",
                f"{len(app.manifest.components)} component{'s' * (len(app.manifest.components) != 1)}",
                f"{count} layout{'s' * (count != 1)} with clicks or classes"]
-    return f"{shown(app.manifest.package)}: {', '.join(counted)}\nmade {target}; next: ./vet check {target} 4\n"
+    made = readable(target)
+    return (f"{shown(app.manifest.package)}: {', '.join(counted)}\n"
+            f"made {made}; next: ./vet check {shlex.quote(made)} 4\n")
+
+
+def arguments(words: list[str] | None) -> argparse.Namespace:
+    """The words of the command, read."""
+    parser = argparse.ArgumentParser(prog="tools/unpack", epilog=EXAMPLE, description=(__doc__ or "").split("\n\n")[0],
+                                     formatter_class=argparse.RawDescriptionHelpFormatter)
+    parser.add_argument("apk", metavar="APK", type=Path, help="the app, an APK file")
+    parser.add_argument("folder", metavar="DIR", type=Path, help="the folder to make; it must not be there yet")
+    parser.add_argument("--lists", metavar="FILE", type=Path,
+                        help="the office's lists (default: lists/android.toml of this repository)")
+    parser.add_argument("--declaration", metavar="FILE", type=Path,
+                        help="the developer's declaration (default: an empty one)")
+    return parser.parse_args(words)
 
 
 def main(words: list[str] | None = None) -> int:
     """The command `tools/unpack`."""
-    parser = argparse.ArgumentParser(prog="tools/unpack", epilog=EXAMPLE, description=(__doc__ or "").split("\n\n")[0],
-                                     formatter_class=argparse.RawDescriptionHelpFormatter)
-    parser.add_argument("apk", metavar="APK", help="the app, an APK file")
-    parser.add_argument("folder", metavar="DIR", help="the folder to make; it must not be there yet")
-    parser.add_argument("--lists", metavar="FILE", help="the office's lists (default: lists/android.toml of the repository)")
-    parser.add_argument("--declaration", metavar="FILE", help="the developer's declaration (default: an empty one)")
-    given = parser.parse_args(words)
+    given = arguments(words)
     logging.getLogger("androguard").setLevel(logging.CRITICAL + 1)
     progress = Progress("unpack")
-    lists = lists_file(given.lists)
+    lists = given.lists or default_lists()
     try:
-        app = run(Path(given.apk), Path(given.folder), lists, Path(given.declaration) if given.declaration else None, progress)
+        app = run(given.apk, given.folder, lists, given.declaration, progress)
     except Refusal as reason:
-        progress.end()
-        print(f"tools/unpack: {reason}", file=sys.stderr)
-        return 1
+        return refused(str(reason), progress)
     except KeyboardInterrupt:
-        progress.end()
-        print("tools/unpack: stopped; nothing was made", file=sys.stderr)
-        return 1
+        return refused("stopped; nothing was made", progress)
     except MemoryError:
-        progress.end()
-        print("tools/unpack: not enough memory for this APK; nothing was made", file=sys.stderr)
-        return 1
+        return refused("there is not enough memory for this APK; nothing was made", progress)
     progress.end()
-    if given.lists is None:
+    if not given.lists:
         print(f"tools/unpack: took the lists {lists.relative_to(ROOT)}", file=sys.stderr)
     for line in not_carried(app):
         print(f"tools/unpack: {line}", file=sys.stderr)
-    sys.stdout.write(summary(app, Path(given.folder)))
+    sys.stdout.write(summary(app, given.folder))
     return 0
+
+
+def refused(reason: str, progress: Progress) -> int:
+    """Says why nothing was made, and returns the status of that."""
+    progress.end()
+    print(f"tools/unpack: {reason}", file=sys.stderr)
+    return 1
