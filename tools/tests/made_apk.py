@@ -59,14 +59,14 @@ def packed(folder: Path, flags: list[str]) -> Path:
 
 
 def make(folder: Path, text: str, resources: dict[str, str] | None = None,
-         entries: dict[str, bytes] | None = None) -> Path:
+         entries: dict[str, bytes] | None = None, flags: tuple[str, ...] = ()) -> Path:
     """An APK with this manifest, these resources (by their path below res/) and these further entries of the archive.
 
     Without further entries it has one DEX file, that with the class La/Main;.
     """
     write(folder, {"AndroidManifest.xml": text, **{f"res/{name}": it for name, it in (resources or {}).items()}})
     # Below that version aapt would put attributes into files of their own.
-    found = packed(folder, ["--min-sdk-version", "21", "-I", str(framework())])
+    found = packed(folder, ["--min-sdk-version", "21", "-I", str(framework()), *flags])
     with zipfile.ZipFile(found, "a") as archive:
         for name, raw in ({"classes.dex": MAIN.read_bytes()} if entries is None else entries).items():
             archive.writestr(name, raw)

@@ -5,6 +5,7 @@ import contextlib
 import io
 import os
 import re
+import shutil
 import struct
 import subprocess
 import tempfile
@@ -311,7 +312,7 @@ class RefusalTest(UnpackTest):
             for at in range(0, len(raw), max(1, len(raw) // 15)):
                 with self.subTest(name=name, at=at):
                     changed = replaced(apk, {name: raw[:at] + bytes([raw[at] ^ 0xFF]) + raw[at + 1:]})
-                    subprocess.run(["rm", "-rf", str(self.folder / "app")], check=True)
+                    shutil.rmtree(self.folder / "app", ignore_errors=True)
                     status, _, said = self.run_tool(changed)
                     self.assertNotIn("Traceback", said)
                     if status == 0 and name == "res/layout/one.xml":
@@ -391,6 +392,15 @@ class RefusalTest(UnpackTest):
         for text in ('<view class="a.\U0001F600"/>', '<Button android:onClick="go\U0001F600"/>'):
             apk = make(self.folder / "src", manifest(""), {"layout/one.xml": f"{LINEAR}{text}</LinearLayout>"})
             self.refuses(apk, "has characters that can't be carried", r"\xf0\x9f\x98\x80")
+
+    def test_a_click_that_begins_as_a_mark_of_the_order_of_bytes_does(self) -> None:
+        # U+FEFF is a character of names to a device. Python loses it at the begin of a text in UTF-16.
+        layout = {"layout/one.xml": f'{LINEAR}<Button android:onClick="\ufeffgo"/></LinearLayout>'}
+        status, _, said = self.run_tool(make(self.folder / "src", manifest(""), layout))
+        self.assertEqual((0, (["\ufeffgo"], [])), (status, self.layouts()["res/layout/one.xml"]), said)
+        shutil.rmtree(self.folder / "app")
+        apk = make(self.folder / "src", manifest(""), layout, None, ("--utf16",))
+        self.refuses(apk, "the method of an onClick", "has characters that can't be carried")
 
     def test_a_component_without_a_name(self) -> None:
         apk = self.apk()

@@ -43,16 +43,15 @@ class Archive:
         except (OSError, zipfile.BadZipFile, ValueError, NotImplementedError, struct.error) as error:
             raise Refusal(f"{readable(path)} can't be read as an APK: it is no ZIP archive, or was cut ({error})"
                           ) from None
-        self.names = self.zip.namelist()
+        self.names: dict[str, None] = {}
         self._refuse_other_readings()
 
     def _refuse_other_readings(self) -> None:
         """A device refuses a name that stands twice, and takes the list of entries where the archive's end says."""
-        seen: set[str] = set()
-        for name in self.names:
-            if name in seen:
+        for name in self.zip.namelist():
+            if name in self.names:
                 raise Refusal(f"the archive has {shown(name)} twice, so a device takes no such APK")
-            seen.add(name)
+            self.names[name] = None
         with self.path.open("rb") as raw:
             raw.seek(max(0, self.path.stat().st_size - LONGEST_END))
             tail = raw.read()
@@ -88,9 +87,8 @@ class Archive:
 
     def dex_names(self) -> list[str]:
         """The DEX files that a device loads, in its order: `classes.dex`, `classes2.dex`, .. up to the first gap."""
-        names = set(self.names)
-        found = []
-        while (name := f"classes{len(found) + 1 if found else ''}.dex") in names:
+        found: list[str] = []
+        while (name := f"classes{len(found) + 1 if found else ''}.dex") in self.names:
             found.append(name)
         return found
 

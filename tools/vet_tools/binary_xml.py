@@ -153,8 +153,11 @@ def _attributes(parser: axml.AXMLParser, raw: bytes, end: int) -> list[Attribute
 
 
 def _text(parser: axml.AXMLParser, index: int) -> str:
+    return pool_text(parser.sb, index)
+
+
+def pool_text(pool: axml.StringBlock, index: int) -> str:
     """The text of this number; one whose bytes are no text, or end elsewhere than they say, has U+FFFD in it."""
-    pool = parser.sb
     if index >= len(pool):
         return ""
     text = pool.getString(index)

@@ -10,7 +10,7 @@ from typing import Iterator
 
 from androguard.core.bytecodes import axml
 
-from vet_tools.binary_xml import Value
+from vet_tools.binary_xml import Value, pool_text
 from vet_tools.refusal import Refusal
 
 REFERENCES = (axml.TYPE_REFERENCE, axml.TYPE_DYNAMIC_REFERENCE)
@@ -100,5 +100,5 @@ def _places(entries: list[tuple[int, int]], flags: int) -> list[tuple[int, int]]
 
 
 def _value(item: axml.ARSCResStringPoolRef) -> Value:
-    text = item.get_data_value() if item.data_type == axml.TYPE_STRING else ""
+    text = pool_text(item.parent.stringpool_main, item.data) if item.data_type == axml.TYPE_STRING else ""
     return Value(item.data_type, item.data, text)

@@ -69,10 +69,11 @@ def read_app(archive: Archive, progress: Progress) -> App:
 def read_compiled(archive: Archive, contents: Contents, resources: ResourceTable,
                   progress: Progress) -> dict[str, binary_xml.Element]:
     """The root of each compiled XML file but the manifest, by the file's name; a layout that is none is refused."""
-    names = sorted(set(contents.compiled) - {MANIFEST})
+    compiled = set(contents.compiled)
+    names = sorted(compiled - {MANIFEST})
     for name in archive.names:
         is_layout = "layout" in resources.files.get(name, ()) or name.startswith("res/layout") and name.endswith(".xml")
-        if is_layout and name not in contents.compiled:
+        if is_layout and name not in compiled:
             raise Refusal(f"the layout {shown(name)} can't be read: it is no compiled XML")
     found: dict[str, binary_xml.Element] = {}
     size = 0
