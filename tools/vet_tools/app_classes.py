@@ -8,13 +8,15 @@ from vet_tools.refusal import Refusal
 
 # Where the header of a DEX file says how many classes it has.
 CLASS_COUNT = 0x60
+# From how many bytes on a DEX file takes about a second.
+LASTING = 1_000_000
 
 
 def classes_of(files: dict[str, bytes], progress: Progress) -> set[str]:
     """The descriptors of the classes in the DEX files, by their name."""
     found: set[str] = set()
     for name, raw in files.items():
-        progress.say(f"reading names of classes in {name}")
+        progress.say(f"reading names of classes in {name}", lasts=len(raw) > LASTING)
         found |= _in_one(raw, name)
     return found
 

@@ -14,10 +14,10 @@ class Progress:
         self.told = 0.0
         self.shows = sys.stderr.isatty()
 
-    def say(self, text: str) -> None:
-        """Says what is done from here on, at most five times a second."""
+    def say(self, text: str, lasts: bool = False) -> None:
+        """Says what is done from here on: at once where that step lasts, else after a second, five times a second."""
         now = time.monotonic()
-        if self.shows and now - self.began > 1 and now - self.told > 0.2:
+        if self.shows and (lasts or now - self.began > 1 and now - self.told > 0.2):
             self.told = now
             sys.stderr.write(f"\r\x1b[K{self.tool}: {text}")
             sys.stderr.flush()
