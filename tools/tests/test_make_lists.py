@@ -12,6 +12,7 @@ from pathlib import Path
 from unittest import mock
 
 from vet_tools import lists_lint, make_lists
+from vet_tools.device_keys import READS_DEVICE_KEYS
 from vet_tools.lists_javap import NoJavap, Shape, shapes, shapes_in
 from vet_tools.lists_lookup import Lookup
 from vet_tools.lists_model import Effects, TableFault, Tables
@@ -89,7 +90,7 @@ class Lint(Case):
 
     def test_a_reflective_row_above_is_as_strong_as_any(self) -> None:
         self.assertEqual(self.rules(
-            methods='+[java.lang.Runnable]\nvoid run()  reflective -- by name\n[a.Work]\nvoid run()  sink net 0 -- it\n',
+            methods='+[java.lang.Runnable]\nvoid run()  reflective -- by\n[a.Work]\nvoid run()  sink net 0 -- it\n',
             classes='+class Work : java.lang.Runnable\n'), {})
 
     def test_joined_without_a_constructor(self) -> None:
@@ -134,7 +135,7 @@ class Lint(Case):
     def test_names_that_are_not_listed(self) -> None:
         for table, text in (('methods', '+[b.Lost]\nvoid run()\n'), ('callbacks', '+[b.Lost]\nvoid run()\n'),
                             ('statics', '[b.Lost]\nString ID\n'), ('methods', '+void by(int)  sink mars 0 -- far\n'),
-                            ('methods', '+String by()  source mars -- far\n'), ('methods', '+Object by()  shared gone\n'),
+                            ('methods', '+String by()  source mars -- it\n'), ('methods', '+Object by()  shared gone\n'),
                             ('methods', '+void by(int)  stores 1>gone\n'), ('head', '+shared lost b.Lost\n'),
                             ('callbacks', '+void told(String)  source 1 mars -- far\n')):
             self.assertIn('listed', self.rules(**{table: text}), text)
@@ -211,12 +212,16 @@ class Reading(Case):
                 ('classes', '+class Box\n', 'classes.txt:10'), ('classes', 'class Odd\n', 'classes.txt:1'),
                 ('classes', '+class Odd : Nowhere\n', 'classes.txt:10'), ('methods', '+nonsense\n', 'methods.txt:8'),
                 ('methods', '+void odd(Nowhere)\n', 'methods.txt:8'), ('methods', '+void odd(void)\n', 'methods.txt:8'),
-                ('methods', '+void odd()  eats 0\n', 'methods.txt:8'), ('methods', '+void odd()  puts\n', 'methods.txt:8'),
-                ('methods', '+void odd()  puts 0\n', 'methods.txt:8'), ('methods', '+int odd()  same x\n', 'methods.txt:8'),
-                ('methods', '+int odd()  same 0 joined 0\n', 'methods.txt:8'), ('methods', 'void odd()\n', 'methods.txt:1'),
+                ('methods', '+void odd()  eats 0\n', 'methods.txt:8'),
+                ('methods', '+void odd()  puts\n', 'methods.txt:8'),
+                ('methods', '+void odd()  puts 0\n', 'methods.txt:8'),
+                ('methods', '+int odd()  same x\n', 'methods.txt:8'),
+                ('methods', '+int odd()  same 0 joined 0\n', 'methods.txt:8'),
+                ('methods', 'void odd()\n', 'methods.txt:1'),
                 ('methods', '+int odd()  same 0 source id -- it\n', 'methods.txt:8'),
                 ('methods', '+[a.Net\n', 'methods.txt:8'), ('callbacks', '+static void odd()\n', 'callbacks.txt:3'),
-                ('callbacks', '+void odd()  source 1\n', 'callbacks.txt:3'), ('statics', '[a.Net]\nString\n', 'statics.txt:2'),
+                ('callbacks', '+void odd()  source 1\n', 'callbacks.txt:3'),
+                ('statics', '[a.Net]\nString\n', 'statics.txt:2'),
                 ('statics', '[a.Net]\nNowhere ID\n', 'statics.txt:2'), ('head', '+rows many\n', 'head.txt:5'),
                 ('head', '+category id  again\n', 'head.txt:5')):
             self.assertIn(place, self.refused(**{table: text}), text)
@@ -234,7 +239,8 @@ class Reading(Case):
 
     def test_a_walk_upward_goes_through_each_parent_before_the_next(self) -> None:
         tables = self.tables(classes='[java.lang]\nclass Object = blank\n[a]\nclass One\nclass Two : One\nclass Three\n'
-                                     'class Four : Two Three\n', methods='', callbacks='', head='rows 1\ncategory id  it\n')
+                                     'class Four : Two Three\n', methods='',
+                             callbacks='', head='rows 1\ncategory id  it\n')
         self.assertEqual(tables.above('La/Four;'),
                          ['La/Four;', 'La/Two;', 'La/One;', 'Ljava/lang/Object;', 'La/Three;'])
 
@@ -325,7 +331,8 @@ class Writing(Case):
 
     def small(self) -> Tables:
         return self.tables(
-            head='rows 1000\nstrict\ncategory id  it\ncategory net  it\nshared kept a.Up\nplatform La/\nbundled La/b/\n',
+            head='rows 1000\nstrict\ncategory id  it\ncategory net  it\nshared kept a.Up\nplatform La/\n'
+                 'bundled La/b/\n',
             classes='[java.lang]\nclass Object = blank\n[a]\nclass Down : Up = mixed\nclass Up\n',
             methods='[a.Up]\nnew(long)  puts 1>0 stores 1>kept\nstatic Down id(int[])  source id -- permission X\n'
                     'Object go(Object)  same 0 copies 1>0 sink net 0,1 -- sends it\nUp one()  shared kept\n'
@@ -350,6 +357,7 @@ KEYS = {'class': {'name', 'parents', 'default'}, 'shared': {'name', 'class'},
         'method': {'class', 'name', 'proto', 'static', 'result', 'from', 'shared', 'puts', 'stores', 'copies', 'source',
                    'sink', 'positions', 'reflective'},
         'callback': {'class', 'name', 'proto', 'sources'}}
+DEVICE_KEYS = {'strict', 'platform', 'bundled', 'static'}
 
 
 class Android(unittest.TestCase):
@@ -384,7 +392,7 @@ class Android(unittest.TestCase):
     def test_the_form_keeps_to_its_limits(self) -> None:
         form = self.form
         self.assertLessEqual(len(self.text.encode()), 16_777_216)
-        self.assertEqual(set(form), {'rows', 'categories', *KEYS})
+        self.assertEqual(set(form), {'rows', 'categories', *KEYS, *(DEVICE_KEYS if READS_DEVICE_KEYS else ())})
         for array, keys in KEYS.items():
             self.assertLessEqual(len(form[array]), 65_536)
             for row in form[array]:
@@ -421,7 +429,8 @@ class Android(unittest.TestCase):
                 ('android.animation.ObjectAnimator', 'ofFloat',
                  f'({thing}{text}[F)Landroid/animation/ObjectAnimator;', True),
                 ('android.webkit.WebView', 'addJavascriptInterface', f'({thing}{text})V', False),
-                ('android.app.Fragment', 'instantiate', f'(Landroid/content/Context;{text})Landroid/app/Fragment;', True)):
+                ('android.app.Fragment', 'instantiate',
+                 f'(Landroid/content/Context;{text})Landroid/app/Fragment;', True)):
             self.assertTrue(self.effects(owner, name, proto, static).reflective, f'{owner}.{name}')
 
     def test_what_the_library_calls_has_a_callback_row(self) -> None:
@@ -470,8 +479,10 @@ NO_PERSONAL_DATA = {
     'LocationManager.getProviders', 'ConnectivityManager.startUsingNetworkFeature',
     'ConnectivityManager.stopUsingNetworkFeature', 'SmsManager.divideMessage',
     'SubscriptionManager.getActiveSubscriptionInfoCount'}
-GUARDS = {'READ_PHONE_STATE', 'ACCESS_FINE_LOCATION', 'ACCESS_COARSE_LOCATION', 'GET_ACCOUNTS', 'READ_SMS', 'RECEIVE_SMS',
-          'READ_CONTACTS', 'READ_CALL_LOG', 'USE_CREDENTIALS', 'AUTHENTICATE_ACCOUNTS', 'ACCESS_WIFI_STATE', 'BLUETOOTH',
+GUARDS = {'READ_PHONE_STATE', 'ACCESS_FINE_LOCATION', 'ACCESS_COARSE_LOCATION', 'GET_ACCOUNTS', 'READ_SMS',
+          'RECEIVE_SMS',
+          'READ_CONTACTS', 'READ_CALL_LOG', 'USE_CREDENTIALS', 'AUTHENTICATE_ACCOUNTS', 'ACCESS_WIFI_STATE',
+          'BLUETOOTH',
           'CAMERA', 'RECORD_AUDIO', 'GET_TASKS', 'READ_HISTORY_BOOKMARKS', 'LOCAL_MAC_ADDRESS'}
 # What androguard's tables name and no SDK has: an app cannot call it.
 HIDDEN = {'AccountManager', 'ActivityManager', 'BluetoothAdapter', 'BluetoothDevice', 'TelephonyManager', 'WifiManager',
@@ -530,8 +541,10 @@ class Command(unittest.TestCase):
         self.assertIn('there is no javap', err)
         self.assertEqual(tomllib.loads((made / 'android.toml').read_text())['categories'], ['id', 'net'])
 
+    @unittest.skipIf(READS_DEVICE_KEYS, 'the program reads these keys')
     def test_it_tells_what_the_form_cannot_carry_yet(self) -> None:
-        made = self.small(head='+strict\nplatform La/\n', statics='[a.Net]\nString ID\n', methods='+a.Box by()  handed\n')
+        made = self.small(head='+strict\nplatform La/\n', statics='[a.Net]\nString ID\n',
+                          methods='+a.Box by()  handed\n')
         err = self.run_tool('--tables', str(made), '-o', str(made / 'x.toml'))[2]
         for what in ('strict', '1 static fields', '1 results that were handed', 'prefixes'):
             self.assertIn(what, err)

@@ -56,7 +56,8 @@ def class_faults(tables: Tables) -> Iterator[Fault]:
     for name, entry in tables.classes.items():
         for parent in entry.parents:
             if parent not in tables.classes:
-                yield Fault('parents', entry.place, f'{dotted_of(parent)}, a parent of {dotted_of(name)}, is not listed')
+                yield Fault('parents', entry.place,
+                            f'{dotted_of(parent)}, a parent of {dotted_of(name)}, is not listed')
             elif name in tables.above(parent):
                 yield Fault('circle', entry.place, f'{dotted_of(name)} stands above itself')
         if len(tables.above(name)) > MOST_ABOVE:

@@ -70,7 +70,8 @@ def class_line(place: Place, package: str, line: str) -> tuple[str, Kind, list[s
         kind = Kind(words[0])
         chosen = Default(default.strip()) if equals else None
     except (ValueError, IndexError):
-        raise TableFault(place, 'a line is `interface|class|final|closed NAME [: PARENT ..] [= blank|joined|mixed]`') from None
+        raise TableFault(place, 'a line is `interface|class|final|closed NAME [: PARENT ..] '
+                                '[= blank|joined|mixed]`') from None
     if len(words) != 2 or '.' in words[1] or not package:
         raise TableFault(place, 'a class has one name, without its package, in the section of its package')
     return f'{package}.{words[1]}', kind, parents.split(), chosen

@@ -39,6 +39,7 @@ def upward(classes: dict[str, LibraryClass]) -> list[LibraryClass]:
 
 
 def class_lines(entry: LibraryClass) -> Iterator[str]:
+    """The lines of a class."""
     yield '[[class]]'
     yield f'name = {text(entry.name)}'
     if entry.parents:
@@ -60,6 +61,7 @@ def result_lines(effects: Effects, device_keys: bool) -> Iterator[str]:
 
 
 def method_lines(row: MethodRow, device_keys: bool) -> Iterator[str]:
+    """The lines of a row of a method, with its reason in front."""
     effects = row.effects
     if row.reason:
         yield f'# {row.reason}'
@@ -83,6 +85,7 @@ def method_lines(row: MethodRow, device_keys: bool) -> Iterator[str]:
 
 
 def callback_lines(row: CallbackRow) -> Iterator[str]:
+    """The lines of a row of a callback."""
     if row.reason:
         yield f'# {row.reason}'
     yield '[[callback]]'
@@ -94,6 +97,7 @@ def callback_lines(row: CallbackRow) -> Iterator[str]:
 
 
 def static_lines(row: StaticRow) -> Iterator[str]:
+    """The lines of a static field."""
     if row.reason:
         yield f'# {row.reason}'
     yield '[[static]]'
@@ -105,6 +109,7 @@ def static_lines(row: StaticRow) -> Iterator[str]:
 
 
 def head_lines(tables: Tables, device_keys: bool) -> Iterator[str]:
+    """The keys of the top table."""
     head = tables.head
     yield f'rows = {head.rows}'
     yield f'categories = {json.dumps(list(head.categories))}'
