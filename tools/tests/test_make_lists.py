@@ -111,6 +111,14 @@ class Lint(Case):
     def test_a_callback_of_a_closed_class(self) -> None:
         self.assertIn('a.Net', self.rules(callbacks='+[a.Net]\nvoid heard()\n')['closed'])
 
+    def test_a_callback_that_is_an_event_in_the_life_of_a_component(self) -> None:
+        classes = '+[android.app]\nclass Activity\nclass Application\n[b]\nclass Page : android.app.Activity\n'
+        for owner, method in (('android.app.Activity', 'void onStop()'), ('b.Page', 'void onDestroy()'),
+                              ('android.app.Application', 'void onCreate()')):
+            self.assertIn('callbacks.txt:4', self.rules(classes=classes, callbacks=f'+[{owner}]\n{method}\n')['life'])
+        self.assertEqual(self.rules(classes=classes, callbacks='+[android.app.Activity]\nvoid onStop(int)\n'
+                                                               '[android.app.Application]\nvoid onStop()\n'), {})
+
     def test_parents_that_are_not_listed(self) -> None:
         self.assertIn('b.Lost', self.rules(classes='+class Found : b.Lost\n')['parents'])
 
@@ -135,7 +143,7 @@ class Lint(Case):
     def test_names_that_are_not_listed(self) -> None:
         for table, text in (('methods', '+[b.Lost]\nvoid run()\n'), ('callbacks', '+[b.Lost]\nvoid run()\n'),
                             ('statics', '[b.Lost]\nString ID\n'), ('methods', '+void by(int)  sink mars 0 -- far\n'),
-                            ('methods', '+String by()  source mars -- it\n'), ('methods', '+Object by()  shared gone\n'),
+                            ('methods', '+String by()  source mars -- it\n'), ('methods', '+Object by()  shared no\n'),
                             ('methods', '+void by(int)  stores 1>gone\n'), ('head', '+shared lost b.Lost\n'),
                             ('callbacks', '+void told(String)  source 1 mars -- far\n')):
             self.assertIn('listed', self.rules(**{table: text}), text)

@@ -15,6 +15,16 @@ HEAD = Place('head.txt', 0)
 MADE = (Kind.CLASS, Kind.FINAL)
 OBJECT_METHODS = frozenset({('clone', ()), ('toString', ()), ('hashCode', ()), ('equals', (OBJECT,)),
                             ('getClass', ()), ('finalize', ())})
+# What the machine has as events of a component's life (docs/MACHINE.md), so that the library does not call it besides.
+# A receiver may also be made and handed over by the app, so its onReceive is a callback too.
+LIFE = {
+    'Landroid/app/Activity;': {'onCreate(Landroid/os/Bundle;)V', 'onStart()V', 'onResume()V', 'onPause()V',
+                               'onStop()V', 'onRestart()V', 'onDestroy()V'},
+    'Landroid/app/Service;': {'onCreate()V', 'onStartCommand(Landroid/content/Intent;II)I', 'onDestroy()V',
+                              'onBind(Landroid/content/Intent;)Landroid/os/IBinder;',
+                              'onUnbind(Landroid/content/Intent;)Z', 'onRebind(Landroid/content/Intent;)V'},
+    'Landroid/app/Application;': {'onCreate()V'},
+}
 Declared = Callable[[str], frozenset[tuple[str, tuple[str, ...]]]]
 
 
@@ -189,6 +199,15 @@ def callback_faults(tables: Tables) -> Iterator[Fault]:
             yield Fault('closed', call.place, f'{call}: no class of an app can stand below {dotted_of(call.owner)}')
 
 
+def life_faults(tables: Tables) -> Iterator[Fault]:
+    """Callback rows of what is an event in the life of a component."""
+    for call in tables.callbacks:
+        for owner in tables.above(call.owner):
+            if call.name + call.proto in LIFE.get(owner, ()):
+                yield Fault('life', call.place, f'{call} is an event in the life of a component, so it has its time '
+                                                'there: as a callback it would come at any')
+
+
 def nothing_more(_: str) -> frozenset[tuple[str, tuple[str, ...]]]:
     """Says of no class that it has other methods than the rows tell."""
     return frozenset()
@@ -197,5 +216,6 @@ def nothing_more(_: str) -> frozenset[tuple[str, tuple[str, ...]]]:
 def faults(tables: Tables, declared: Declared = nothing_more) -> list[Fault]:
     """All faults, in the order of the rules; walks upward are tried only where no class is above itself."""
     found = [*head_faults(tables), *class_faults(tables), *twice_faults(tables), *reason_faults(tables),
-             *name_faults(tables), *position_faults(tables), *constructor_faults(tables), *callback_faults(tables)]
+             *name_faults(tables), *position_faults(tables), *constructor_faults(tables), *callback_faults(tables),
+             *life_faults(tables)]
     return found + list(weaker_faults(tables, declared))

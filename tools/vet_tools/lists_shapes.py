@@ -5,7 +5,7 @@ from collections.abc import Iterator
 from pathlib import Path
 
 from vet_tools.lists_javap import Member, Shape, shapes
-from vet_tools.lists_lint import Declared, Fault
+from vet_tools.lists_lint import LIFE, Declared, Fault
 from vet_tools.lists_lookup import Lookup
 from vet_tools.lists_model import OBJECT, Default, Kind, Tables
 from vet_tools.lists_names import descriptor_of, dotted_of, parameters
@@ -91,7 +91,9 @@ def callback_faults(tables: Tables, known: dict[str, Shape]) -> Iterator[Fault]:
             continue
         above = tables.above(name)
         for method in shape.members:
-            if must_be_called(shape, method) and not any((it, method.name, method.proto) in called for it in above):
+            if not must_be_called(shape, method) or any(method.name + method.proto in LIFE.get(it, ()) for it in above):
+                continue
+            if not any((it, method.name, method.proto) in called for it in above):
                 yield Fault('callback', entry.place, f'an app may implement {shape.name}.{method.name}{method.proto}, '
                                                      'and it has no callback row')
 
