@@ -38,14 +38,26 @@ def arguments(words: list[str] | None) -> argparse.Namespace:
     return parser.parse_args(words)
 
 
+def say(text: str) -> None:
+    """Tells a person at a terminal what is being done; an empty text takes the line away."""
+    if sys.stderr.isatty():
+        sys.stderr.write(f'\r\x1b[K{text}')
+        sys.stderr.flush()
+
+
 def library_faults(tables: Tables, jar: Path | None) -> list[Fault]:
     """The faults that the tables alone show, and those that the JDK or a jar shows; without a JDK the former only."""
+    say('make-lists: reading class files')
     try:
         shapes = known_shapes(tables, jar)
     except NoJavap as missing:
+        say('')
         print(f'make-lists: the classes were held against no JDK: {missing}', file=sys.stderr)
         return lists_lint.faults(tables)
-    return lists_lint.faults(tables, declared_by(shapes)) + shape_faults(tables, shapes)
+    say('make-lists: looking for faults')
+    found = lists_lint.faults(tables, declared_by(shapes)) + shape_faults(tables, shapes)
+    say('')
+    return found
 
 
 def write_whole(path: Path, text: str) -> None:
