@@ -8,14 +8,14 @@ top=$(cd "$(dirname "$0")/../.." && pwd)
 work=$(mktemp -d)
 trap 'rm -rf "$work"' EXIT
 mkdir "$work/crates"
-for crate in vet_base app_machine dalvik_formats dex_reader dex_code insn_list; do
+for crate in vet_base app_machine dalvik_formats dex_tables dex_bodies dex_reader dex_code insn_list; do
     mkdir "$work/crates/$crate"
     for part in src specs proofs; do
         if [ -d "$top/crates/$crate/$part" ]; then cp -r "$top/crates/$crate/$part" "$work/crates/$crate/$part"; fi
     done
 done
 mkdir "$work/crates/insn_list/data"
-grep -E '^(vet_base|app_machine|dalvik_formats|dex_reader|dex_code|insn_list):' "$top/crates.txt" > "$work/crates.txt"
+grep -E '^(vet_base|app_machine|dalvik_formats|dex_tables|dex_bodies|dex_reader|dex_code|insn_list):' "$top/crates.txt" > "$work/crates.txt"
 number=0
 for file in "$@"; do
     number=$((number + 1))

@@ -6,7 +6,7 @@ use Rattle.std.specs.declared.cmp.Ordering.TheVariants.{Less, Equal, Greater}
 use Rattle.std.proofs.lemmas.List.{take_more}
 use Rattle.app_machine.specs.declared.app.App.{App}
 use Rattle.app_machine.specs.declared.lists.Lists.{Lists}
-use Rattle.cert_checker.specs.Defects.{LacksStart as LacksStartBy, LacksConsequence}
+use Rattle.cert_checker.specs.Defects.{LacksConsequence, IsDefect}
 use Rattle.cert_checker.specs.Least.{FollowsFrom, IsLeastFailing}
 use Rattle.fact_rows.specs.declared.row.Row.{Row}
 use Rattle.fact_rows.specs.InApp.{InApp}
@@ -19,7 +19,9 @@ use Rattle.vet_base.specs.Members.{In}
 use Rattle.vet_base.proofs.Members.{in_front, in_back, in_either}
 use Rattle.vet_base.proofs.Orders.{turned}
 use Rattle.cert_checker.specs.declared.defect.TableDefect.{TableDefect}
-use Rattle.cert_checker.specs.declared.defect.TableDefect.TheVariants.{Stranger, NoStart, NotClosed}
+use Rattle.cert_checker.specs.declared.defect.RowDefect.{RowDefect}
+use Rattle.cert_checker.specs.declared.defect.RowDefect.TheVariants.{Stranger, NoStart}
+use Rattle.cert_checker.specs.declared.defect.TableDefect.TheVariants.{At, NotClosed}
 use Rattle.app_flow.specs.Defect.{SameRows, LacksStart, IsNotClosed, IsChecked, OneDefect}
 use Rattle.app_flow.proofs.Accepting.{each_there}
 
@@ -45,31 +47,29 @@ module _ (app : App) (lists : Lists) (rows : List Row) where
 
   one_of : RowOrder → (one other : Option (TableDefect Row)) → IsChecked app lists rows one → IsChecked app lists rows other → one ≡ other
   one_of order None None a b = refl
-  one_of order None (Some (Stranger x)) a b = absurd (all_there x b a.in_app)
-  one_of order None (Some (NoStart x)) a b = absurd (all_started x b a.starts)
+  one_of order None (Some (At Stranger x)) a b = absurd (all_there x b a.in_app)
+  one_of order None (Some (At NoStart x)) a b = absurd (all_started x b a.starts)
   one_of order None (Some (NotClosed x)) a b = absurd (all_closed x b a)
-  one_of order (Some (Stranger x)) None a b = absurd (all_there x a b.in_app)
-  one_of order (Some (Stranger x)) (Some (Stranger y)) a b = ap (λ r. Some (Stranger r)) (same_least order (Among rows) (InApp app lists) x y a b)
-  one_of order (Some (Stranger x)) (Some (NoStart y)) a b = absurd (all_there x a b.in_app)
-  one_of order (Some (Stranger x)) (Some (NotClosed y)) a b = absurd (all_there x a b.in_app)
-  one_of order (Some (NoStart x)) None a b = absurd (all_started x a b.starts)
-  one_of order (Some (NoStart x)) (Some (Stranger y)) a b = absurd (all_there y b a.in_app)
-  one_of order (Some (NoStart x)) (Some (NoStart y)) a b = ap (λ r. Some (NoStart r)) (same_least order (Starts app) (Among rows) x y a.lacks b.lacks)
-  one_of order (Some (NoStart x)) (Some (NotClosed y)) a b = absurd (all_started x a b.starts)
+  one_of order (Some (At Stranger x)) None a b = absurd (all_there x a b.in_app)
+  one_of order (Some (At Stranger x)) (Some (At Stranger y)) a b = ap (λ r. Some (At Stranger r)) (same_least order (Among rows) (InApp app lists) x y a b)
+  one_of order (Some (At Stranger x)) (Some (At NoStart y)) a b = absurd (all_there x a b.in_app)
+  one_of order (Some (At Stranger x)) (Some (NotClosed y)) a b = absurd (all_there x a b.in_app)
+  one_of order (Some (At NoStart x)) None a b = absurd (all_started x a b.starts)
+  one_of order (Some (At NoStart x)) (Some (At Stranger y)) a b = absurd (all_there y b a.in_app)
+  one_of order (Some (At NoStart x)) (Some (At NoStart y)) a b = ap (λ r. Some (At NoStart r)) (same_least order (Starts app) (Among rows) x y a.lacks b.lacks)
+  one_of order (Some (At NoStart x)) (Some (NotClosed y)) a b = absurd (all_started x a b.starts)
   one_of order (Some (NotClosed x)) None a b = absurd (all_closed x a b)
-  one_of order (Some (NotClosed x)) (Some (Stranger y)) a b = absurd (all_there y b a.in_app)
-  one_of order (Some (NotClosed x)) (Some (NoStart y)) a b = absurd (all_started y b a.starts)
+  one_of order (Some (NotClosed x)) (Some (At Stranger y)) a b = absurd (all_there y b a.in_app)
+  one_of order (Some (NotClosed x)) (Some (At NoStart y)) a b = absurd (all_started y b a.starts)
   one_of order (Some (NotClosed x)) (Some (NotClosed y)) a b = ap (λ r. Some (NotClosed r)) (same_least order (FollowsFrom (Follows app lists) rows) (Among rows) x y a.lacks b.lacks)
 
 pub one_defect : RowOrder → OneDefect
 one_defect order app lists rows one other a b = one_of app lists rows order one other a b
 
 -- what the checker says of an app's rows
-pub stranger_is : (app : App) (lists : Lists) (rows : List Row) (row : Row) → IsLeastFailing (Among rows) (InApp app lists) row → IsChecked app lists rows (Some (Stranger row))
-stranger_is app lists rows row strange = strange
-
-pub start_is : (app : App) (lists : Lists) (rows : List Row) (row : Row) → LacksStartBy (Starts app) (InApp app lists) rows row → IsChecked app lists rows (Some (NoStart row))
-start_is app lists rows row lacking = record { in_app = lacking.in_app; lacks = lacking.lacks }
+pub at_is : (app : App) (lists : Lists) (rows : List Row) (what : RowDefect) (row : Row) → IsDefect (Follows app lists) (Starts app) (InApp app lists) rows (At what row) → IsChecked app lists rows (Some (At what row))
+at_is app lists rows Stranger row strange = strange
+at_is app lists rows NoStart row lacking = record { in_app = lacking.in_app; lacks = lacking.lacks }
 
 pub consequence_is : (app : App) (lists : Lists) (rows : List Row) (c : Conclusion) → LacksConsequence (Follows app lists) (Starts app) (InApp app lists) rows c → IsChecked app lists rows (Some (NotClosed c.row))
 consequence_is app lists rows c lacking = record { in_app = lacking.in_app; starts = lacking.starts; lacks = lacking.lacks.least }
@@ -121,12 +121,12 @@ module _ (app : App) (lists : Lists) (rows others : List Row) (same : SameRows r
     starts = λ x start. (same x).0 (good.starts x start);
     closed = λ rule premises x follows known. (same x).0 (good.closed rule premises x follows (each_other premises known));
   }
-  moved_checked (Some (Stranger row)) strange = record {
+  moved_checked (Some (At Stranger row)) strange = record {
     due = (same row).0 strange.due;
     fails = strange.fails;
     least = λ x there. strange.least x ((same x).1 there);
   }
-  moved_checked (Some (NoStart row)) lacking = record {
+  moved_checked (Some (At NoStart row)) lacking = record {
     in_app = λ x there. lacking.in_app x ((same x).1 there);
     lacks = record {
       due = lacking.lacks.due;

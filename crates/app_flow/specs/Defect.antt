@@ -9,7 +9,8 @@ use Rattle.flow_rules.specs.Rules.{Follows, Starts, GoodTable}
 use Rattle.rule_ground.specs.Hits.{Among}
 use Rattle.vet_base.specs.Members.{In}
 use Rattle.cert_checker.specs.declared.defect.TableDefect.{TableDefect}
-use Rattle.cert_checker.specs.declared.defect.TableDefect.TheVariants.{Stranger, NoStart, NotClosed}
+use Rattle.cert_checker.specs.declared.defect.RowDefect.TheVariants.{Stranger, NoStart}
+use Rattle.cert_checker.specs.declared.defect.TableDefect.TheVariants.{At, NotClosed}
 
 -- the same rows, in whatever order and however often each
 abbrev pub SameRows : List Row → List Row → Type 0
@@ -28,8 +29,8 @@ pub record IsNotClosed (app : App) (lists : Lists) (rows : List Row) (row : Row)
 
 -- the first of the three that holds, with the least row of which it does
 abbrev pub IsTableDefect : App → Lists → List Row → TableDefect Row → Type 0
-IsTableDefect app lists rows (Stranger row) = IsLeastFailing (Among rows) (InApp app lists) row
-IsTableDefect app lists rows (NoStart row) = LacksStart app lists rows row
+IsTableDefect app lists rows (At Stranger row) = IsLeastFailing (Among rows) (InApp app lists) row
+IsTableDefect app lists rows (At NoStart row) = LacksStart app lists rows row
 IsTableDefect app lists rows (NotClosed row) = IsNotClosed app lists rows row
 
 -- the rows are a good table, or have the defect

@@ -7,7 +7,7 @@ ghost use Rattle.app_flow.specs.Flow.{OneFlow};
 mod defect;
 mod flow;
 
-pub use cert_checker::TableDefect;
+pub use cert_checker::{RowDefect, TableDefect};
 pub use defect::defect_of;
 use fact_rows::rows_stand_in_order;
 pub use flow::{Flow, flow_of};

@@ -3,7 +3,7 @@ use Rattle.std.proofs.Common.{◌≡◌, ◌≢◌, ◌⊎◌, inl, inr, ℕ, mi
 use Rattle.vet_base.specs.declared.stop.Stop.{Stop}
 use Rattle.vet_base.specs.declared.stop.Stop.TheVariants as stops
 use Rattle.vet_base.specs.Script.{Script, run, Fails}
-use Rattle.dex_reader.specs.declared.dex.Dex.{Dex}
+use Rattle.dex_tables.specs.declared.dex.Dex.{Dex}
 use Rattle.app_machine.specs.declared.papers.Manifest.{Manifest}
 use Rattle.app_machine.specs.declared.papers.Layouts.{Layouts}
 use Rattle.app_link.specs.declared.linking.LinkFault.{LinkFault}

@@ -1,7 +1,7 @@
 -- An app that was put together from its parts is the app of the files.
 use Rattle.std.proofs.Common.{◌≡◌, ℕ, min, Ok, List, [], map, length, sym, ◌∙◌, ap, subst}
 use Rattle.vet_base.specs.Script.{Script, run}
-use Rattle.dex_reader.specs.declared.dex.Dex.{Dex}
+use Rattle.dex_tables.specs.declared.dex.Dex.{Dex}
 use Rattle.dex_code.specs.CodeLaws.{CodeLaws}
 use Rattle.app_machine.specs.declared.app.App.{App}
 use Rattle.app_machine.specs.declared.app.Class.{Class}

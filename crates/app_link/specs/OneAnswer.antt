@@ -1,6 +1,6 @@
 -- Files are one app, or they have one first fault.
 use Rattle.std.specs.Prelude.{◌≡◌, List}
-use Rattle.dex_reader.specs.declared.dex.Dex.{Dex}
+use Rattle.dex_tables.specs.declared.dex.Dex.{Dex}
 use Rattle.app_machine.specs.declared.app.App.{App}
 use Rattle.app_machine.specs.declared.papers.Manifest.{Manifest}
 use Rattle.app_machine.specs.declared.papers.Layouts.{Layouts}

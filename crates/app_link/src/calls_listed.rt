@@ -1,7 +1,7 @@
 //! How many registers and parameters calls may list. Past that bound the link is out of memory, before it lists them.
 
 use dex_code::{Insn, Naming};
-use dex_reader::Dex;
+use dex_tables::Dex;
 use link_code::Coded;
 use link_listing::{parameter_count, spend};
 use vet_base::Memory;

@@ -2,7 +2,7 @@
 
 use app_model::Class;
 use dex_code::{Insn, Naming};
-use dex_reader::Dex;
+use dex_tables::Dex;
 use link_code::Coded;
 use link_hierarchy::order_of;
 use link_listing::{Classes, name_cost, spend, type_at};

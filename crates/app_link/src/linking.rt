@@ -15,7 +15,7 @@ use crate::climbs::check_climbs;
 use crate::frame::{Papers, frame_of};
 use app_model::{App, Layouts, Manifest, MethodRef};
 use dex_code::{CodeFault, code_laws};
-use dex_reader::Dex;
+use dex_tables::Dex;
 use link_code::{codes_of, finished};
 use link_hierarchy::outers_of;
 use link_listing::{Fault, Halt, Limit, Parts, gather};

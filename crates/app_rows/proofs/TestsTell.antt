@@ -1,10 +1,9 @@
 -- The tests answer true of what is in the app alone.
-use Rattle.std.proofs.Common.{◌≡◌, ◌↔◌, ◌⊎◌, ℕ, zero, suc, ◌+◌, ◌-◌, ◌<◌, ◌≤◌, Bool, true, false, ◌&&◌, ◌||◌, ◌==◌, IsTrue, nat_lt, List, [], ◌∷◌, length, map, Option, Some, None, is_some, slice_get, refl, sym, ap, subst, ◌∙◌, inl, inr, arith}
+use Rattle.std.proofs.Common.{◌≡◌, ◌↔◌, ℕ, zero, suc, ◌+◌, ◌-◌, ◌<◌, Bool, true, false, ◌&&◌, ◌||◌, ◌==◌, IsTrue, nat_lt, List, [], ◌∷◌, length, map, Option, Some, None, is_some, slice_get, refl, sym, ap, subst, ◌∙◌, inl, inr, arith}
 use Rattle.std.specs.List.{list_any, list_all}
 use Rattle.std.proofs.lemmas.Bool.{and_parts, and_from, or_cases, or_left, or_right, eqb-true, eq-eqb, ltb-true, ltb-false, lt-ltb}
 use Rattle.std.proofs.lemmas.Option.{none-some, same_Some}
-use Rattle.vet_base.specs.declared.key_id.KeyId.{KeyId}
-use Rattle.vet_base.specs.Members.{In, IsAt}
+use Rattle.vet_base.specs.Members.{In}
 use Rattle.vet_base.proofs.Members.{in_map, from_map, passes_if, one_passes, list_all_in}
 use Rattle.vet_base.proofs.Options.{some_of}
 use Rattle.access_path.specs.declared.path.Path.{Path}
@@ -21,10 +20,10 @@ use Rattle.app_machine.specs.declared.lists.SummaryId.{SummaryId}
 use Rattle.app_machine.specs.declared.lists.SummaryId.TheVariants as summaries
 use Rattle.app_machine.specs.declared.app.App.{App}
 use Rattle.app_machine.specs.Names.{Name, is_reference}
-use Rattle.app_machine.specs.Lookups.{ActAt, step_at, body_named}
+use Rattle.app_machine.specs.Lookups.{ActAt, step_at}
 use Rattle.app_machine.specs.State.{result_register, exception_register}
 use Rattle.app_machine.specs.LifeEvents.{LifeEvent, life_events}
-use Rattle.app_machine.specs.Events.{LifeEventAt, CallbackAt, ClickAt, life_body, callback_body, click_body, parameter_type}
+use Rattle.app_machine.specs.Events.{LifeEventAt, CallbackAt, life_body, callback_body, click_body, parameter_type}
 use Rattle.app_model.specs.EventBodies.{component_callback, life_event}
 use Rattle.app_model.specs.EventLaws.{EventsAreExact}
 use Rattle.app_model.specs.Initialisers.{component_initialisers}
@@ -37,8 +36,8 @@ use Rattle.fact_rows.specs.declared.site.Site.TheVariants.{At, Param, Component 
 use Rattle.fact_rows.specs.declared.field.Field.{Field}
 use Rattle.fact_rows.specs.declared.field.Field.TheVariants as field
 use Rattle.fact_rows.specs.Contexts.{IsEvent, event_types, types_of, body_at}
-use Rattle.fact_rows.specs.InApp.{EntersAt, at_call, at_new, at_get, at_put, CtxIn, ActivationIn, PlaceIn, at_step, of_native, NodeIn, RegisterIn, of_method, is_result, is_exception, MakesAt, by_new, by_fill, by_call, ParameterIn, SiteIn, PathIn, StaticIn, StateIn, SummaryIn, FieldIn, FieldsIn}
-use Rattle.app_rows.specs.Tests.{step_tells, enters, makes, life_run, callback_run, body_run, is_some_there, is_ctx_in, is_activation_in, is_native_one, is_place_in, is_node_in, has_register, is_register_in, types_run, is_reference_one, is_parameter_in, is_site_in, is_key_in, is_path_in, is_static_in, is_state_of, has_fallback, is_summary_in, is_field_in, are_fields_in}
+use Rattle.fact_rows.specs.InApp.{EntersAt, at_call, at_new, at_get, at_put, CtxIn, ActivationIn, PlaceIn, at_step, of_native, NodeIn, RegisterIn, of_method, is_result, is_exception, MakesAt, by_new, by_fill, by_call, ParameterIn, SiteIn, PathIn, StateIn, SummaryIn, FieldIn, FieldsIn}
+use Rattle.app_rows.specs.Tests.{step_tells, enters, makes, life_run, callback_run, body_run, is_some_there, is_ctx_in, is_activation_in, is_native_one, is_place_in, is_node_in, has_register, is_register_in, types_run, is_reference_one, is_parameter_in, is_site_in, is_key_in, is_path_in, is_state_of, has_fallback, is_summary_in, is_field_in, are_fields_in}
 
 all_pass : {A : Type 0} (test : A → Bool) (xs : List A) → ((x : A) → In x xs → test x ≡ true) → list_all test xs ≡ true
 all_pass test [] each = refl

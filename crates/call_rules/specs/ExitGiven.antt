@@ -8,28 +8,27 @@ use Rattle.fact_rows.specs.declared.context.Node.{Node}
 use Rattle.fact_rows.specs.declared.row.Row.{Row}
 use Rattle.fact_rows.specs.declared.row.Row.TheVariants.{CalledBy, ExitPoints, ExitTaint}
 use Rattle.flow_rules.specs.LocalRules.{returning, throwing}
-use Rattle.rule_ground.specs.declared.conclusion.Premises.TheVariants.{Two}
 use Rattle.rule_ground.specs.declared.conclusion.Conclusion.{Conclusion}
 use Rattle.rule_ground.specs.declared.content.Content.{Content}
 use Rattle.rule_ground.specs.declared.content.Content.TheVariants.{Object, Label}
 use Rattle.rule_ground.specs.declared.key.Key.{Key}
 use Rattle.rule_ground.specs.declared.key.Key.TheVariants.{ExitPointsOf, ExitTaintsOf}
-use Rattle.rule_ground.specs.Given.{concludes, leaves, at_each}
+use Rattle.rule_ground.specs.Given.{of_two, concludes, leaves, at_each}
 use Rattle.call_targets.specs.EnterGiven.{step_here}
 
 -- 25. Behind the step that called.
 abbrev pub returned_on : Option Step → Activation → Content → Node → List Conclusion
 returned_on None b v n = []
-returned_on (Some step) b v n = at_each 25 (Two (leaves v b returning) (CalledBy b n)) v n result_register step.next
+returned_on (Some step) b v n = at_each 25 (of_two (leaves v b returning) (CalledBy b n)) v n result_register step.next
 
 -- 26. At its handlers.
 abbrev pub caught_on : Option Step → Activation → Content → Node → List Conclusion
 caught_on None b v n = []
-caught_on (Some step) b v n = at_each 26 (Two (leaves v b throwing) (CalledBy b n)) v n exception_register step.catches
+caught_on (Some step) b v n = at_each 26 (of_two (leaves v b throwing) (CalledBy b n)) v n exception_register step.catches
 
 abbrev pub thrown : App → Activation → Content → Node → List Conclusion
 thrown app b v n =
-    concludes 26 (Two (leaves v b throwing) (CalledBy b n)) (leaves v n.by throwing)
+    concludes 26 (of_two (leaves v b throwing) (CalledBy b n)) (leaves v n.by throwing)
     ∷ caught_on (step_here app n) b v n
 
 abbrev pub left : App → Activation → ℕ → Content → Node → List Conclusion

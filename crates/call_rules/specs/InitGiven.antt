@@ -9,11 +9,10 @@ use Rattle.fact_rows.specs.declared.site.Site.{Site}
 use Rattle.fact_rows.specs.declared.row.Row.{Row}
 use Rattle.fact_rows.specs.declared.row.Row.TheVariants.{Points, Taint, CalledBy, MethodEffect}
 use Rattle.flow_rules.specs.Nodes.{callee}
-use Rattle.rule_ground.specs.declared.conclusion.Premises.TheVariants.{Three}
 use Rattle.rule_ground.specs.declared.conclusion.Conclusion.{Conclusion}
 use Rattle.rule_ground.specs.declared.key.Key.{Key}
 use Rattle.rule_ground.specs.declared.key.Key.TheVariants.{PointsOn, CallersOf, CallerAt, MethodEffectsOf, MethodEffectsBy}
-use Rattle.rule_ground.specs.Given.{concludes}
+use Rattle.rule_ground.specs.Given.{of_three, concludes}
 use Rattle.call_targets.specs.EnterGiven.{step_here}
 use Rattle.call_rules.specs.PassGiven.{is_initialised}
 
@@ -22,7 +21,7 @@ is_initialised_at app n b None = false
 is_initialised_at app n b (Some step) = is_initialised app n step.act b
 
 abbrev pub tainted : Activation → Node → ℕ → Site → Path → ℕ → Conclusion
-tainted b n z s p l = concludes 29 (Three (MethodEffect b s p l) (CalledBy b n) (Points n z s)) (Taint n z p l)
+tainted b n z s p l = concludes 29 (of_three (MethodEffect b s p l) (CalledBy b n) (Points n z s)) (Taint n z p l)
 
 -- From the effect and the call: to the registers that hold an object of the site.
 abbrev pub register_gets : Activation → Node → Site → Path → ℕ → Row → List Conclusion

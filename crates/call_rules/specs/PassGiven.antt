@@ -13,13 +13,12 @@ use Rattle.fact_rows.specs.declared.row.Row.{Row}
 use Rattle.fact_rows.specs.declared.row.Row.TheVariants.{Points, Taint, Calls}
 use Rattle.fact_rows.specs.contracts.context.ActivationPartialEq.TheImpl.{ghosts as activation_eq}
 use Rattle.flow_rules.specs.Nodes.{entry, callee}
-use Rattle.rule_ground.specs.declared.conclusion.Premises.TheVariants.{Two}
 use Rattle.rule_ground.specs.declared.conclusion.Conclusion.{Conclusion}
 use Rattle.rule_ground.specs.declared.content.Content.{Content}
 use Rattle.rule_ground.specs.declared.content.Content.TheVariants.{Object, Label}
 use Rattle.rule_ground.specs.declared.key.Key.{Key}
 use Rattle.rule_ground.specs.declared.key.Key.TheVariants.{PointsAt, TaintsAt, CallsAt}
-use Rattle.rule_ground.specs.Given.{concludes, held}
+use Rattle.rule_ground.specs.Given.{of_two, concludes, held}
 use Rattle.rule_ground.specs.Below.{for_below}
 use Rattle.call_targets.specs.EnterGiven.{argument_register, passed_to, is_register}
 
@@ -37,7 +36,7 @@ is_passed kind i (Label p l) = true
 
 -- what the register x holds comes to the register z
 abbrev pub passed : Node → Activation → ℕ → ℕ → Content → Conclusion
-passed n b x z v = concludes 24 (Two (Calls n b) (held v n x)) (held v (entry b) z)
+passed n b x z v = concludes 24 (of_two (Calls n b) (held v n x)) (held v (entry b) z)
 
 abbrev pub argument_gets : Node → Activation → ℕ → ℕ → Row → List Conclusion
 argument_gets n b x z (Points m y s) = passed n b x z (Object s) ∷ []
@@ -68,7 +67,7 @@ calls_on app hits n b (Some step) = call_passes app hits n b step.act
 abbrev pub passed_at : App → Node → Activation → CallKind → List ℕ → ℕ → Content → ℕ → List Conclusion
 passed_at app n b kind args x v i =
     cond (is_register (slice_get args i) x && is_passed kind i v)
-    (passed_to 24 (Two (Calls n b) (held v n x)) v b (argument_register app b.method i)) []
+    (passed_to 24 (of_two (Calls n b) (held v n x)) v b (argument_register app b.method i)) []
 
 abbrev pub callee_gets : App → Node → Act → CallKind → List ℕ → ℕ → Content → Row → List Conclusion
 callee_gets app n a kind args x v (Calls m b) =

@@ -46,7 +46,7 @@ impl Argument {
     {
         out.put(Conclusion {
             rule: 24,
-            premises: Premises::Two(
+            premises: Premises::of_two(
                 Row::Calls(self.node, self.by),
                 content.held(self.node, self.register),
             ),

@@ -43,7 +43,7 @@ fn pass_at<S: Sink>(
     if is_argument(call.args, index, register) && is_passed(call.kind, index, content) {
         pass_to(
             24,
-            Premises::Two(
+            Premises::of_two(
                 Row::Calls(call.node, call.by),
                 content.held(call.node, register),
             ),

@@ -27,7 +27,7 @@ fn hand_back<S: Sink>(
         Some(step) => {
             let inference = Inference {
                 rule: 25,
-                premises: Premises::Two(content.leaves(by, RETURNING), Row::CalledBy(by, node)),
+                premises: Premises::of_two(content.leaves(by, RETURNING), Row::CalledBy(by, node)),
             };
             put_each(inference, content, node, RESULT, step.next.as_slice(), out)
         }
@@ -49,7 +49,7 @@ fn catch<S: Sink>(
         Some(step) => {
             let inference = Inference {
                 rule: 26,
-                premises: Premises::Two(content.leaves(by, THROWING), Row::CalledBy(by, node)),
+                premises: Premises::of_two(content.leaves(by, THROWING), Row::CalledBy(by, node)),
             };
             put_each(
                 inference,
@@ -76,7 +76,7 @@ fn throw<S: Sink>(
 {
     out.put(Conclusion {
         rule: 26,
-        premises: Premises::Two(content.leaves(by, THROWING), Row::CalledBy(by, node)),
+        premises: Premises::of_two(content.leaves(by, THROWING), Row::CalledBy(by, node)),
         row: content.leaves(node.by, THROWING),
     })?;
     catch(

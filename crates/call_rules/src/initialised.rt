@@ -57,7 +57,7 @@ impl Effect {
     {
         Conclusion {
             rule: 29,
-            premises: Premises::Three(
+            premises: Premises::of_three(
                 Row::MethodEffect(self.by, self.site, self.path, self.label),
                 Row::CalledBy(self.by, node),
                 Row::Points(node, register, self.site),

@@ -21,11 +21,10 @@ use Rattle.fact_rows.specs.declared.row.Row.TheVariants.{Reached, Points, Calls,
 use Rattle.flow_rules.specs.Nodes.{entry, callee}
 use Rattle.flow_rules.specs.Sites.{site_class}
 use Rattle.rule_ground.specs.declared.conclusion.Premises.{Premises}
-use Rattle.rule_ground.specs.declared.conclusion.Premises.TheVariants.{One}
 use Rattle.rule_ground.specs.declared.conclusion.Conclusion.{Conclusion}
 use Rattle.rule_ground.specs.declared.content.Content.{Content}
 use Rattle.rule_ground.specs.declared.content.Content.TheVariants.{Object}
-use Rattle.rule_ground.specs.Given.{concludes, held}
+use Rattle.rule_ground.specs.Given.{of_one, concludes, held}
 
 -- the step at a node
 abbrev pub step_here : App → Node → Option Step
@@ -76,8 +75,8 @@ looks_up app lists premises n kind at class =
 
 -- 22, 27. To what a call comes by its name.
 abbrev pub named_to : App → Lists → Node → CallKind → MethodRef → Target → List Conclusion
-named_to app lists n kind at (Body body) = cond (is_by_receiver kind) [] (enters app 22 (One (Reached n)) n body)
-named_to app lists n kind at (Library class) = looks_up app lists (One (Reached n)) n kind at class
+named_to app lists n kind at (Body body) = cond (is_by_receiver kind) [] (enters app 22 (of_one (Reached n)) n body)
+named_to app lists n kind at (Library class) = looks_up app lists (of_one (Reached n)) n kind at class
 named_to app lists n kind at Nothing = []
 
 abbrev pub named : App → Lists → Node → Act → List Conclusion
@@ -86,7 +85,7 @@ named app lists n _ = []
 
 -- 28.
 abbrev pub initialises : App → Node → List ℕ → List Conclusion
-initialises app n bodies = flat_map (λ body. enters app 28 (One (Reached n)) n body) bodies
+initialises app n bodies = flat_map (λ body. enters app 28 (of_one (Reached n)) n body) bodies
 
 abbrev pub reached_on : App → Lists → Node → Option Step → List Conclusion
 reached_on app lists n None = []
@@ -95,9 +94,9 @@ reached_on app lists n (Some step) = named app lists n step.act ++ initialises a
 -- 23, 27. To what a call comes by the class of an object that its receiver may be.
 abbrev pub class_to : App → Lists → Node → ℕ → Site → CallKind → MethodRef → Target → List Conclusion
 class_to app lists n x s kind at (Body body) =
-    enters app 23 (One (Points n x s)) n body
-    ++ passed_to 23 (One (Points n x s)) (Object s) (callee n body) (argument_register app body 0)
-class_to app lists n x s kind at (Library above) = looks_up app lists (One (Points n x s)) n kind at above
+    enters app 23 (of_one (Points n x s)) n body
+    ++ passed_to 23 (of_one (Points n x s)) (Object s) (callee n body) (argument_register app body 0)
+class_to app lists n x s kind at (Library above) = looks_up app lists (of_one (Points n x s)) n kind at above
 class_to app lists n x s kind at Nothing = []
 
 abbrev pub class_on : App → Lists → Node → ℕ → Site → CallKind → MethodRef → Option Name → List Conclusion

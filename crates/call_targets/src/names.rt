@@ -21,7 +21,7 @@ fn come_by_name<S: Sink>(call: &Call<'_>, to: Target, out: &mut S) -> Result<(),
     ensures { OnOk result (out.new ≡ fold S.then out.old (named_to call.now.app.now call.now.lists.now call.now.node
         call.now.kind call.now.at.now (shown_target to.entry))) }
 {
-    let premises = Premises::One(Row::Reached(call.node));
+    let premises = Premises::of_one(Row::Reached(call.node));
     match to {
         Target::Body(body) => {
             if is_by_receiver(call.kind) {
@@ -71,7 +71,14 @@ fn initialise<S: Sink>(app: &App, node: Node, act: &Act, out: &mut S) -> Result<
 {
     let mut walk = act_initialisers(app, act);
     while let Some((body, rest)) = next_initialiser(app, walk) {
-        enter(app, 28, Premises::One(Row::Reached(node)), node, body, out)?;
+        enter(
+            app,
+            28,
+            Premises::of_one(Row::Reached(node)),
+            node,
+            body,
+            out,
+        )?;
         walk = rest;
     }
     Ok(())

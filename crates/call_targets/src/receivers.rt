@@ -46,7 +46,7 @@ fn come_by_class<S: Sink>(
     ensures { OnOk result (out.new ≡ fold S.then out.old (class_to call.now.app.now call.now.lists.now call.now.node
         receiver.register receiver.site call.now.kind call.now.at.now (shown_target to.entry))) }
 {
-    let premises = Premises::One(Row::Points(call.node, receiver.register, receiver.site));
+    let premises = Premises::of_one(Row::Points(call.node, receiver.register, receiver.site));
     match to {
         Target::Body(body) => {
             enter(call.app, 23, premises, call.node, body, out)?;

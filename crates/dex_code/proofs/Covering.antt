@@ -3,7 +3,7 @@ use Rattle.std.proofs.Common.{◌≡◌, ℕ, ◌+◌, ◌<◌, ◌≤◌, true,
 use Rattle.std.proofs.lemmas.List.{append-nil, map-append, take-map, take_more}
 use Rattle.std.specs.Borrow.{Bor}
 use Rattle.std.proofs.lemmas.Bool.Decides.{nat_tests}
-use Rattle.dex_reader.specs.declared.dex.RawTry.{RawTry}
+use Rattle.dex_tables.specs.declared.dex.RawTry.{RawTry}
 use Rattle.dex_code.specs.Next.{addresses, covered, covering, covers, in_order}
 use Rattle.dex_code.specs.Handlers.{catches_beside, IsParted}
 use Rattle.dex_code.proofs.Ordered.{in_order-in_order, in_order_swapped, in_order-before, in_order-behind}

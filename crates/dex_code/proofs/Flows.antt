@@ -6,7 +6,7 @@ use Rattle.vet_base.specs.declared.stop.Stop.TheVariants as stops
 use Rattle.vet_base.specs.Script.{run, Fails}
 use Rattle.vet_base.proofs.Lists.{drop_read}
 use Rattle.vet_base.proofs.Scripts.{run_bind}
-use Rattle.dex_reader.specs.declared.dex.RawTry.{RawTry}
+use Rattle.dex_tables.specs.declared.dex.RawTry.{RawTry}
 use Rattle.dex_code.specs.declared.fault.CodeFault.{CodeFault}
 use Rattle.dex_code.specs.declared.fault.CodeFault.TheVariants.{Tries}
 use Rattle.dex_code.specs.Lines.{Line}

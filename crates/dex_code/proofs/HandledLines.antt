@@ -7,7 +7,7 @@ use Rattle.std.proofs.lemmas.Bool.Decides.{nat_tests}
 use Rattle.std.proofs.lemmas.List.{length-append}
 use Rattle.std.proofs.lemmas.List.Sorted.{IsNonDecreasingBy-from_default}
 use Rattle.std.proofs.lemmas.List.Sums.{sum_by-cons}
-use Rattle.dex_reader.specs.declared.dex.RawTry.{RawTry}
+use Rattle.dex_tables.specs.declared.dex.RawTry.{RawTry}
 use Rattle.dex_code.specs.Find.{Ascend}
 use Rattle.dex_code.specs.Handled.{catches_listed, handled_by, handled_by_all}
 use Rattle.dex_code.specs.Lines.{Line}

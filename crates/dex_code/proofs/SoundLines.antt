@@ -1,7 +1,7 @@
 -- The lines of a method's code can be lifted to steps.
 use Rattle.std.proofs.Common.{◌≡◌, ℕ, ◌+◌, ◌<◌, ◌≤◌, Bool, true, false, cond, ◌&&◌, ◌||◌, List, [], ◌∷◌, ◌++◌, length, slice_index, nat_lt, nat_le, IsTrue, refl, sym, subst, arith, inl, inr}
 use Rattle.std.proofs.lemmas.Bool.Decides.{nat_tests}
-use Rattle.dex_reader.specs.declared.dex.RawCode.{RawCode}
+use Rattle.dex_tables.specs.declared.dex.RawCode.{RawCode}
 use Rattle.vet_base.specs.Members.{In}
 use Rattle.app_machine.specs.Sound.{registers_of}
 use Rattle.dex_code.specs.declared.decoder.Counts.{Counts}

@@ -5,7 +5,7 @@ use Rattle.std.proofs.lemmas.Bool.Decides.{nat_tests}
 use Rattle.dalvik_formats.specs.declared.format.Format.{Format}
 use Rattle.dalvik_formats.specs.declared.format.Format.TheVariants as formats
 use Rattle.dalvik_formats.specs.Layouts.{units_of}
-use Rattle.dex_reader.specs.declared.dex.RawCode.{RawCode}
+use Rattle.dex_tables.specs.declared.dex.RawCode.{RawCode}
 use Rattle.vet_base.specs.Script.{Script, Value, ◌>>=◌, run, sweep}
 use Rattle.vet_base.proofs.Scripts.{run_bind}
 use Rattle.dex_code.specs.declared.decoder.Counts.{Counts}

@@ -1,7 +1,7 @@
 -- Where control goes in code that was tested, instructions start.
 use Rattle.std.proofs.Common.{◌≡◌, ℕ, ◌+◌, ℤ, Bool, true, false, cond, not, ◌&&◌, List, [], ◌∷◌, ◌++◌, map, Option, Some, None, option_to_list, nat_le, ◌==◌, IsTrue, refl, sym, subst, inl, inr}
 use Rattle.dalvik_formats.specs.Layouts.{group_of, may_go_on}
-use Rattle.dex_reader.specs.declared.dex.RawTry.{RawTry}
+use Rattle.dex_tables.specs.declared.dex.RawTry.{RawTry}
 use Rattle.vet_base.specs.Members.{In}
 use Rattle.dex_code.specs.declared.insn.Insn.{Insn}
 use Rattle.dex_code.specs.declared.insn.Insn.TheVariants.{F10t, F20t, F21t, F22t, F30t, F31t}

@@ -1,8 +1,8 @@
 -- The tests of a method's code all hold exactly where the relation in words does.
 use Rattle.std.proofs.Common.{◌≡◌, ℕ, ◌+◌, ◌<◌, Bool, Result, Ok, Err, List, [], ◌∷◌, length, refl, sym, ap, subst, ◌∙◌, ◌⊎◌, inl}
 use Rattle.std.specs.Prelude.{IsTrue, nat_lt, nat_le, ◌||◌}
-use Rattle.dex_reader.specs.declared.dex.RawCode.{RawCode}
-use Rattle.dex_reader.specs.declared.dex.RawTry.{RawTry}
+use Rattle.dex_tables.specs.declared.dex.RawCode.{RawCode}
+use Rattle.dex_tables.specs.declared.dex.RawTry.{RawTry}
 use Rattle.vet_base.specs.Script.{Script, Value, ◌>>=◌, test, run}
 use Rattle.vet_base.proofs.Scripts.{run_bind, is_first}
 use Rattle.dex_code.specs.declared.decoder.Counts.{Counts}

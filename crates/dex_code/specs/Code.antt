@@ -1,6 +1,6 @@
 -- The code of a method as a list of lines, and the first fault of its units.
 use Rattle.std.specs.Prelude.{◌≡◌, ◌<◌, length, nat_lt, nat_le, ◌||◌}
-use Rattle.dex_reader.specs.declared.dex.RawCode.{RawCode}
+use Rattle.dex_tables.specs.declared.dex.RawCode.{RawCode}
 use Rattle.dex_code.specs.declared.decoder.Counts.{Counts}
 use Rattle.dex_code.specs.declared.decoder.Decoded.{Decoded}
 use Rattle.dex_code.specs.declared.fault.CodeFault.{CodeFault}

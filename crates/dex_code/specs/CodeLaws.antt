@@ -2,7 +2,7 @@
 use Rattle.std.specs.Prelude.{◌≡◌, ◌↔◌, ℕ, ◌<◌, ◌≤◌, Bool, true, false, List, [], ◌∷◌, ◌++◌, length, Ok}
 use Rattle.vet_base.specs.Members.{In}
 use Rattle.vet_base.specs.Script.{run}
-use Rattle.dex_reader.specs.declared.dex.RawCode.{RawCode}
+use Rattle.dex_tables.specs.declared.dex.RawCode.{RawCode}
 use Rattle.app_machine.specs.Lookups.{is_static_call}
 use Rattle.app_machine.specs.Sound.{AllBelow, registers_of, keys_of, statics_of, TakesItsRegisters, taken}
 use Rattle.dex_code.specs.declared.decoder.Counts.{Counts}

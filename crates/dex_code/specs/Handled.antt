@@ -1,7 +1,7 @@
 -- How many handlers the lines of a method list, by the tries that cover them.
 use Rattle.std.specs.Prelude.{ℕ, ◌*◌, List, length, count_by}
 use Rattle.std.specs.List.{sum_by}
-use Rattle.dex_reader.specs.declared.dex.RawTry.{RawTry}
+use Rattle.dex_tables.specs.declared.dex.RawTry.{RawTry}
 use Rattle.dex_code.specs.Lines.{Line}
 use Rattle.dex_code.specs.Next.{addresses, catches_of, covers}
 

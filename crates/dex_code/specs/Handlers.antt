@@ -1,6 +1,6 @@
 -- Handlers of a range of lines: addresses that all of its lines share, and tries that may cover some of them.
 use Rattle.std.specs.Prelude.{◌≡◌, ◌≤◌, ℕ, List, ◌++◌, map}
-use Rattle.dex_reader.specs.declared.dex.RawTry.{RawTry}
+use Rattle.dex_tables.specs.declared.dex.RawTry.{RawTry}
 use Rattle.dex_code.specs.Lines.{Line}
 use Rattle.dex_code.specs.Next.{covering, in_order}
 

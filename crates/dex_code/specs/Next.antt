@@ -2,7 +2,7 @@
 use Rattle.std.specs.Prelude.{ℕ, ℤ, ◌+◌, ◌==◌, Bool, List, [], ◌∷◌, ◌++◌, map, nat_lt, nat_le, ◌&&◌, if◌then◌else◌, option_to_list}
 use Rattle.dalvik_formats.specs.declared.kind.Kind.{Kind}
 use Rattle.dalvik_formats.specs.Layouts.{group_of, may_go_on}
-use Rattle.dex_reader.specs.declared.dex.RawTry.{RawTry}
+use Rattle.dex_tables.specs.declared.dex.RawTry.{RawTry}
 use Rattle.dex_code.specs.declared.insn.Insn.{Insn}
 use Rattle.dex_code.specs.declared.insn.Insn.TheVariants.{F10t, F20t, F21t, F22t, F30t, F31t}
 use Rattle.dex_code.specs.Units.{target_of}

@@ -1,7 +1,7 @@
 -- The try items of a method: each covers units of it, and its handlers start instructions.
 use Rattle.std.specs.Prelude.{ℕ, ◌+◌, Bool, true, List, [], ◌∷◌, nat_le, ◌&&◌, IsTrue, Option, Some, None}
 use Rattle.std.specs.List.{list_all}
-use Rattle.dex_reader.specs.declared.dex.RawTry.{RawTry}
+use Rattle.dex_tables.specs.declared.dex.RawTry.{RawTry}
 use Rattle.dex_code.specs.declared.fault.CodeFault.{CodeFault}
 use Rattle.dex_code.specs.declared.fault.CodeFault.TheVariants.{Tries}
 use Rattle.dex_code.specs.Lines.{Line}

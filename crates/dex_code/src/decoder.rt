@@ -13,7 +13,7 @@ use crate::insn::Insn;
 use crate::lines::lines_of;
 use crate::listed::check_listed;
 use crate::tries::check_tries;
-use dex_reader::{RawCode, RawTry};
+use dex_tables::{RawCode, RawTry};
 use std::alloc::Global;
 use vet_base::{Seq, Shared, Stop};
 

@@ -7,7 +7,7 @@ ghost use Rattle.dex_code.specs.Lines.{Line};
 ghost use Rattle.dex_code.specs.Next.{addresses, covers};
 
 use crate::insn::Insn;
-use dex_reader::RawTry;
+use dex_tables::RawTry;
 use vet_base::Memory;
 
 /// Lines may list so many handlers for each unit of the method.

@@ -1,5 +1,5 @@
 ghost use Rattle.std.specs.Prelude.{◌≡◌, ◌↔◌, ◌+◌, ◌<◌, ◌≤◌, ◌++◌, ◌∷◌, [], IfOk, IsTrue, List, OnOk, map, true};
-ghost use Rattle.dex_reader.specs.declared.dex.RawTry.{RawTry};
+ghost use Rattle.dex_tables.specs.declared.dex.RawTry.{RawTry};
 ghost use Rattle.dex_code.specs.Find.{Ascend};
 ghost use Rattle.dex_code.specs.Handlers.{AddsCatches, catches_beside, IsParted};
 ghost use Rattle.dex_code.specs.Lines.{Line};
@@ -7,7 +7,7 @@ ghost use Rattle.dex_code.specs.Next.{addresses, catches_of, covered, covering, 
 
 use crate::insn::Insn;
 use crate::order::put_in_order;
-use dex_reader::RawTry;
+use dex_tables::RawTry;
 use std::alloc::{AllocError, Global};
 use vet_base::{Memory, Shared};
 

@@ -9,7 +9,7 @@ use crate::insn_at::said_at;
 use crate::registers::{has_few_arguments, has_index, have_registers};
 use crate::shape::{Shape, shape_with};
 use crate::units::unit_at;
-use dex_reader::RawCode;
+use dex_tables::RawCode;
 use std::alloc::Global;
 use vet_base::Stop;
 

@@ -6,7 +6,7 @@ ghost use Rattle.dex_code.specs.Tries.{handlers_start, tries_at, try_stands};
 use crate::fault::{CodeFault, Halt};
 use crate::find::is_start;
 use crate::insn::Insn;
-use dex_reader::RawTry;
+use dex_tables::RawTry;
 use vet_base::Stop;
 
 #[tactic(auto, unfolding(crate::specs::Tries::handlers_start))]

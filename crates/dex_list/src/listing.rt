@@ -1,4 +1,4 @@
-use dex_reader::{Body, ClassDef, Dex, Member, RawCode};
+use dex_tables::{Body, ClassDef, Dex, Member, RawCode};
 use std::io::{self, Write};
 
 /// Bytes as text, each that is no printing ASCII character in hexadecimal.

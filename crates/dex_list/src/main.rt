@@ -4,7 +4,8 @@
 
 mod listing;
 
-use dex_reader::{Dex, DexFault, read_dex};
+use dex_reader::{DexFault, read_dex};
+use dex_tables::Dex;
 use std::alloc::Global;
 use std::env::Env;
 use std::fs::File;

@@ -1,7 +1,7 @@
 -- Tables of which none is too long.
 use Rattle.std.proofs.Common.{◌≡◌, ℕ, suc, ◌+◌, ◌≤◌, cond, ltb, List, [], ◌∷◌, length, Option, Some, None, refl, ap, arith}
 use Rattle.std.proofs.lemmas.Bool.{ltb-false}
-use Rattle.dex_reader.specs.declared.dex.ClassDef.{ClassDef}
+use Rattle.dex_tables.specs.declared.dex.ClassDef.{ClassDef}
 use Rattle.dex_writer.specs.declared.tables.Tables.{Tables}
 use Rattle.dex_maker.specs.declared.fault.IdTable.{IdTable}
 use Rattle.dex_maker.specs.declared.fault.IdTable.TheVariants as ids

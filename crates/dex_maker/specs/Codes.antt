@@ -6,8 +6,8 @@ use Rattle.dalvik_formats.specs.declared.format.Format.{Format}
 use Rattle.dalvik_formats.specs.declared.format.Format.TheVariants.{F35c, F3rc}
 use Rattle.dalvik_formats.specs.declared.format.Pool.TheVariants.{Methods}
 use Rattle.dalvik_formats.specs.Layouts.{layout_of}
-use Rattle.dex_reader.specs.declared.dex.RawCode.{RawCode}
-use Rattle.dex_reader.specs.declared.dex.RawTry.{RawTry}
+use Rattle.dex_tables.specs.declared.dex.RawCode.{RawCode}
+use Rattle.dex_tables.specs.declared.dex.RawTry.{RawTry}
 use Rattle.dex_writer.specs.declared.tables.Tables.{Tables}
 use Rattle.dex_maker.specs.declared.listing.ListedCode.{ListedCode}
 use Rattle.dex_maker.specs.declared.listing.ListedTry.{ListedTry}

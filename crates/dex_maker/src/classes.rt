@@ -7,7 +7,7 @@ ghost use Rattle.dex_maker.specs.Classes.{has_flag, begins_with_angle, is_static
 
 use crate::codes::code_of;
 use crate::listing::{ListedClass, ListedCode, ListedField, ListedMethod};
-use dex_reader::{Body, ClassDef, Member, RawCode};
+use dex_tables::{Body, ClassDef, Member, RawCode};
 use dex_writer::Tables;
 use std::alloc::Global;
 use vet_base::{Memory, Name, Seq};

@@ -9,7 +9,7 @@ use crate::payloads::{distance_bits, put_filled, put_packed, put_sparse};
 use crate::spelling::{put_plain, register, unit_of};
 use crate::widths::{start_of, starts_of, width_of};
 use dalvik_formats::{Format, Pool, format_of};
-use dex_reader::{RawCode, RawTry};
+use dex_tables::{RawCode, RawTry};
 use dex_writer::Tables;
 use std::alloc::Global;
 use vet_base::{Memory, Name, Seq, Shared};

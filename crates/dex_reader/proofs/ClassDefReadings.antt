@@ -3,21 +3,21 @@ use Rattle.std.proofs.Common.{◌≡◌, ℕ, suc, ◌+◌, ◌<◌, ◌≤◌, 
 use Rattle.std.proofs.lemmas.List.Sums.{sum_by-cons}
 use Rattle.std.specs.Prelude.{sum_by}
 use Rattle.vet_base.specs.Script.{run, rows, walk}
-use Rattle.dex_reader.specs.declared.dex.ClassDef.{ClassDef}
+use Rattle.dex_tables.specs.declared.dex.ClassDef.{ClassDef}
 use Rattle.dex_reader.specs.declared.class_defs.ClassRow.{ClassRow}
-use Rattle.dex_reader.specs.declared.place.Place.{Place}
-use Rattle.dex_reader.specs.declared.place.Sizes.{Sizes}
-use Rattle.dex_reader.specs.declared.place.Totals.{Totals}
-use Rattle.dex_reader.specs.TypeLists.{place}
+use Rattle.dex_tables.specs.declared.place.Place.{Place}
+use Rattle.dex_tables.specs.declared.place.Sizes.{Sizes}
+use Rattle.dex_tables.specs.declared.place.Totals.{Totals}
+use Rattle.dex_tables.specs.TypeLists.{place}
 use Rattle.dex_reader.specs.ClassDefs.{class_row_of, class_row}
 use Rattle.dex_reader.specs.ClassData.{class_def_of, class_data_at, class_of}
-use Rattle.dex_reader.specs.Sequences.{Is4, RowsStand, Follow}
-use Rattle.dex_reader.specs.TablesStand.{MaybeTypeList}
+use Rattle.dex_tables.specs.Sequences.{Is4, RowsStand, Follow}
+use Rattle.dex_tables.specs.TablesStand.{MaybeTypeList}
 use Rattle.dex_reader.specs.ClassesStand.{MaybeClassData, IsSuperclass, IsClass, IsClassRow}
 use Rattle.dex_reader.specs.Dex.{interfaces_of}
-use Rattle.dex_reader.specs.Totals.{no_totals, plus}
+use Rattle.dex_tables.specs.Totals.{no_totals, plus}
 use Rattle.dex_reader.proofs.ClassReadings.{lists_of, maybe_data_is, maybe_data_again}
-use Rattle.dex_reader.proofs.RunningTotals.{WithinTotals, totals_add}
+use Rattle.dex_tables.proofs.RunningTotals.{WithinTotals, totals_add}
 use Rattle.dex_reader.proofs.ClassRowReadings.{in_row, IsHead, head_again}
 use Rattle.vet_base.proofs.Runs.{bind_ok, bind_runs, value_is}
 

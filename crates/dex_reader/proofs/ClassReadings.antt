@@ -3,25 +3,25 @@ use Rattle.std.proofs.Common.{◌≡◌, ℕ, zero, suc, ◌+◌, ◌<◌, ◌�
 use Rattle.std.proofs.lemmas.Bool.{ltb-true, lt-ltb}
 use Rattle.vet_base.specs.Numbers.{uleb}
 use Rattle.vet_base.specs.Script.{run}
-use Rattle.dex_reader.specs.declared.dex.Body.{Body}
-use Rattle.dex_reader.specs.declared.dex.ClassDef.{ClassDef}
-use Rattle.dex_reader.specs.declared.dex.Member.{Member}
-use Rattle.dex_reader.specs.declared.dex.RawCode.{RawCode}
+use Rattle.dex_tables.specs.declared.dex.Body.{Body}
+use Rattle.dex_tables.specs.declared.dex.ClassDef.{ClassDef}
+use Rattle.dex_tables.specs.declared.dex.Member.{Member}
+use Rattle.dex_tables.specs.declared.dex.RawCode.{RawCode}
 use Rattle.dex_reader.specs.declared.class_data.Counts.{Counts}
 use Rattle.dex_reader.specs.declared.class_data.ClassData.{ClassData}
 use Rattle.dex_reader.specs.declared.class_data.Walk.{Walk}
 use Rattle.dex_reader.specs.declared.class_defs.ClassRow.{ClassRow}
-use Rattle.dex_reader.specs.declared.place.Sizes.{Sizes}
-use Rattle.dex_reader.specs.declared.place.Totals.{Totals}
+use Rattle.dex_tables.specs.declared.place.Sizes.{Sizes}
+use Rattle.dex_tables.specs.declared.place.Totals.{Totals}
 use Rattle.dex_reader.specs.ClassData.{walk_at, one_more, counted, sum_below, member_of, member_row, members_at, body_of, body_row, bodies_at, counts_at, class_data_of, some_class_data_at, class_data_at, class_def_of}
-use Rattle.dex_reader.specs.Code.{maybe_code_at}
-use Rattle.dex_reader.specs.Sequences.{IsLeb, Follow}
+use Rattle.dex_bodies.specs.Code.{maybe_code_at}
+use Rattle.dex_tables.specs.Sequences.{IsLeb, Follow}
 use Rattle.dex_reader.specs.ClassesStand.{one_member, Spot, IsMember, IsBody, HasClassData, MaybeClassData}
-use Rattle.dex_reader.specs.Totals.{no_totals, plus}
-use Rattle.dex_reader.proofs.Readings.{there_ok, repeat_read, repeat_again, OneRead, ManyRead}
-use Rattle.dex_reader.proofs.Numbers.{suc_not_zero}
-use Rattle.dex_reader.proofs.RunningTotals.{WithinTotals, same_totals, totals_add}
-use Rattle.dex_reader.proofs.CodeReadings.{maybe_code_is, maybe_code_again}
+use Rattle.dex_tables.specs.Totals.{no_totals, plus}
+use Rattle.dex_tables.proofs.Readings.{there_ok, repeat_read, repeat_again, OneRead, ManyRead}
+use Rattle.dex_tables.proofs.Numbers.{suc_not_zero}
+use Rattle.dex_tables.proofs.RunningTotals.{WithinTotals, same_totals, totals_add}
+use Rattle.dex_bodies.proofs.CodeReadings.{maybe_code_is, maybe_code_again}
 use Rattle.vet_base.proofs.Runs.{bind_ok, test_ok, bind_runs, value_is}
 
 spot : Spot → Totals → Walk

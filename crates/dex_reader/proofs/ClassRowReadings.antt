@@ -5,20 +5,20 @@ use Rattle.std.proofs.lemmas.Bool.Decides.{nat_tests, eqb_tells}
 use Rattle.std.specs.Prelude.{nat_lt, nat_eq, sum_by, ◌||◌}
 use Rattle.vet_base.specs.Numbers.{u4}
 use Rattle.vet_base.specs.Script.{Script, Value, ◌>>=◌, run, rows}
-use Rattle.dex_reader.specs.declared.fault.Fault.{Fault}
-use Rattle.dex_reader.specs.declared.fault.Table.TheVariants as tables
+use Rattle.dex_tables.specs.declared.fault.Fault.{Fault}
+use Rattle.dex_tables.specs.declared.fault.Table.TheVariants as tables
 use Rattle.dex_reader.specs.declared.class_defs.ClassRow.{ClassRow}
-use Rattle.dex_reader.specs.declared.header.Section.{Section}
-use Rattle.dex_reader.specs.declared.place.Place.{Place}
-use Rattle.dex_reader.specs.TypeLists.{place, type_list_at}
+use Rattle.dex_tables.specs.declared.header.Section.{Section}
+use Rattle.dex_tables.specs.declared.place.Place.{Place}
+use Rattle.dex_tables.specs.TypeLists.{place, type_list_at}
 use Rattle.dex_reader.specs.ClassDefs.{superclass_of, superclass_at, data_offset_at, class_row_of, class_row, class_rows_at}
-use Rattle.dex_reader.specs.Sequences.{Is4, RowsStand}
-use Rattle.dex_reader.specs.TablesStand.{MaybeTypeList}
+use Rattle.dex_tables.specs.Sequences.{Is4, RowsStand}
+use Rattle.dex_tables.specs.TablesStand.{MaybeTypeList}
 use Rattle.dex_reader.specs.ClassesStand.{IsSuperclass}
-use Rattle.dex_reader.proofs.Readings.{there_ok, follow_read, OneRead}
-use Rattle.dex_reader.proofs.Numbers.{u4_is, u4_behind, u4_within, four_there}
-use Rattle.dex_reader.proofs.RunningTotals.{number_adds, rows_from_follow}
-use Rattle.dex_reader.proofs.TypeListReadings.{maybe_list_is, maybe_list_again}
+use Rattle.dex_tables.proofs.Readings.{there_ok, follow_read, OneRead}
+use Rattle.dex_tables.proofs.Numbers.{u4_is, u4_behind, u4_within, four_there}
+use Rattle.dex_tables.proofs.RunningTotals.{number_adds, rows_from_follow}
+use Rattle.dex_tables.proofs.TypeListReadings.{maybe_list_is, maybe_list_again}
 use Rattle.vet_base.proofs.Runs.{bind_ok, test_ok, bind_runs, value_is}
 
 -- the superclass of a row

@@ -3,20 +3,20 @@ use Rattle.std.proofs.Common.{Result, Err, ◌≡◌, ◌⊎◌, inl, inr, ℕ, 
 use Rattle.std.specs.Prelude.{sum_by}
 use Rattle.vet_base.specs.Script.{run, rows, walk}
 use Rattle.vet_base.proofs.Scripts.{is_first}
-use Rattle.dex_reader.specs.declared.fault.Fault.{Fault}
-use Rattle.dex_reader.specs.declared.dex.Dex.{Dex}
-use Rattle.dex_reader.specs.declared.header.Header.{Header}
-use Rattle.dex_reader.specs.declared.place.Sizes.{Sizes}
-use Rattle.dex_reader.specs.declared.place.Totals.{Totals}
-use Rattle.dex_reader.specs.Parts.{table_test}
-use Rattle.dex_reader.specs.Headers.{header_at}
-use Rattle.dex_reader.specs.TypeLists.{place}
+use Rattle.dex_tables.specs.declared.fault.Fault.{Fault}
+use Rattle.dex_tables.specs.declared.dex.Dex.{Dex}
+use Rattle.dex_tables.specs.declared.header.Header.{Header}
+use Rattle.dex_tables.specs.declared.place.Sizes.{Sizes}
+use Rattle.dex_tables.specs.declared.place.Totals.{Totals}
+use Rattle.dex_tables.specs.Parts.{table_test}
+use Rattle.dex_tables.specs.Headers.{header_at}
+use Rattle.dex_tables.specs.TypeLists.{place}
 use Rattle.dex_reader.specs.ClassDefs.{class_row, class_rows_at}
 use Rattle.dex_reader.specs.ClassData.{class_of, classes_at}
 use Rattle.dex_reader.specs.Whole.{FirstDexFault, sizes_of, ids_at, file_at, dex_at}
 use Rattle.dex_reader.specs.Dex.{params_of, interfaces_of, HasTables, WithinLimits, IsDex, ExactlyOne}
-use Rattle.dex_reader.specs.Totals.{no_totals, plus}
-use Rattle.dex_reader.proofs.RunningTotals.{same_totals, WithinTotals}
+use Rattle.dex_tables.specs.Totals.{no_totals, plus}
+use Rattle.dex_tables.proofs.RunningTotals.{same_totals, WithinTotals}
 use Rattle.dex_reader.proofs.ClassRowReadings.{in_row, class_rows_are}
 use Rattle.dex_reader.proofs.ClassDefReadings.{classes_are, join, classes_again, heads_again}
 use Rattle.dex_reader.proofs.IdReadings.{table_is, ids_are, table_again, made_ids, ids_again}

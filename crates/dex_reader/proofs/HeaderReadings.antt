@@ -5,13 +5,13 @@ use Rattle.std.specs.Prelude.{nat_le, nat_eq, ◌&&◌}
 use Rattle.std.specs.List.{starts_with}
 use Rattle.vet_base.specs.Numbers.{u4}
 use Rattle.vet_base.specs.Script.{run}
-use Rattle.dex_reader.specs.declared.header.Header.{Header}
-use Rattle.dex_reader.specs.declared.header.Section.{Section}
-use Rattle.dex_reader.specs.Headers.{magic, section_at, file_size_at, header_at}
-use Rattle.dex_reader.specs.Sequences.{Is4}
+use Rattle.dex_tables.specs.declared.header.Header.{Header}
+use Rattle.dex_tables.specs.declared.header.Section.{Section}
+use Rattle.dex_tables.specs.Headers.{magic, section_at, file_size_at, header_at}
+use Rattle.dex_tables.specs.Sequences.{Is4}
 use Rattle.dex_reader.specs.Dex.{IsSection, IsHeader}
-use Rattle.dex_reader.proofs.Readings.{there_ok}
-use Rattle.dex_reader.proofs.Numbers.{u4_is, u4_behind}
+use Rattle.dex_tables.proofs.Readings.{there_ok}
+use Rattle.dex_tables.proofs.Numbers.{u4_is, u4_behind}
 use Rattle.vet_base.proofs.Runs.{bind_ok, test_ok, bind_runs, value_is}
 
 -- the header

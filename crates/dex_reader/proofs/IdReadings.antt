@@ -5,19 +5,19 @@ use Rattle.std.proofs.lemmas.Bool.Decides.{eqb_tells}
 use Rattle.std.proofs.Math.Bool.{or-true}
 use Rattle.std.specs.Prelude.{nat_le, nat_eq, sum_by, ◌||◌}
 use Rattle.vet_base.specs.Script.{run}
-use Rattle.dex_reader.specs.declared.dex.Dex.{Dex}
-use Rattle.dex_reader.specs.declared.dex.FieldId.{FieldId}
-use Rattle.dex_reader.specs.declared.dex.MethodRow.{MethodRow}
-use Rattle.dex_reader.specs.declared.header.Header.{Header}
-use Rattle.dex_reader.specs.declared.place.Sizes.{Sizes}
-use Rattle.dex_reader.specs.declared.place.Totals.{Totals}
+use Rattle.dex_tables.specs.declared.dex.Dex.{Dex}
+use Rattle.dex_tables.specs.declared.dex.FieldId.{FieldId}
+use Rattle.dex_tables.specs.declared.dex.MethodRow.{MethodRow}
+use Rattle.dex_tables.specs.declared.header.Header.{Header}
+use Rattle.dex_tables.specs.declared.place.Sizes.{Sizes}
+use Rattle.dex_tables.specs.declared.place.Totals.{Totals}
 use Rattle.dex_reader.specs.declared.reading.Ids.{Ids}
-use Rattle.dex_reader.specs.Parts.{table_test}
-use Rattle.dex_reader.specs.Tables.{strings_at, types_at, protos_at, fields_at, methods_at}
+use Rattle.dex_tables.specs.Parts.{table_test}
+use Rattle.dex_tables.specs.Tables.{strings_at, types_at, protos_at, fields_at, methods_at}
 use Rattle.dex_reader.specs.Whole.{names_at, member_ids_at, ids_at}
-use Rattle.dex_reader.specs.TablesStand.{TableStands, IsName, IsType, IsProto, IsField, IsMethod}
+use Rattle.dex_tables.specs.TablesStand.{TableStands, IsName, IsType, IsProto, IsField, IsMethod}
 use Rattle.dex_reader.specs.Dex.{params_of, HasTables}
-use Rattle.dex_reader.proofs.TableReadings.{strings_are, protos_are, types_are, fields_are, methods_are, strings_again, protos_again, types_again, fields_again, methods_again}
+use Rattle.dex_tables.proofs.TableReadings.{strings_are, protos_are, types_are, fields_are, methods_are, strings_again, protos_again, types_again, fields_again, methods_again}
 use Rattle.vet_base.proofs.Runs.{bind_ok, test_ok, bind_runs, value_is}
 
 one_of_both : (size end len : ℕ) → (nat_eq size 0 || nat_le end len) ≡ true → (size ≡ 0) ⊎ (end ≤ len)

@@ -1,15 +1,4 @@
-pub mod Leb
-pub mod RisingHandlers
-pub mod Units
 pub mod WalkRest
-pub mod Readings
-pub mod Numbers
-pub mod RunningTotals
-pub mod TypeListReadings
-pub mod TableReadings
-pub mod HandlerReadings
-pub mod TryReadings
-pub mod CodeReadings
 pub mod ClassReadings
 pub mod ClassRowReadings
 pub mod ClassDefReadings

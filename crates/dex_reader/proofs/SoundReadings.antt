@@ -6,30 +6,30 @@ use Rattle.std.proofs.lemmas.List.{length-take}
 use Rattle.std.proofs.lemmas.List.Elements.{All-cons, All-nil}
 use Rattle.std.proofs.lemmas.List.Sums.{sum_by-cons}
 use Rattle.std.specs.Prelude.{All, sum_by, nat_le}
-use Rattle.dex_reader.specs.declared.dex.Body.{Body}
-use Rattle.dex_reader.specs.declared.dex.ClassDef.{ClassDef}
-use Rattle.dex_reader.specs.declared.dex.Dex.{Dex}
-use Rattle.dex_reader.specs.declared.dex.Member.{Member}
-use Rattle.dex_reader.specs.declared.dex.RawCode.{RawCode}
-use Rattle.dex_reader.specs.declared.dex.RawTry.{RawTry}
-use Rattle.dex_reader.specs.declared.handlers.Handler.{Handler}
-use Rattle.dex_reader.specs.declared.header.Header.{Header}
-use Rattle.dex_reader.specs.declared.place.Sizes.{Sizes}
-use Rattle.dex_reader.specs.declared.place.Totals.{Totals}
-use Rattle.dex_reader.specs.declared.tries.TryItem.{TryItem}
-use Rattle.dex_reader.specs.Handlers.{handler_at}
-use Rattle.dex_reader.specs.Tries.{raw_try}
+use Rattle.dex_tables.specs.declared.dex.Body.{Body}
+use Rattle.dex_tables.specs.declared.dex.ClassDef.{ClassDef}
+use Rattle.dex_tables.specs.declared.dex.Dex.{Dex}
+use Rattle.dex_tables.specs.declared.dex.Member.{Member}
+use Rattle.dex_tables.specs.declared.dex.RawCode.{RawCode}
+use Rattle.dex_tables.specs.declared.dex.RawTry.{RawTry}
+use Rattle.dex_bodies.specs.declared.handlers.Handler.{Handler}
+use Rattle.dex_tables.specs.declared.header.Header.{Header}
+use Rattle.dex_tables.specs.declared.place.Sizes.{Sizes}
+use Rattle.dex_tables.specs.declared.place.Totals.{Totals}
+use Rattle.dex_bodies.specs.declared.tries.TryItem.{TryItem}
+use Rattle.dex_bodies.specs.Handlers.{handler_at}
+use Rattle.dex_bodies.specs.Tries.{raw_try}
 use Rattle.dex_reader.specs.Whole.{sizes_of}
-use Rattle.dex_reader.specs.Sequences.{Is2, Is4, RowsStand, Follow}
-use Rattle.dex_reader.specs.TablesStand.{IsType, MaybeTypeList, IsProto, IsField, IsMethod}
-use Rattle.dex_reader.specs.CodeStands.{IsPair, IsHandler, IsTryItem, AreTries, pairs_of, MaybeTries, IsCode, MaybeCode}
+use Rattle.dex_tables.specs.Sequences.{Is2, Is4, RowsStand, Follow}
+use Rattle.dex_tables.specs.TablesStand.{IsType, MaybeTypeList, IsProto, IsField, IsMethod}
+use Rattle.dex_bodies.specs.CodeStands.{IsPair, IsHandler, IsTryItem, AreTries, pairs_of, MaybeTries, IsCode, MaybeCode}
 use Rattle.dex_reader.specs.ClassesStand.{one_member, Spot, IsMember, IsBody, MaybeClassData, IsSuperclass, IsClass, IsClassRow}
 use Rattle.dex_reader.specs.Dex.{IsDex}
 use Rattle.dex_reader.specs.Sound.{rows_of, IsSoundProto, IsSoundField, IsSoundMethod, IsSoundTry, IsSoundCode, IsSoundMember, IfCode, IsSoundBody, IfSuperclass, IsSoundClass, code_units, tried, code_tries, body_units, body_tries, class_members, class_units, class_tries, SoundDex}
-use Rattle.dex_reader.specs.Totals.{no_totals, plus}
-use Rattle.dex_reader.proofs.Numbers.{u4_within, u2_within}
-use Rattle.dex_reader.proofs.TryReadings.{as_many}
-use Rattle.dex_reader.proofs.CodeReadings.{units_again}
+use Rattle.dex_tables.specs.Totals.{no_totals, plus}
+use Rattle.dex_tables.proofs.Numbers.{u4_within, u2_within}
+use Rattle.dex_bodies.proofs.TryReadings.{as_many}
+use Rattle.dex_bodies.proofs.CodeReadings.{units_again}
 use Rattle.std.proofs.lemmas.Option.{same_Some}
 
 -- what holds of each row that stands

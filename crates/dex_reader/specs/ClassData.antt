@@ -1,23 +1,23 @@
 -- Class data (Android documentation, "Dalvik executable format", class_data_item, encoded_field and encoded_method).
 use Rattle.std.specs.Prelude.{ℕ, ◌+◌, ◌==◌, List, [], Option, nat_lt, if◌then◌else◌}
 use Rattle.vet_base.specs.Script.{Script, Value, ◌>>=◌, test, repeat, walk}
-use Rattle.dex_reader.specs.declared.fault.Fault.{Fault}
-use Rattle.dex_reader.specs.declared.fault.Fault.TheVariants.{TooMany}
-use Rattle.dex_reader.specs.declared.fault.Limit.TheVariants as limits
-use Rattle.dex_reader.specs.declared.fault.Table.TheVariants as tables
-use Rattle.dex_reader.specs.declared.dex.Body.{Body}
-use Rattle.dex_reader.specs.declared.dex.ClassDef.{ClassDef}
-use Rattle.dex_reader.specs.declared.dex.Member.{Member}
-use Rattle.dex_reader.specs.declared.dex.RawCode.{RawCode}
+use Rattle.dex_tables.specs.declared.fault.Fault.{Fault}
+use Rattle.dex_tables.specs.declared.fault.Fault.TheVariants.{TooMany}
+use Rattle.dex_tables.specs.declared.fault.Limit.TheVariants as limits
+use Rattle.dex_tables.specs.declared.fault.Table.TheVariants as tables
+use Rattle.dex_tables.specs.declared.dex.Body.{Body}
+use Rattle.dex_tables.specs.declared.dex.ClassDef.{ClassDef}
+use Rattle.dex_tables.specs.declared.dex.Member.{Member}
+use Rattle.dex_tables.specs.declared.dex.RawCode.{RawCode}
 use Rattle.dex_reader.specs.declared.class_data.Counts.{Counts}
 use Rattle.dex_reader.specs.declared.class_data.ClassData.{ClassData}
 use Rattle.dex_reader.specs.declared.class_data.Walk.{Walk}
 use Rattle.dex_reader.specs.declared.class_defs.ClassRow.{ClassRow}
-use Rattle.dex_reader.specs.declared.place.Sizes.{Sizes}
-use Rattle.dex_reader.specs.declared.place.Totals.{Totals}
-use Rattle.dex_reader.specs.Parts.{uleb_at, index_test}
-use Rattle.dex_reader.specs.Code.{maybe_code_at}
-use Rattle.dex_reader.specs.Totals.{no_totals}
+use Rattle.dex_tables.specs.declared.place.Sizes.{Sizes}
+use Rattle.dex_tables.specs.declared.place.Totals.{Totals}
+use Rattle.dex_tables.specs.Parts.{uleb_at, index_test}
+use Rattle.dex_bodies.specs.Code.{maybe_code_at}
+use Rattle.dex_tables.specs.Totals.{no_totals}
 
 -- where the next member stands, the sum of the index differences before it, and the running totals
 abbrev pub walk_at : ℕ → ℕ → Totals → Walk

@@ -1,15 +1,15 @@
 -- The class definitions (Android documentation, "Dalvik executable format", class_def_item).
 use Rattle.std.specs.Prelude.{ℕ, ◌==◌, ◌||◌, List, Option, Some, None, nat_lt, if◌then◌else◌}
 use Rattle.vet_base.specs.Script.{Script, Value, ◌>>=◌, test, rows}
-use Rattle.dex_reader.specs.declared.fault.Fault.{Fault}
-use Rattle.dex_reader.specs.declared.fault.Fault.TheVariants.{Index, TooMany}
-use Rattle.dex_reader.specs.declared.fault.Limit.TheVariants as limits
-use Rattle.dex_reader.specs.declared.fault.Table.TheVariants.{ClassDefs}
-use Rattle.dex_reader.specs.declared.header.Section.{Section}
+use Rattle.dex_tables.specs.declared.fault.Fault.{Fault}
+use Rattle.dex_tables.specs.declared.fault.Fault.TheVariants.{Index, TooMany}
+use Rattle.dex_tables.specs.declared.fault.Limit.TheVariants as limits
+use Rattle.dex_tables.specs.declared.fault.Table.TheVariants.{ClassDefs}
+use Rattle.dex_tables.specs.declared.header.Section.{Section}
 use Rattle.dex_reader.specs.declared.class_defs.ClassRow.{ClassRow}
-use Rattle.dex_reader.specs.declared.place.Place.{Place}
-use Rattle.dex_reader.specs.Parts.{u4_at, index_test}
-use Rattle.dex_reader.specs.TypeLists.{place, type_list_at}
+use Rattle.dex_tables.specs.declared.place.Place.{Place}
+use Rattle.dex_tables.specs.Parts.{u4_at, index_test}
+use Rattle.dex_tables.specs.TypeLists.{place, type_list_at}
 
 -- no superclass is written as the greatest number
 unfoldable pub superclass_of : ℕ → Option ℕ

@@ -1,15 +1,15 @@
 -- What a class is, with its class data (Android documentation, "Dalvik executable format", class_def_item,
 -- class_data_item, encoded_field and encoded_method).
 use Rattle.std.specs.Prelude.{◌≡◌, ◌≢◌, ℕ, ◌+◌, ◌<◌, ◌≤◌, List, [], length, Option, Some, None}
-use Rattle.dex_reader.specs.declared.dex.Body.{Body}
-use Rattle.dex_reader.specs.declared.dex.ClassDef.{ClassDef}
-use Rattle.dex_reader.specs.declared.dex.Member.{Member}
-use Rattle.dex_reader.specs.declared.place.Sizes.{Sizes}
-use Rattle.dex_reader.specs.declared.place.Totals.{Totals}
-use Rattle.dex_reader.specs.Sequences.{Is4, IsLeb, Follow, AtOffset}
-use Rattle.dex_reader.specs.TablesStand.{MaybeTypeList}
-use Rattle.dex_reader.specs.CodeStands.{MaybeCode}
-use Rattle.dex_reader.specs.Totals.{no_totals, plus}
+use Rattle.dex_tables.specs.declared.dex.Body.{Body}
+use Rattle.dex_tables.specs.declared.dex.ClassDef.{ClassDef}
+use Rattle.dex_tables.specs.declared.dex.Member.{Member}
+use Rattle.dex_tables.specs.declared.place.Sizes.{Sizes}
+use Rattle.dex_tables.specs.declared.place.Totals.{Totals}
+use Rattle.dex_tables.specs.Sequences.{Is4, IsLeb, Follow, AtOffset}
+use Rattle.dex_tables.specs.TablesStand.{MaybeTypeList}
+use Rattle.dex_bodies.specs.CodeStands.{MaybeCode}
+use Rattle.dex_tables.specs.Totals.{no_totals, plus}
 
 abbrev pub one_member : Totals
 one_member = record { members = 1; units = 0; tries = 0 }

@@ -1,20 +1,20 @@
 -- What it is to be a DEX file, and which values stand in it.
 use Rattle.std.specs.Prelude.{◌≡◌, ◌⊎◌, ℕ, ◌+◌, ◌*◌, ◌≤◌, List, length, take, sum_by, true, nat_eq}
 use Rattle.std.specs.List.{starts_with}
-use Rattle.dex_reader.specs.declared.dex.Dex.{Dex}
-use Rattle.dex_reader.specs.declared.dex.ProtoId.{ProtoId}
-use Rattle.dex_reader.specs.declared.dex.ClassDef.{ClassDef}
-use Rattle.dex_reader.specs.declared.fault.Fault.{Fault}
-use Rattle.dex_reader.specs.declared.header.Header.{Header}
-use Rattle.dex_reader.specs.declared.header.Section.{Section}
-use Rattle.dex_reader.specs.declared.place.Sizes.{Sizes}
-use Rattle.dex_reader.specs.declared.place.Totals.{Totals}
-use Rattle.dex_reader.specs.Headers.{magic}
+use Rattle.dex_tables.specs.declared.dex.Dex.{Dex}
+use Rattle.dex_tables.specs.declared.dex.ProtoId.{ProtoId}
+use Rattle.dex_tables.specs.declared.dex.ClassDef.{ClassDef}
+use Rattle.dex_tables.specs.declared.fault.Fault.{Fault}
+use Rattle.dex_tables.specs.declared.header.Header.{Header}
+use Rattle.dex_tables.specs.declared.header.Section.{Section}
+use Rattle.dex_tables.specs.declared.place.Sizes.{Sizes}
+use Rattle.dex_tables.specs.declared.place.Totals.{Totals}
+use Rattle.dex_tables.specs.Headers.{magic}
 use Rattle.dex_reader.specs.Whole.{sizes_of, FirstDexFault}
-use Rattle.dex_reader.specs.Sequences.{Is4, Follow}
-use Rattle.dex_reader.specs.TablesStand.{TableStands, IsName, IsType, IsProto, IsField, IsMethod}
+use Rattle.dex_tables.specs.Sequences.{Is4, Follow}
+use Rattle.dex_tables.specs.TablesStand.{TableStands, IsName, IsType, IsProto, IsField, IsMethod}
 use Rattle.dex_reader.specs.ClassesStand.{IsClassRow}
-use Rattle.dex_reader.specs.Totals.{no_totals, plus}
+use Rattle.dex_tables.specs.Totals.{no_totals, plus}
 
 -- the size and the offset of a table
 abbrev pub IsSection : List ℕ → ℕ → Section → Type 0

@@ -1,16 +1,16 @@
 -- What holds of each Dex that is read, without its bytes: sizes below 2^32, indices below the sizes of their tables, and
 -- the limits.
 use Rattle.std.specs.Prelude.{ℕ, ◌+◌, ◌^◌, ◌<◌, ◌≤◌, length, sum_by, All, Option, Some, None}
-use Rattle.dex_reader.specs.declared.dex.Body.{Body}
-use Rattle.dex_reader.specs.declared.dex.ClassDef.{ClassDef}
-use Rattle.dex_reader.specs.declared.dex.Dex.{Dex}
-use Rattle.dex_reader.specs.declared.dex.FieldId.{FieldId}
-use Rattle.dex_reader.specs.declared.dex.Member.{Member}
-use Rattle.dex_reader.specs.declared.dex.MethodRow.{MethodRow}
-use Rattle.dex_reader.specs.declared.dex.ProtoId.{ProtoId}
-use Rattle.dex_reader.specs.declared.dex.RawCode.{RawCode}
-use Rattle.dex_reader.specs.declared.dex.RawTry.{RawTry}
-use Rattle.dex_reader.specs.declared.place.Sizes.{Sizes}
+use Rattle.dex_tables.specs.declared.dex.Body.{Body}
+use Rattle.dex_tables.specs.declared.dex.ClassDef.{ClassDef}
+use Rattle.dex_tables.specs.declared.dex.Dex.{Dex}
+use Rattle.dex_tables.specs.declared.dex.FieldId.{FieldId}
+use Rattle.dex_tables.specs.declared.dex.Member.{Member}
+use Rattle.dex_tables.specs.declared.dex.MethodRow.{MethodRow}
+use Rattle.dex_tables.specs.declared.dex.ProtoId.{ProtoId}
+use Rattle.dex_tables.specs.declared.dex.RawCode.{RawCode}
+use Rattle.dex_tables.specs.declared.dex.RawTry.{RawTry}
+use Rattle.dex_tables.specs.declared.place.Sizes.{Sizes}
 use Rattle.dex_reader.specs.Dex.{params_of, interfaces_of}
 
 abbrev pub rows_of : Dex → Sizes

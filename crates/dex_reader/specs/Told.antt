@@ -1,13 +1,13 @@
 -- Faults in the words that a report prints.
 use Rattle.std.specs.Prelude.{◌≡◌, ◌⊎◌, ℕ, List, codes}
-use Rattle.dex_reader.specs.declared.fault.Fault.{Fault}
-use Rattle.dex_reader.specs.declared.fault.Fault.TheVariants.{Magic, Header, Outside, Index, Text, Leb, TooMany}
-use Rattle.dex_reader.specs.declared.fault.Field.{Field}
-use Rattle.dex_reader.specs.declared.fault.Field.TheVariants.{FileSize, HeaderSize, EndianTag}
-use Rattle.dex_reader.specs.declared.fault.Table.{Table}
-use Rattle.dex_reader.specs.declared.fault.Table.TheVariants.{TypeIds, ProtoIds, FieldIds, MethodIds, ClassDefs, ClassData, Handlers, Tries}
-use Rattle.dex_reader.specs.declared.fault.Limit.{Limit}
-use Rattle.dex_reader.specs.declared.fault.Limit.TheVariants as limits
+use Rattle.dex_tables.specs.declared.fault.Fault.{Fault}
+use Rattle.dex_tables.specs.declared.fault.Fault.TheVariants.{Magic, Header, Outside, Index, Text, Leb, TooMany}
+use Rattle.dex_tables.specs.declared.fault.Field.{Field}
+use Rattle.dex_tables.specs.declared.fault.Field.TheVariants.{FileSize, HeaderSize, EndianTag}
+use Rattle.dex_tables.specs.declared.fault.Table.{Table}
+use Rattle.dex_tables.specs.declared.fault.Table.TheVariants.{TypeIds, ProtoIds, FieldIds, MethodIds, ClassDefs, ClassData, Handlers, Tries}
+use Rattle.dex_tables.specs.declared.fault.Limit.{Limit}
+use Rattle.dex_tables.specs.declared.fault.Limit.TheVariants as limits
 use Rattle.dex_reader.specs.declared.told.DexFault.{DexFault}
 use Rattle.dex_reader.specs.declared.told.DexFault.TheVariants as told
 use Rattle.dex_reader.specs.Whole.{FirstDexFault}

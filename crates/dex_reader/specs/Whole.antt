@@ -1,17 +1,17 @@
 -- The tests of a whole file in their order, and the value behind them.
 use Rattle.std.specs.Prelude.{ℕ, List, take, Bool}
 use Rattle.vet_base.specs.Script.{Script, Value, ◌>>=◌, tests, IsFirst}
-use Rattle.dex_reader.specs.declared.fault.Fault.{Fault}
-use Rattle.dex_reader.specs.declared.dex.Dex.{Dex}
-use Rattle.dex_reader.specs.declared.dex.ClassDef.{ClassDef}
-use Rattle.dex_reader.specs.declared.dex.FieldId.{FieldId}
-use Rattle.dex_reader.specs.declared.dex.MethodRow.{MethodRow}
-use Rattle.dex_reader.specs.declared.header.Header.{Header}
-use Rattle.dex_reader.specs.declared.place.Sizes.{Sizes}
+use Rattle.dex_tables.specs.declared.fault.Fault.{Fault}
+use Rattle.dex_tables.specs.declared.dex.Dex.{Dex}
+use Rattle.dex_tables.specs.declared.dex.ClassDef.{ClassDef}
+use Rattle.dex_tables.specs.declared.dex.FieldId.{FieldId}
+use Rattle.dex_tables.specs.declared.dex.MethodRow.{MethodRow}
+use Rattle.dex_tables.specs.declared.header.Header.{Header}
+use Rattle.dex_tables.specs.declared.place.Sizes.{Sizes}
 use Rattle.dex_reader.specs.declared.reading.Ids.{Ids}
-use Rattle.dex_reader.specs.Parts.{table_test}
-use Rattle.dex_reader.specs.Headers.{header_at}
-use Rattle.dex_reader.specs.Tables.{strings_at, types_at, protos_at, fields_at, methods_at}
+use Rattle.dex_tables.specs.Parts.{table_test}
+use Rattle.dex_tables.specs.Headers.{header_at}
+use Rattle.dex_tables.specs.Tables.{strings_at, types_at, protos_at, fields_at, methods_at}
 use Rattle.dex_reader.specs.ClassDefs.{class_rows_at}
 use Rattle.dex_reader.specs.ClassData.{classes_at}
 

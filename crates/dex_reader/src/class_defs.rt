@@ -2,11 +2,9 @@ ghost use Rattle.std.specs.Prelude.{◌≡◌, ◌<◌, ◌^◌, length};
 ghost use Rattle.vet_base.specs.Script.{Gives};
 ghost use Rattle.dex_reader.specs.ClassDefs.{superclass_of, superclass_at, data_offset_at, class_row, class_rows_at};
 
-use crate::fault::{Fault, Limit, ReadError, Table};
-use crate::header::Section;
-use crate::parts::{test_index, u4_of};
-use crate::place::Place;
-use crate::type_lists::{NamedList, type_list_of};
+use dex_tables::{
+    Fault, Limit, NamedList, Place, ReadError, Section, Table, test_index, type_list_of, u4_of,
+};
 use std::alloc::Global;
 use vet_base::{Seq, Stop};
 

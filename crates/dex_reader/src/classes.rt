@@ -4,9 +4,7 @@ ghost use Rattle.dex_reader.specs.ClassData.{class_of, classes_at};
 
 use crate::class_data::class_data_of;
 use crate::class_defs::ClassRow;
-use crate::dex::ClassDef;
-use crate::fault::ReadError;
-use crate::place::{Sizes, Totals};
+use dex_tables::{ClassDef, ReadError, Sizes, Totals};
 use std::alloc::Global;
 use vet_base::Seq;
 

@@ -1,12 +1,12 @@
 ghost use Rattle.std.specs.Prelude.{◌≡◌, IfOk, IfErr, OnErr};
-ghost use Rattle.dex_reader.specs.declared.dex.Dex.{Dex as DexValue};
+ghost use Rattle.dex_tables.specs.declared.dex.Dex.{Dex as DexValue};
 ghost use Rattle.dex_reader.specs.Dex.{IsDex, ExactlyOne};
 ghost use Rattle.dex_reader.specs.Sound.{SoundDex};
 ghost use Rattle.dex_reader.specs.Told.{IsToldOf};
 
-use crate::dex::Dex;
 use crate::reading::dex_of;
 use crate::told::{DexFault, told_of};
+use dex_tables::Dex;
 use std::alloc::Global;
 use vet_base::Stop;
 

@@ -4,13 +4,10 @@ ghost use Rattle.dex_reader.specs.Whole.{sizes_of, names_at, member_ids_at, ids_
 
 use crate::class_defs::class_rows_of;
 use crate::classes::classes_of;
-use crate::dex::{ClassDef, Dex, FieldId, MethodRow, ProtoId};
-use crate::fault::ReadError;
-use crate::header::{Header, header_of};
-use crate::ids::{fields_of, methods_of, protos_of, types_of};
-use crate::parts::test_table;
-use crate::place::Sizes;
-use crate::strings::strings_of;
+use dex_tables::{
+    ClassDef, Dex, FieldId, Header, MethodRow, ProtoId, ReadError, Sizes, fields_of, header_of,
+    methods_of, protos_of, strings_of, test_table, types_of,
+};
 use std::alloc::Global;
 use vet_base::{Name, Seq};
 

@@ -1,7 +1,7 @@
 ghost use Rattle.std.specs.Prelude.{◌≡◌, ◌⊎◌};
 ghost use Rattle.dex_reader.specs.Told.{shown, field_word, table_word, limit_word};
 
-use crate::fault::{Fault, Field, Limit, Table};
+use dex_tables::{Fault, Field, Limit, Table};
 use std::alloc::Global;
 use vet_base::Name;
 

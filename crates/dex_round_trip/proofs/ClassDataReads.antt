@@ -3,14 +3,14 @@ use Rattle.std.proofs.Common.{◌≡◌, ℕ, ◌+◌, ◌-◌, ◌<◌, ◌≤�
 use Rattle.std.specs.Prelude.{sum_by}
 use Rattle.std.specs.List.{flat_map}
 use Rattle.std.proofs.lemmas.List.Sums.{sum_by-cons}
-use Rattle.dex_reader.specs.declared.dex.Body.{Body}
-use Rattle.dex_reader.specs.declared.dex.ClassDef.{ClassDef}
-use Rattle.dex_reader.specs.declared.dex.Member.{Member}
-use Rattle.dex_reader.specs.declared.place.Sizes.{Sizes}
-use Rattle.dex_reader.specs.Sequences.{Follow}
+use Rattle.dex_tables.specs.declared.dex.Body.{Body}
+use Rattle.dex_tables.specs.declared.dex.ClassDef.{ClassDef}
+use Rattle.dex_tables.specs.declared.dex.Member.{Member}
+use Rattle.dex_tables.specs.declared.place.Sizes.{Sizes}
+use Rattle.dex_tables.specs.Sequences.{Follow}
 use Rattle.dex_reader.specs.ClassesStand.{one_member, IsMember, IsBody, HasClassData, MaybeClassData}
 use Rattle.dex_reader.specs.Sound.{body_units, class_members, class_units}
-use Rattle.dex_reader.specs.Totals.{no_totals, plus}
+use Rattle.dex_tables.specs.Totals.{no_totals, plus}
 use Rattle.dex_writer.specs.Bytes.{uleb_bytes, type_list, padding_of}
 use Rattle.dex_writer.specs.Placed.{offset_of}
 use Rattle.dex_writer.specs.ClassData.{members_bytes, body_code, bodies_bytes, virtuals_at, class_code, class_item, class_data, code_and_data, code_begin, data_begin, class_bytes}

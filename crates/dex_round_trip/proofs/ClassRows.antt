@@ -3,13 +3,13 @@ use Rattle.std.proofs.Common.{◌≡◌, ℕ, ◌+◌, ◌<◌, ◌≤◌, List,
 use Rattle.std.specs.Prelude.{IfSome, sum_by}
 use Rattle.std.specs.List.{AllByRecursion}
 use Rattle.std.proofs.lemmas.List.Sums.{sum_by-cons}
-use Rattle.dex_reader.specs.declared.dex.ClassDef.{ClassDef}
-use Rattle.dex_reader.specs.declared.place.Sizes.{Sizes}
-use Rattle.dex_reader.specs.Sequences.{Follow}
+use Rattle.dex_tables.specs.declared.dex.ClassDef.{ClassDef}
+use Rattle.dex_tables.specs.declared.place.Sizes.{Sizes}
+use Rattle.dex_tables.specs.Sequences.{Follow}
 use Rattle.dex_reader.specs.ClassesStand.{IsSuperclass, IsClass, IsClassRow}
 use Rattle.dex_reader.specs.Dex.{interfaces_of}
 use Rattle.dex_reader.specs.Sound.{class_members, class_units}
-use Rattle.dex_reader.specs.Totals.{no_totals, plus}
+use Rattle.dex_tables.specs.Totals.{no_totals, plus}
 use Rattle.dex_writer.specs.Bytes.{u4_bytes, type_list, padding_of}
 use Rattle.dex_writer.specs.Placed.{pieces, placed_rows, offset_of}
 use Rattle.dex_writer.specs.ClassData.{class_bytes, placed_row, class_row, class_head, index_or_none, data_begin, code_begin, code_and_data, class_code, class_data}

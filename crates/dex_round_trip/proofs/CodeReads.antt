@@ -2,10 +2,10 @@
 use Rattle.std.proofs.Common.{◌≡◌, ℕ, zero, suc, ◌+◌, ◌*◌, ◌%◌, ◌<◌, ◌≤◌, cond, eqb, List, [], ◌∷◌, ◌++◌, length, Option, Some, None, refl, ap, append_assoc, length-append, arith}
 use Rattle.std.specs.Prelude.{IfSome, sum_by}
 use Rattle.std.specs.List.{AllByRecursion, flat_map}
-use Rattle.dex_reader.specs.declared.dex.RawCode.{RawCode}
-use Rattle.dex_reader.specs.declared.dex.RawTry.{RawTry}
-use Rattle.dex_reader.specs.Sequences.{Is2, Is4, RowsStand}
-use Rattle.dex_reader.specs.CodeStands.{MaybeTries, padded, IsCode, MaybeCode}
+use Rattle.dex_tables.specs.declared.dex.RawCode.{RawCode}
+use Rattle.dex_tables.specs.declared.dex.RawTry.{RawTry}
+use Rattle.dex_tables.specs.Sequences.{Is2, Is4, RowsStand}
+use Rattle.dex_bodies.specs.CodeStands.{MaybeTries, padded, IsCode, MaybeCode}
 use Rattle.dex_reader.specs.Sound.{code_units}
 use Rattle.dex_writer.specs.Bytes.{u2_bytes, u4_bytes, padding_of}
 use Rattle.dex_writer.specs.Placed.{offset_of}

@@ -4,15 +4,15 @@ use Rattle.std.specs.Prelude.{◌⊎◌, nat_eq, sum_by}
 use Rattle.std.specs.List.{AllByRecursion, flat_map, starts_with}
 use Rattle.std.proofs.lemmas.Bool.{cases_Bool}
 use Rattle.std.proofs.lemmas.List.{nil_from_length, length-map}
-use Rattle.dex_reader.specs.declared.dex.ClassDef.{ClassDef}
-use Rattle.dex_reader.specs.declared.header.Header.{Header}
-use Rattle.dex_reader.specs.declared.header.Section.{Section}
-use Rattle.dex_reader.specs.Headers as heads
-use Rattle.dex_reader.specs.Sequences.{Follow}
-use Rattle.dex_reader.specs.TablesStand.{TableStands, IsName, IsType, IsProto, IsField, IsMethod}
+use Rattle.dex_tables.specs.declared.dex.ClassDef.{ClassDef}
+use Rattle.dex_tables.specs.declared.header.Header.{Header}
+use Rattle.dex_tables.specs.declared.header.Section.{Section}
+use Rattle.dex_tables.specs.Headers as heads
+use Rattle.dex_tables.specs.Sequences.{Follow}
+use Rattle.dex_tables.specs.TablesStand.{TableStands, IsName, IsType, IsProto, IsField, IsMethod}
 use Rattle.dex_reader.specs.ClassesStand.{IsClassRow}
 use Rattle.dex_reader.specs.Dex.{IsSection, IsHeader, HasTables, interfaces_of}
-use Rattle.dex_reader.specs.Totals.{no_totals, plus}
+use Rattle.dex_tables.specs.Totals.{no_totals, plus}
 use Rattle.dex_reader.specs.Whole.{sizes_of}
 use Rattle.dex_writer.specs.declared.tables.Tables.{Tables}
 use Rattle.dex_writer.specs.Bytes.{u4_bytes, string_item}

@@ -4,11 +4,11 @@ use Rattle.std.specs.Prelude.{sum_by}
 use Rattle.std.specs.List.{flat_map}
 use Rattle.std.proofs.lemmas.List.{length-take}
 use Rattle.std.proofs.lemmas.List.Sums.{sum_by-cons}
-use Rattle.dex_reader.specs.declared.dex.Body.{Body}
-use Rattle.dex_reader.specs.declared.dex.ClassDef.{ClassDef}
-use Rattle.dex_reader.specs.declared.dex.Member.{Member}
-use Rattle.dex_reader.specs.declared.dex.RawCode.{RawCode}
-use Rattle.dex_reader.specs.declared.dex.RawTry.{RawTry}
+use Rattle.dex_tables.specs.declared.dex.Body.{Body}
+use Rattle.dex_tables.specs.declared.dex.ClassDef.{ClassDef}
+use Rattle.dex_tables.specs.declared.dex.Member.{Member}
+use Rattle.dex_tables.specs.declared.dex.RawCode.{RawCode}
+use Rattle.dex_tables.specs.declared.dex.RawTry.{RawTry}
 use Rattle.dex_reader.specs.Dex.{interfaces_of}
 use Rattle.dex_reader.specs.Sound.{code_units, body_units, class_members, class_units}
 use Rattle.dex_writer.specs.declared.tables.Tables.{Tables}

@@ -3,9 +3,9 @@ use Rattle.std.proofs.Common.{◌≡◌, ℕ, suc, ◌+◌, ◌*◌, ◌%◌, �
 use Rattle.std.specs.Prelude.{slice_index, sum_by}
 use Rattle.std.specs.List.{AllByRecursion, flat_map}
 use Rattle.std.proofs.lemmas.List.Sums.{sum_by-cons}
-use Rattle.dex_reader.specs.declared.place.Sizes.{Sizes}
-use Rattle.dex_reader.specs.Sequences.{Is2, RowsStand}
-use Rattle.dex_reader.specs.TablesStand.{IsName, IsType, MaybeTypeList, IsProto, IsField, IsMethod}
+use Rattle.dex_tables.specs.declared.place.Sizes.{Sizes}
+use Rattle.dex_tables.specs.Sequences.{Is2, RowsStand}
+use Rattle.dex_tables.specs.TablesStand.{IsName, IsType, MaybeTypeList, IsProto, IsField, IsMethod}
 use Rattle.dex_writer.specs.Bytes.{u2_bytes, u4_bytes, uleb_bytes, text_len, string_item, type_list, padding_of}
 use Rattle.dex_writer.specs.Placed.{offsets_of, rows_of, offset_of}
 use Rattle.dex_writer.specs.File.{params_bytes, proto_row_bytes, member_row_bytes}

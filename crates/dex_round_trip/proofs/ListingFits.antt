@@ -4,7 +4,7 @@ use Rattle.std.specs.Prelude.{IfSome, IfNone, sum_by, slice_index}
 use Rattle.std.specs.Option.{option_map}
 use Rattle.std.specs.List.{AllByRecursion}
 use Rattle.std.proofs.lemmas.List.Sums.{sum_by-cons}
-use Rattle.dex_reader.specs.declared.place.Sizes.{Sizes}
+use Rattle.dex_tables.specs.declared.place.Sizes.{Sizes}
 use Rattle.dex_reader.specs.Sound.{code_units, body_units, class_members, class_units}
 use Rattle.dex_writer.specs.declared.tables.Tables.{Tables}
 use Rattle.dex_maker.specs.declared.listing.ListedClass.{ListedClass}

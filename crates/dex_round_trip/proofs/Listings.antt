@@ -3,8 +3,8 @@ use Rattle.std.proofs.Common.{◌≡◌, ℕ, suc, ◌+◌, ◌<◌, ◌≤◌, 
 use Rattle.std.specs.Prelude.{sum_by}
 use Rattle.std.specs.List.{AllByRecursion}
 use Rattle.std.proofs.lemmas.List.Sums.{sum_by-cons}
-use Rattle.dex_reader.specs.declared.dex.ClassDef.{ClassDef}
-use Rattle.dex_reader.specs.declared.place.Sizes.{Sizes}
+use Rattle.dex_tables.specs.declared.dex.ClassDef.{ClassDef}
+use Rattle.dex_tables.specs.declared.place.Sizes.{Sizes}
 use Rattle.dex_reader.specs.Dex.{params_of, interfaces_of, IsDex}
 use Rattle.dex_reader.specs.Sound.{class_members, class_units}
 use Rattle.dex_reader.specs.Whole.{sizes_of}

@@ -4,7 +4,7 @@ use Rattle.std.specs.Prelude.{IfSome, slice_get, filter}
 use Rattle.std.specs.Option.{option_map}
 use Rattle.std.specs.List.{AllByRecursion}
 use Rattle.std.specs.Ordering.{nat_cmp}
-use Rattle.dex_reader.specs.declared.dex.ClassDef.{ClassDef}
+use Rattle.dex_tables.specs.declared.dex.ClassDef.{ClassDef}
 use Rattle.dex_writer.specs.declared.tables.Tables.{Tables}
 use Rattle.dex_maker.specs.declared.listing.Listing.{Listing}
 use Rattle.dex_maker.specs.declared.listing.ListedClass.{ListedClass}

@@ -6,7 +6,7 @@ use Rattle.std.proofs.lemmas.Bool.{cases_Bool}
 use Rattle.std.proofs.lemmas.Bool.Decides.{nat_tests}
 use Rattle.std.proofs.lemmas.List.Elements.{All-from_recursion}
 use Rattle.std.proofs.lemmas.List.Sums.{count_by-le-length}
-use Rattle.dex_reader.specs.Sequences.{AtOffset}
+use Rattle.dex_tables.specs.Sequences.{AtOffset}
 use Rattle.dex_writer.specs.Bytes.{text_len}
 use Rattle.dex_writer.specs.Placed.{offset_of}
 use Rattle.dex_round_trip.proofs.TableGrowth.{all_imp}

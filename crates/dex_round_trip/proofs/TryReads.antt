@@ -7,12 +7,12 @@ use Rattle.std.proofs.lemmas.Bool.{lt-ltb, cases_Bool, eq-eqb}
 use Rattle.std.proofs.lemmas.Bool.Decides.{nat_tests}
 use Rattle.std.proofs.lemmas.List.Sums.{sum_by-cons}
 use Rattle.vet_base.specs.Numbers.{sleb, groups, last_group}
-use Rattle.dex_reader.specs.declared.dex.RawTry.{RawTry}
-use Rattle.dex_reader.specs.declared.handlers.Handler.{Handler}
-use Rattle.dex_reader.specs.declared.tries.TryItem.{TryItem}
-use Rattle.dex_reader.specs.Handlers.{pair_count, catches_all, handler_of, handler_at}
-use Rattle.dex_reader.specs.Sequences.{RowsStand, Follow}
-use Rattle.dex_reader.specs.CodeStands.{IsPair, IsHandler, IsTryItem, AreTries, pairs_of, HasTries}
+use Rattle.dex_tables.specs.declared.dex.RawTry.{RawTry}
+use Rattle.dex_bodies.specs.declared.handlers.Handler.{Handler}
+use Rattle.dex_bodies.specs.declared.tries.TryItem.{TryItem}
+use Rattle.dex_bodies.specs.Handlers.{pair_count, catches_all, handler_of, handler_at}
+use Rattle.dex_tables.specs.Sequences.{RowsStand, Follow}
+use Rattle.dex_bodies.specs.CodeStands.{IsPair, IsHandler, IsTryItem, AreTries, pairs_of, HasTries}
 use Rattle.dex_writer.specs.Bytes.{u2_bytes, u4_bytes, uleb_bytes, groups_of}
 use Rattle.dex_writer.specs.Placed.{rows_of}
 use Rattle.dex_writer.specs.CodeItem.{pair_bytes, handler_size, catch_all_bytes, handler_bytes, try_bytes, try_items, handlers_bytes}

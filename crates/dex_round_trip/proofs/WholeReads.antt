@@ -3,7 +3,7 @@ use Rattle.std.proofs.Common.{◌≡◌, ℕ, ◌+◌, ◌<◌, ◌≤◌, List,
 use Rattle.std.specs.Prelude.{sum_by}
 use Rattle.std.specs.List.{AllByRecursion}
 use Rattle.std.proofs.Math.Seq.{take-length}
-use Rattle.dex_reader.specs.declared.dex.ClassDef.{ClassDef}
+use Rattle.dex_tables.specs.declared.dex.ClassDef.{ClassDef}
 use Rattle.dex_reader.specs.Dex.{params_of, interfaces_of, HasTables, IsDex}
 use Rattle.dex_reader.specs.Sound.{class_members, class_units}
 use Rattle.dex_reader.specs.Whole.{sizes_of}

@@ -1,7 +1,7 @@
 -- Which listings have a file that can be read, and what stands in it.
 use Rattle.std.specs.Prelude.{◌≡◌, ℕ, ◌+◌, ◌<◌, ◌≤◌, List, length, sum_by, None, IfSome, IfNone}
 use Rattle.std.specs.List.{AllByRecursion}
-use Rattle.dex_reader.specs.declared.dex.Dex.{Dex}
+use Rattle.dex_tables.specs.declared.dex.Dex.{Dex}
 use Rattle.dex_reader.specs.Dex.{params_of, interfaces_of, IsDex}
 use Rattle.dex_maker.specs.declared.listing.Listing.{Listing}
 use Rattle.dex_maker.specs.declared.listing.ListedClass.{ListedClass}

@@ -1,10 +1,10 @@
 -- What tables and classes are to a reader.
 use Rattle.std.specs.Prelude.{ℕ, List, drop, map, slice_index}
-use Rattle.dex_reader.specs.declared.dex.ClassDef.{ClassDef}
-use Rattle.dex_reader.specs.declared.dex.Dex.{Dex}
-use Rattle.dex_reader.specs.declared.dex.ProtoId.{ProtoId}
-use Rattle.dex_reader.specs.declared.dex.FieldId.{FieldId}
-use Rattle.dex_reader.specs.declared.dex.MethodRow.{MethodRow}
+use Rattle.dex_tables.specs.declared.dex.ClassDef.{ClassDef}
+use Rattle.dex_tables.specs.declared.dex.Dex.{Dex}
+use Rattle.dex_tables.specs.declared.dex.ProtoId.{ProtoId}
+use Rattle.dex_tables.specs.declared.dex.FieldId.{FieldId}
+use Rattle.dex_tables.specs.declared.dex.MethodRow.{MethodRow}
 use Rattle.dex_writer.specs.declared.tables.Tables.{Tables}
 
 -- the rows of protos, fields and methods, as numbers

@@ -5,7 +5,8 @@ ghost use Rattle.dex_round_trip.specs.Listings.{dex_of, CanBeRead};
 
 use crate::law::listings_read_again;
 use dex_maker::{Listing, MakeFault, make_dex};
-use dex_reader::{Dex, DexFault, read_dex};
+use dex_reader::{DexFault, read_dex};
+use dex_tables::Dex;
 use std::alloc::Global;
 
 /// The one fault of the reader that a made file leaves.

@@ -1,8 +1,8 @@
 -- One more member of a class.
 use Rattle.std.proofs.Common.{◌≡◌, ℕ, ◌+◌, ◌-◌, ◌<◌, ◌≤◌, List, ◌++◌, length, drop, get_or, sym, ◌∙◌, append_assoc}
 use Rattle.std.proofs.lemmas.List.{append-nil, drop_all}
-use Rattle.dex_reader.specs.declared.dex.Member.{Member}
-use Rattle.dex_reader.specs.declared.dex.Body.{Body}
+use Rattle.dex_tables.specs.declared.dex.Member.{Member}
+use Rattle.dex_tables.specs.declared.dex.Body.{Body}
 use Rattle.dex_writer.specs.Bytes.{uleb_bytes}
 use Rattle.dex_writer.specs.Placed.{offset_of}
 use Rattle.dex_writer.specs.ClassData.{members_bytes, bodies_bytes, body_code}

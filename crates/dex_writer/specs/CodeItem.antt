@@ -1,8 +1,8 @@
 -- How a code item is spelled ("Dalvik executable format": code_item, try_item, encoded_catch_handler_list).
 use Rattle.std.specs.Prelude.{ℕ, ◌-◌, ◌%◌, List, [], ◌∷◌, ◌++◌, length, Option, Some, None, ◌==◌, if◌then◌else◌}
 use Rattle.std.specs.List.{flat_map}
-use Rattle.dex_reader.specs.declared.dex.RawTry.{RawTry}
-use Rattle.dex_reader.specs.declared.dex.RawCode.{RawCode}
+use Rattle.dex_tables.specs.declared.dex.RawTry.{RawTry}
+use Rattle.dex_tables.specs.declared.dex.RawCode.{RawCode}
 use Rattle.dex_writer.specs.Bytes.{u2_bytes, u4_bytes, uleb_bytes, padding_of}
 use Rattle.dex_writer.specs.Placed.{rows_of}
 

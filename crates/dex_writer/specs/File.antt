@@ -1,7 +1,7 @@
 -- How a file is spelled ("Dalvik executable format": header_item, string_id_item to class_def_item).
 use Rattle.std.specs.Prelude.{ℕ, ◌+◌, ◌*◌, List, [], ◌∷◌, ◌++◌, length, drop, slice_index, replicate, ◌≤◌, ◌==◌, if◌then◌else◌}
 use Rattle.std.specs.List.{flat_map}
-use Rattle.dex_reader.specs.declared.dex.ClassDef.{ClassDef}
+use Rattle.dex_tables.specs.declared.dex.ClassDef.{ClassDef}
 use Rattle.dex_writer.specs.declared.tables.Tables.{Tables}
 use Rattle.dex_writer.specs.Bytes.{u2_bytes, u4_bytes, string_item, type_list}
 use Rattle.dex_writer.specs.ClassData.{class_bytes, placed_row}

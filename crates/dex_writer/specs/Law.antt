@@ -1,6 +1,6 @@
 -- What is so of each id table and of each code item.
 use Rattle.std.specs.Prelude.{◌≡◌, ℕ, ◌<◌, ◌%◌, List, ◌++◌, length, Some, slice_get}
-use Rattle.dex_reader.specs.declared.dex.RawCode.{RawCode}
+use Rattle.dex_tables.specs.declared.dex.RawCode.{RawCode}
 use Rattle.dex_writer.specs.CodeItem.{try_items, handlers_bytes, code_item}
 use Rattle.dex_writer.specs.Rows.{place, with_row}
 use Rattle.dex_writer.specs.Tables.{list_cmp}

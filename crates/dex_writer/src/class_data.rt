@@ -6,7 +6,7 @@ ghost use Rattle.dex_writer.specs.ClassData.{members_bytes, maybe_code, body_cod
 
 use crate::bytes::{put_padding, put_type_list, put_u4, put_uleb};
 use crate::code_item::put_code;
-use dex_reader::{Body, ClassDef, Member, RawCode};
+use dex_tables::{Body, ClassDef, Member, RawCode};
 use std::alloc::Global;
 use vet_base::Memory;
 

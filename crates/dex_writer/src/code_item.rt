@@ -5,7 +5,7 @@ ghost use Rattle.dex_writer.specs.Placed.{rows_of};
 ghost use Rattle.dex_writer.specs.CodeItem.{pair_bytes, handler_size, catch_all_bytes, handler_bytes, try_bytes, handlers_bytes, try_items, before_tries, tries_bytes, code_head, code_item, code_bytes};
 
 use crate::bytes::{put_padding, put_u2, put_u4, put_uleb, put_units};
-use dex_reader::{RawCode, RawTry};
+use dex_tables::{RawCode, RawTry};
 use std::alloc::Global;
 use vet_base::Memory;
 

@@ -9,7 +9,7 @@ use crate::bytes::{put_string, put_type_list, put_u2, put_u4, put_u4s};
 use crate::class_data::{place_of, put_class};
 use crate::id_row::IdRow;
 use crate::tables::Tables;
-use dex_reader::ClassDef;
+use dex_tables::ClassDef;
 use std::alloc::Global;
 use vet_base::{Memory, Name};
 

@@ -18,11 +18,10 @@ use Rattle.fact_rows.specs.declared.site.Site.TheVariants.{Component}
 use Rattle.fact_rows.specs.declared.row.Row.{Row}
 use Rattle.fact_rows.specs.declared.row.Row.TheVariants.{Points, Taint, Back, StaticPoints, StaticTaint, CalledBy, Effect, MethodEffect, Live, CompTaint, Handed, HandedTaint}
 use Rattle.flow_rules.specs.Nodes.{at_pc}
-use Rattle.rule_ground.specs.declared.conclusion.Premises.TheVariants.{One, Two}
 use Rattle.rule_ground.specs.declared.conclusion.Conclusion.{Conclusion}
 use Rattle.rule_ground.specs.declared.key.Key.{Key}
 use Rattle.rule_ground.specs.declared.key.Key.TheVariants.{BacksOf, PointsOn, StaticsTo, HandedOf, EffectsOn, EffectsIn, CallersOf, MethodEffectsOf, MethodEffectsOn, LivesOf}
-use Rattle.rule_ground.specs.Given.{concludes}
+use Rattle.rule_ground.specs.Given.{of_one, of_two, concludes}
 
 -- the step at a node
 abbrev pub step_here : App → Node → Option Step
@@ -30,12 +29,12 @@ step_here app n = step_at app n.by.method n.pc
 
 -- 14. What holds the object is affected.
 abbrev pub lifts : Node → Site → Path → ℕ → Row → List Conclusion
-lifts n t p l (Back u k s) = concludes 14 (Two (Effect n t p l) (Back u k s)) (Effect n s (cut k p) l) ∷ []
+lifts n t p l (Back u k s) = concludes 14 (of_two (Effect n t p l) (Back u k s)) (Effect n s (cut k p) l) ∷ []
 lifts n t p l _ = []
 
 -- 15. So are the registers that hold it behind the step.
 abbrev pub spreads : Node → Site → Path → ℕ → Row → List Conclusion
-spreads n t p l (Points m z u) = concludes 15 (Two (Effect n t p l) (Points m z u)) (Taint m z p l) ∷ []
+spreads n t p l (Points m z u) = concludes 15 (of_two (Effect n t p l) (Points m z u)) (Taint m z p l) ∷ []
 spreads n t p l _ = []
 
 abbrev pub spread_to : (Key → List Row) → Node → Site → Path → ℕ → List ℕ → List Conclusion
@@ -47,21 +46,21 @@ spread_on (Some step) hits n t p l = spread_to hits n t p l step.next ++ spread_
 
 -- 18, 19. So are the statics that hold it, and what is handed.
 abbrev pub statics_hold : Node → Site → Path → ℕ → Row → List Conclusion
-statics_hold n t p l (StaticPoints g s) = concludes 18 (Two (Effect n t p l) (StaticPoints g s)) (StaticTaint g p l) ∷ []
+statics_hold n t p l (StaticPoints g s) = concludes 18 (of_two (Effect n t p l) (StaticPoints g s)) (StaticTaint g p l) ∷ []
 statics_hold n t p l _ = []
 
 abbrev pub is_handed : Node → Site → Path → ℕ → Row → List Conclusion
-is_handed n t p l (Handed s) = concludes 19 (Two (Effect n t p l) (Handed s)) (HandedTaint s p l) ∷ []
+is_handed n t p l (Handed s) = concludes 19 (of_two (Effect n t p l) (Handed s)) (HandedTaint s p l) ∷ []
 is_handed n t p l _ = []
 
 abbrev pub effect_gives : App → (Key → List Row) → Node → Site → Path → ℕ → List Conclusion
 effect_gives app hits n t p l =
-    concludes 16 (One (Effect n t p l)) (MethodEffect n.by t p l)
+    concludes 16 (of_one (Effect n t p l)) (MethodEffect n.by t p l)
     ∷ (flat_map (lifts n t p l) (hits (BacksOf t)) ++ (spread_on (step_here app n) hits n t p l ++ (flat_map (statics_hold n t p l) (hits (StaticsTo t)) ++ flat_map (is_handed n t p l) (hits (HandedOf t)))))
 
 -- The same from the other premise.
 abbrev pub back_lifts : Site → KeyId → Site → Row → List Conclusion
-back_lifts t k s (Effect n u p l) = concludes 14 (Two (Effect n u p l) (Back t k s)) (Effect n s (cut k p) l) ∷ []
+back_lifts t k s (Effect n u p l) = concludes 14 (of_two (Effect n u p l) (Back t k s)) (Effect n s (cut k p) l) ∷ []
 back_lifts t k s _ = []
 
 abbrev pub back_on : Option Step → ℕ → Conclusion → List Conclusion
@@ -69,24 +68,24 @@ back_on None pc c = []
 back_on (Some step) pc c = cond (holds step.next pc || holds step.catches pc) (c ∷ []) []
 
 abbrev pub points_take : App → Node → ℕ → Site → Row → List Conclusion
-points_take app m z s (Effect n u p l) = back_on (step_here app n) m.pc (concludes 15 (Two (Effect n u p l) (Points m z s)) (Taint m z p l))
+points_take app m z s (Effect n u p l) = back_on (step_here app n) m.pc (concludes 15 (of_two (Effect n u p l) (Points m z s)) (Taint m z p l))
 points_take app m z s _ = []
 
 abbrev pub static_takes : ℕ → Site → Row → List Conclusion
-static_takes g s (Effect n u p l) = concludes 18 (Two (Effect n u p l) (StaticPoints g s)) (StaticTaint g p l) ∷ []
+static_takes g s (Effect n u p l) = concludes 18 (of_two (Effect n u p l) (StaticPoints g s)) (StaticTaint g p l) ∷ []
 static_takes g s _ = []
 
 abbrev pub handed_takes : Site → Row → List Conclusion
-handed_takes s (Effect n u p l) = concludes 19 (Two (Effect n u p l) (Handed s)) (HandedTaint s p l) ∷ []
+handed_takes s (Effect n u p l) = concludes 19 (of_two (Effect n u p l) (Handed s)) (HandedTaint s p l) ∷ []
 handed_takes s _ = []
 
 -- 17.
 abbrev pub caller_has : Activation → Site → Path → ℕ → Row → List Conclusion
-caller_has b s p l (CalledBy c n) = concludes 17 (Two (MethodEffect b s p l) (CalledBy c n)) (Effect n s p l) ∷ []
+caller_has b s p l (CalledBy c n) = concludes 17 (of_two (MethodEffect b s p l) (CalledBy c n)) (Effect n s p l) ∷ []
 caller_has b s p l _ = []
 
 abbrev pub called_has : Activation → Node → Row → List Conclusion
-called_has b n (MethodEffect c s p l) = concludes 17 (Two (MethodEffect c s p l) (CalledBy b n)) (Effect n s p l) ∷ []
+called_has b n (MethodEffect c s p l) = concludes 17 (of_two (MethodEffect c s p l) (CalledBy b n)) (Effect n s p l) ∷ []
 called_has b n _ = []
 
 -- 20. To which state the event of the component leads.
@@ -100,7 +99,7 @@ state_in (Some component) e = state_of (slice_get (life_events component.kind) e
 
 abbrev pub own_to : Option ℕ → Activation → ℕ → Path → ℕ → List Conclusion
 own_to None b c p l = []
-own_to (Some to) b c p l = cond (to == 0) [] (concludes 20 (One (MethodEffect b (Component c) p l)) (CompTaint c to p l) ∷ [])
+own_to (Some to) b c p l = cond (to == 0) [] (concludes 20 (of_one (MethodEffect b (Component c) p l)) (CompTaint c to p l) ∷ [])
 
 abbrev pub own_gives : App → Ctx → Activation → ℕ → Path → ℕ → List Conclusion
 own_gives app (ctx.Row d e) b c p l = cond (d == c) (own_to (state_in (slice_get app.components c) e) b c p l) []
@@ -117,7 +116,7 @@ is_beside (ctx.Call m pc) c = false
 is_beside (ctx.Call2 m pc n qc) c = false
 
 abbrev pub stays : Activation → ℕ → Path → ℕ → Row → List Conclusion
-stays b c p l (Live d state) = cond (state == 0) [] (concludes 21 (Two (MethodEffect b (Component c) p l) (Live d state)) (CompTaint c state p l) ∷ [])
+stays b c p l (Live d state) = cond (state == 0) [] (concludes 21 (of_two (MethodEffect b (Component c) p l) (Live d state)) (CompTaint c state p l) ∷ [])
 stays b c p l _ = []
 
 abbrev pub component_gives : App → (Key → List Row) → Activation → Site → Path → ℕ → List Conclusion
@@ -128,7 +127,7 @@ abbrev pub method_gives : App → (Key → List Row) → Activation → Site →
 method_gives app hits b s p l = flat_map (caller_has b s p l) (hits (CallersOf b)) ++ component_gives app hits b s p l
 
 abbrev pub live_takes : ℕ → ℕ → Row → List Conclusion
-live_takes c state (MethodEffect b s p l) = cond (is_beside b.ctx c) (concludes 21 (Two (MethodEffect b s p l) (Live c state)) (CompTaint c state p l) ∷ []) []
+live_takes c state (MethodEffect b s p l) = cond (is_beside b.ctx c) (concludes 21 (of_two (MethodEffect b s p l) (Live c state)) (CompTaint c state p l) ∷ []) []
 live_takes c state _ = []
 
 abbrev pub live_gives : (Key → List Row) → ℕ → ℕ → List Conclusion

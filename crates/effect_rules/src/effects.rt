@@ -39,7 +39,7 @@ impl Join for Holders {
         match row {
             Row::Back(_, key, site) => out.put(Conclusion {
                 rule: 14,
-                premises: Premises::Two(self.0.row(), row),
+                premises: Premises::of_two(self.0.row(), row),
                 row: Row::Effect(self.0.node, site, cut(key, &self.0.path), self.0.label),
             }),
             _ => Ok(()),
@@ -60,7 +60,7 @@ impl Join for Registers {
         match row {
             Row::Points(node, register, _) => out.put(Conclusion {
                 rule: 15,
-                premises: Premises::Two(self.0.row(), row),
+                premises: Premises::of_two(self.0.row(), row),
                 row: Row::Taint(node, register, self.0.path, self.0.label),
             }),
             _ => Ok(()),
@@ -81,7 +81,7 @@ impl Join for Statics {
         match row {
             Row::StaticPoints(number, _) => out.put(Conclusion {
                 rule: 18,
-                premises: Premises::Two(self.0.row(), row),
+                premises: Premises::of_two(self.0.row(), row),
                 row: Row::StaticTaint(number, self.0.path, self.0.label),
             }),
             _ => Ok(()),
@@ -102,7 +102,7 @@ impl Join for Handed {
         match row {
             Row::Handed(site) => out.put(Conclusion {
                 rule: 19,
-                premises: Premises::Two(self.0.row(), row),
+                premises: Premises::of_two(self.0.row(), row),
                 row: Row::HandedTaint(site, self.0.path, self.0.label),
             }),
             _ => Ok(()),
@@ -164,7 +164,7 @@ pub fn affect<F: Facts, S: Sink>(
 {
     out.put(Conclusion {
         rule: 16,
-        premises: Premises::One(effect.row()),
+        premises: Premises::of_one(effect.row()),
         row: Row::MethodEffect(effect.node.by, effect.site, effect.path, effect.label),
     })?;
     for_each_hit(facts, &Key::BacksOf(effect.site), &Holders(effect), out)?;

@@ -38,7 +38,7 @@ impl Join for Callers {
         match row {
             Row::CalledBy(_, node) => out.put(Conclusion {
                 rule: 17,
-                premises: Premises::Two(self.0.row(), row),
+                premises: Premises::of_two(self.0.row(), row),
                 row: Row::Effect(node, self.0.site, self.0.path, self.0.label),
             }),
             _ => Ok(()),
@@ -62,7 +62,7 @@ impl Join for Called {
         match row {
             Row::MethodEffect(_, site, path, label) => out.put(Conclusion {
                 rule: 17,
-                premises: Premises::Two(row, Row::CalledBy(self.by, self.node)),
+                premises: Premises::of_two(row, Row::CalledBy(self.by, self.node)),
                 row: Row::Effect(self.node, site, path, label),
             }),
             _ => Ok(()),
@@ -119,7 +119,7 @@ fn comes_to<S: Sink>(to: Option<u8>, effect: ComponentEffect, out: &mut S) -> Re
             } else {
                 out.put(Conclusion {
                     rule: 20,
-                    premises: Premises::One(effect.row()),
+                    premises: Premises::of_one(effect.row()),
                     row: Row::CompTaint(effect.component, to, effect.path, effect.label),
                 })
             }
@@ -172,7 +172,7 @@ impl Join for States {
                 } else {
                     out.put(Conclusion {
                         rule: 21,
-                        premises: Premises::Two(self.0.row(), row),
+                        premises: Premises::of_two(self.0.row(), row),
                         row: Row::CompTaint(self.0.component, state, self.0.path, self.0.label),
                     })
                 }
@@ -243,7 +243,7 @@ impl Join for State {
                 if beside(by.ctx, self.component) {
                     out.put(Conclusion {
                         rule: 21,
-                        premises: Premises::Two(row, Row::Live(self.component, self.state)),
+                        premises: Premises::of_two(row, Row::Live(self.component, self.state)),
                         row: Row::CompTaint(self.component, self.state, path, label),
                     })
                 } else {

@@ -27,7 +27,7 @@ impl Join for Holder {
         match row {
             Row::Effect(node, _, path, label) => out.put(Conclusion {
                 rule: 14,
-                premises: Premises::Two(row, Row::Back(self.held, self.key, self.site)),
+                premises: Premises::of_two(row, Row::Back(self.held, self.key, self.site)),
                 row: Row::Effect(node, self.site, cut(self.key, &path), label),
             }),
             _ => Ok(()),
@@ -77,7 +77,10 @@ impl<'a> Join for Register<'a> {
             Row::Effect(node, _, path, label) => {
                 let found = Conclusion {
                     rule: 15,
-                    premises: Premises::Two(row, Row::Points(self.node, self.register, self.site)),
+                    premises: Premises::of_two(
+                        row,
+                        Row::Points(self.node, self.register, self.site),
+                    ),
                     row: Row::Taint(self.node, self.register, path, label),
                 };
                 comes(self.app, node, self.node.pc, found, out)
@@ -103,7 +106,7 @@ impl Join for Static {
         match row {
             Row::Effect(_, _, path, label) => out.put(Conclusion {
                 rule: 18,
-                premises: Premises::Two(row, Row::StaticPoints(self.number, self.site)),
+                premises: Premises::of_two(row, Row::StaticPoints(self.number, self.site)),
                 row: Row::StaticTaint(self.number, path, label),
             }),
             _ => Ok(()),
@@ -124,7 +127,7 @@ impl Join for HandedObject {
         match row {
             Row::Effect(_, _, path, label) => out.put(Conclusion {
                 rule: 19,
-                premises: Premises::Two(row, Row::Handed(self.0)),
+                premises: Premises::of_two(row, Row::Handed(self.0)),
                 row: Row::HandedTaint(self.0, path, label),
             }),
             _ => Ok(()),

@@ -21,10 +21,9 @@ use Rattle.fact_rows.specs.declared.row.Row.{Row}
 use Rattle.fact_rows.specs.declared.row.Row.TheVariants.{Live, CompTaint}
 use Rattle.flow_rules.specs.Nodes.{ArgumentRegister}
 use Rattle.flow_rules.specs.EventRules.{Begins, ComesToLive, by_callback, by_click}
-use Rattle.rule_ground.specs.declared.conclusion.Premises.TheVariants.{One}
 use Rattle.rule_ground.specs.declared.conclusion.Conclusion.{Conclusion}
 use Rattle.rule_ground.specs.Below.{in_below}
-use Rattle.rule_ground.specs.Given.{concludes, held}
+use Rattle.rule_ground.specs.Given.{of_one, concludes, held}
 use Rattle.rule_ground.specs.Listing.{itself}
 use Rattle.app_rows.specs.Application.{is_application, is_the_application}
 use Rattle.begin_rules.specs.declared.parameters.Start.{Start}
@@ -64,22 +63,22 @@ module _ (app : App) (lists : Lists) (events : EventsAreExact app lists) where
       (in_back x (leads_to w (standing_of w c life.from) life.to) (runs app (life_arrival (standing_of w c life.from)) (ctx.Row c e) body) i)
 
   pub life_leads : (c e : ℕ) (class : Name) (life : LifeEvent) (body : Option ℕ) → LifeEventAt app c e class life body →
-      In (concludes 40 (One (Live c life.from)) (Live c life.to)) (life_gives app (standing_of There c life.from))
-  life_leads c e class life body at = in_state There c e class life body at (concludes 40 (One (Live c life.from)) (Live c life.to)) (inl refl)
+      In (concludes 40 (of_one (Live c life.from)) (Live c life.to)) (life_gives app (standing_of There c life.from))
+  life_leads c e class life body at = in_state There c e class life body at (concludes 40 (of_one (Live c life.from)) (Live c life.to)) (inl refl)
 
   pub life_leads_label : (c e : ℕ) (p : Path) (l : ℕ) (class : Name) (life : LifeEvent) (body : Option ℕ) → LifeEventAt app c e class life body → life.to ≢ 0 →
-      In (concludes 41 (One (CompTaint c life.from p l)) (CompTaint c life.to p l)) (life_gives app (standing_of (Leads p l) c life.from))
+      In (concludes 41 (of_one (CompTaint c life.from p l)) (CompTaint c life.to p l)) (life_gives app (standing_of (Leads p l) c life.from))
   life_leads_label c e p l class life body at some =
-      let x = concludes 41 (One (CompTaint c life.from p l)) (CompTaint c life.to p l) in
+      let x = concludes 41 (of_one (CompTaint c life.from p l)) (CompTaint c life.to p l) in
       in_state (Leads p l) c e class life body at x (in_unless x (life.to == 0) (x ∷ []) (ne_eqb life.to 0 some) (inl refl))
 
   abbrev life_start : Known → ℕ → ℕ → LifeEvent → ℕ → Start
   life_start w c e life body = start_of (life_arrival (standing_of w c life.from)) (ctx.Row c e) body
 
   pub life_body_begins : (c e : ℕ) (class : Name) (life : LifeEvent) (body : ℕ) → LifeEventAt app c e class life (Some body) → (row : Row) →
-      Begins app (ctx.Row c e) body [] row → In (concludes 40 (One (Live c life.from)) row) (life_gives app (standing_of There c life.from))
+      Begins app (ctx.Row c e) body [] row → In (concludes 40 (of_one (Live c life.from)) row) (life_gives app (standing_of There c life.from))
   life_body_begins c e class life body at row begins =
-      in_body There c e class life (Some body) at (concludes 40 (One (Live c life.from)) row)
+      in_body There c e class life (Some body) at (concludes 40 (of_one (Live c life.from)) row)
       (object_begins app (life_start There c e life body) [] (Component c) row begins)
 
   pub life_body_receives : (w : Known) (c e z : ℕ) (class : Name) (life : LifeEvent) (body : ℕ) → LifeEventAt app c e class life (Some body) → ArgumentRegister app body 0 z →
@@ -107,9 +106,9 @@ module _ (app : App) (lists : Lists) (events : EventsAreExact app lists) where
       (subst (λ o. In x (runs app (present_arrival standing) (ctx.Click c j) o)) (sym ((events.clicked c j body).0 at)) i))
 
   pub present_begins : (c state : ℕ) (k : Ctx) (body : ℕ) (sources : List (ℕ × ℕ)) → ComesToLive app lists c k body sources → (row : Row) →
-      Begins app k body sources row → In (concludes 42 (One (Live c state)) row) (present_gives app lists (standing_of There c state))
+      Begins app k body sources row → In (concludes 42 (of_one (Live c state)) row) (present_gives app lists (standing_of There c state))
   present_begins c state k body sources comes row begins =
-      in_present There c state k body sources comes (concludes 42 (One (Live c state)) row)
+      in_present There c state k body sources comes (concludes 42 (of_one (Live c state)) row)
       (object_begins app (present_start There c state k body) sources (Component c) row begins)
 
   pub present_receives : (w : Known) (c state z : ℕ) (k : Ctx) (body : ℕ) (sources : List (ℕ × ℕ)) → ComesToLive app lists c k body sources → ArgumentRegister app body 0 z →
@@ -151,17 +150,17 @@ module _ (app : App) (lists : Lists) (events : EventsAreExact app lists) where
 
   -- 44
   pub absent_begins : (c body : ℕ) → In body (component_initialisers app c) → (row : Row) → Begins app (ctx.Init c) body [] row →
-      In (concludes 44 (One (Live c 0)) row) (live_gives app lists c 0)
+      In (concludes 44 (of_one (Live c 0)) row) (live_gives app lists c 0)
   absent_begins c body i row begins =
-      let x = concludes 44 (One (Live c 0)) row in
+      let x = concludes 44 (of_one (Live c 0)) row in
       in_rest c 0 x (in_flat (initialiser_begins app c) (component_initialisers app c) body x i
-      (begins_complete app (record { rule = 44; premises = One (Live c 0); ctx = ctx.Init c; body = body }) [] row begins))
+      (begins_complete app (record { rule = 44; premises = of_one (Live c 0); ctx = ctx.Init c; body = body }) [] row begins))
 
   -- 47
   pub other_begins : (a c : ℕ) (component : ComponentOf) → IsApplication app a → slice_get app.components c ≡ Some component → c ≢ a →
-      In (concludes 47 (One (Live a 2)) (Live c 0)) (live_gives app lists a 2)
+      In (concludes 47 (of_one (Live a 2)) (Live c 0)) (live_gives app lists a 2)
   other_begins a c component is there other =
-      let x = concludes 47 (One (Live a 2)) (Live c 0) in
+      let x = concludes 47 (of_one (Live a 2)) (Live c 0) in
       in_live_created a x (in_where x (is_application (slice_get app.components a)) (others_live app a) (is_the_application app a is)
       (in_below x (other_lives a) c (length app.components) (slice_get_within app.components c component there)
       (in_unless x (c == a) (x ∷ []) (ne_eqb c a other) (inl refl))))

@@ -17,7 +17,6 @@ use Rattle.fact_rows.specs.declared.row.Row.{Row}
 use Rattle.fact_rows.specs.declared.row.Row.TheVariants.{Reached, ExitPoints, ExitTaint, Live, CompTaint, Handed, HandedTaint}
 use Rattle.flow_rules.specs.Nodes.{entry}
 use Rattle.flow_rules.specs.Sites.{site_class}
-use Rattle.rule_ground.specs.declared.conclusion.Premises.TheVariants.{One, Two}
 use Rattle.rule_ground.specs.declared.conclusion.Conclusion.{Conclusion}
 use Rattle.rule_ground.specs.declared.content.Content.{Content}
 use Rattle.rule_ground.specs.declared.content.Content.TheVariants.{Object, Label}
@@ -25,7 +24,7 @@ use Rattle.rule_ground.specs.declared.key.Key.{Key}
 use Rattle.rule_ground.specs.declared.key.Key.TheVariants.{EventEntries, ExitPointsOf, ExitTaintsOf}
 use Rattle.rule_ground.specs.Asking.{asks}
 use Rattle.rule_ground.specs.Below.{for_below}
-use Rattle.rule_ground.specs.Given.{concludes}
+use Rattle.rule_ground.specs.Given.{of_one, of_two, concludes}
 use Rattle.app_rows.specs.Application.{is_application}
 use Rattle.begin_rules.specs.declared.parameters.Start.{Start}
 use Rattle.begin_rules.specs.BeginGiven.{begins, enters}
@@ -68,16 +67,16 @@ life_rule (Leads p l) = 41
 abbrev pub life_arrival : Standing → Arrival
 life_arrival standing = record {
   rule = life_rule standing.known;
-  premises = One (live_as standing.known standing.component standing.state);
+  premises = of_one (live_as standing.known standing.component standing.state);
   content = content_of standing.known (Component standing.component);
 }
 
 abbrev pub leads_to : Known → Standing → ℕ → List Conclusion
 leads_to There standing to =
-    concludes (life_rule standing.known) (One (live_as standing.known standing.component standing.state)) (live_as standing.known standing.component to) ∷ []
+    concludes (life_rule standing.known) (of_one (live_as standing.known standing.component standing.state)) (live_as standing.known standing.component to) ∷ []
 leads_to (Leads p l) standing to =
     cond (to == 0) []
-    (concludes (life_rule standing.known) (One (live_as standing.known standing.component standing.state)) (live_as standing.known standing.component to) ∷ [])
+    (concludes (life_rule standing.known) (of_one (live_as standing.known standing.component standing.state)) (live_as standing.known standing.component to) ∷ [])
 
 abbrev pub by_life : App → Standing → ℕ → Option (Name × LifeEvent × Option ℕ) → List Conclusion
 by_life app standing e None = []
@@ -102,7 +101,7 @@ life_gives app standing = for_below (event_gives app standing) (event_count app 
 abbrev pub present_arrival : Standing → Arrival
 present_arrival standing = record {
   rule = 42;
-  premises = One (live_as standing.known standing.component standing.state);
+  premises = of_one (live_as standing.known standing.component standing.state);
   content = content_of standing.known (Component standing.component);
 }
 
@@ -124,14 +123,14 @@ present_gives app lists standing = callbacks_give app lists standing ++ clicks_g
 
 -- 44. The initialisers of a component that is not there.
 abbrev pub initialiser_begins : App → ℕ → ℕ → List Conclusion
-initialiser_begins app c body = begins app (record { rule = 44; premises = One (Live c 0); ctx = ctx.Init c; body = body }) []
+initialiser_begins app c body = begins app (record { rule = 44; premises = of_one (Live c 0); ctx = ctx.Init c; body = body }) []
 
 abbrev pub absent_gives : App → ℕ → List Conclusion
 absent_gives app c = flat_map (initialiser_begins app c) (component_initialisers app c)
 
 -- 47. The other components, once the application was created.
 abbrev pub other_lives : ℕ → ℕ → List Conclusion
-other_lives a c = cond (c == a) [] (concludes 47 (One (Live a 2)) (Live c 0) ∷ [])
+other_lives a c = cond (c == a) [] (concludes 47 (of_one (Live a 2)) (Live c 0) ∷ [])
 
 abbrev pub others_live : App → ℕ → List Conclusion
 others_live app a = for_below (other_lives a) (length app.components)
@@ -153,7 +152,7 @@ comp_taint_gives app lists standing = cond (standing.state == 0) [] (life_gives 
 
 -- 43. Callbacks on handed objects.
 abbrev pub handed_arrival : HandedObject → Arrival
-handed_arrival object = record { rule = 43; premises = One (handed_as object.known object.site); content = content_of object.known object.site }
+handed_arrival object = record { rule = 43; premises = of_one (handed_as object.known object.site); content = content_of object.known object.site }
 
 abbrev pub handed_callback_gives : App → Lists → HandedObject → Name → ℕ → List Conclusion
 handed_callback_gives app lists object class q = is_called app (handed_arrival object) (ctx.Handed q) (handed_callback app lists q class)
@@ -173,7 +172,7 @@ abbrev pub hands_over : Activation → ℕ → Bool
 hands_over b how = how == 0 && asks EventEntries (Reached (entry b))
 
 abbrev pub exit_leads : Activation → Site → Path → ℕ → Conclusion
-exit_leads b s p l = concludes 46 (Two (ExitPoints b 0 s) (ExitTaint b 0 p l)) (HandedTaint s p l)
+exit_leads b s p l = concludes 46 (of_two (ExitPoints b 0 s) (ExitTaint b 0 p l)) (HandedTaint s p l)
 
 abbrev pub exit_is : Activation → Site → Row → List Conclusion
 exit_is b s (ExitTaint c how p l) = exit_leads b s p l ∷ []
@@ -185,7 +184,7 @@ exit_taints b p l _ = []
 
 abbrev pub exit_points_give : (Key → List Row) → Activation → ℕ → Site → List Conclusion
 exit_points_give hits b how s =
-    cond (hands_over b how) (concludes 46 (One (ExitPoints b 0 s)) (Handed s) ∷ flat_map (exit_is b s) (hits (ExitTaintsOf b 0))) []
+    cond (hands_over b how) (concludes 46 (of_one (ExitPoints b 0 s)) (Handed s) ∷ flat_map (exit_is b s) (hits (ExitTaintsOf b 0))) []
 
 abbrev pub exit_taint_gives : (Key → List Row) → Activation → ℕ → Path → ℕ → List Conclusion
 exit_taint_gives hits b how p l = cond (hands_over b how) (flat_map (exit_taints b p l) (hits (ExitPointsOf b 0))) []

@@ -13,12 +13,11 @@ use Rattle.fact_rows.specs.declared.row.Row.TheVariants.{Reached, Handed, Handed
 use Rattle.flow_rules.specs.Nodes.{entry}
 use Rattle.flow_rules.specs.Sites.{site_class}
 use Rattle.rule_ground.specs.declared.conclusion.Premises.{Premises}
-use Rattle.rule_ground.specs.declared.conclusion.Premises.TheVariants.{Two, Three}
 use Rattle.rule_ground.specs.declared.conclusion.Conclusion.{Conclusion}
 use Rattle.rule_ground.specs.declared.key.Key.{Key}
 use Rattle.rule_ground.specs.declared.key.Key.TheVariants.{AnyHanded, EventEntries, HandedOf, HandedTaintsOf}
 use Rattle.rule_ground.specs.Below.{for_below}
-use Rattle.rule_ground.specs.Given.{concludes, held}
+use Rattle.rule_ground.specs.Given.{of_two, of_three, concludes, held}
 use Rattle.event_rules.specs.declared.known.Known.{Known}
 use Rattle.event_rules.specs.declared.known.Known.TheVariants.{There, Leads}
 use Rattle.event_rules.specs.declared.handed.HandedObject.{HandedObject}
@@ -38,8 +37,8 @@ takes app lists class None = false
 takes app lists class (Some type) = is_reference type && is_below app lists class type
 
 abbrev pub premises_as : Known → Activation → Site → Premises
-premises_as There b s = Two (Reached (entry b)) (Handed s)
-premises_as (Leads p l) b s = Three (Reached (entry b)) (Handed s) (HandedTaint s p l)
+premises_as There b s = of_two (Reached (entry b)) (Handed s)
+premises_as (Leads p l) b s = of_three (Reached (entry b)) (Handed s) (HandedTaint s p l)
 
 abbrev pub back_premises : HandedObject → Activation → Premises
 back_premises object b = premises_as object.known b object.site

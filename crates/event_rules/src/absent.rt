@@ -17,7 +17,7 @@ fn initialise<S: Sink>(app: &App, component: u32, body: u32, out: &mut S) -> Res
 {
     let start = Start {
         rule: 44,
-        premises: Premises::One(Row::Live(component, 0)),
+        premises: Premises::of_one(Row::Live(component, 0)),
         ctx: Ctx::Init(component),
         body,
     };

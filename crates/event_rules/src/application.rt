@@ -25,7 +25,7 @@ fn other<S: Sink>(application: u32, component: u32, out: &mut S) -> Result<(), S
     }
     out.put(Conclusion {
         rule: 47,
-        premises: Premises::One(Row::Live(application, 2)),
+        premises: Premises::of_one(Row::Live(application, 2)),
         row: Row::Live(component, 0),
     })
 }

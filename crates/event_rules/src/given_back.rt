@@ -52,8 +52,8 @@ fn premises(object: HandedObject, by: Activation) -> Premises
     let reached = Row::Reached(entry(by));
     let handed = Row::Handed(object.site);
     match object.known {
-        Known::There => Premises::Two(reached, handed),
-        Known::Leads(_, _) => Premises::Three(reached, handed, object.known.handed(object.site)),
+        Known::There => Premises::of_two(reached, handed),
+        Known::Leads(_, _) => Premises::of_three(reached, handed, object.known.handed(object.site)),
     }
 }
 

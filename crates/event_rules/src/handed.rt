@@ -27,7 +27,7 @@ fn arrival(object: HandedObject) -> Arrival
 {
     Arrival {
         rule: 43,
-        premises: Premises::One(object.known.handed(object.site)),
+        premises: Premises::of_one(object.known.handed(object.site)),
         content: object.known.content(object.site),
     }
 }

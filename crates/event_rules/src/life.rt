@@ -33,7 +33,7 @@ fn arrival(standing: &Standing) -> Arrival
 {
     Arrival {
         rule: rule_of(standing.known),
-        premises: Premises::One(standing.known.live(standing.component, standing.state)),
+        premises: Premises::of_one(standing.known.live(standing.component, standing.state)),
         content: standing.known.content(Site::Component(standing.component)),
     }
 }
@@ -44,7 +44,7 @@ fn lead<S: Sink>(standing: &Standing, to: u8, out: &mut S) -> Result<(), S::Refu
 {
     let found = Conclusion {
         rule: rule_of(standing.known),
-        premises: Premises::One(standing.known.live(standing.component, standing.state)),
+        premises: Premises::of_one(standing.known.live(standing.component, standing.state)),
         row: standing.known.live(standing.component, to),
     };
     match standing.known {

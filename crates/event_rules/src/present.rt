@@ -17,7 +17,7 @@ fn arrival(standing: &Standing) -> Arrival
 {
     Arrival {
         rule: 42,
-        premises: Premises::One(standing.known.live(standing.component, standing.state)),
+        premises: Premises::of_one(standing.known.live(standing.component, standing.state)),
         content: standing.known.content(Site::Component(standing.component)),
     }
 }

@@ -19,7 +19,7 @@ fn leads(by: Activation, site: Site, path: Path, label: u8) -> Conclusion
 {
     Conclusion {
         rule: 46,
-        premises: Premises::Two(
+        premises: Premises::of_two(
             Row::ExitPoints(by, RETURNING, site),
             Row::ExitTaint(by, RETURNING, path, label),
         ),
@@ -60,7 +60,7 @@ pub fn hand_over<F: Facts, S: Sink>(
     if hands_over(by, how) {
         out.put(Conclusion {
             rule: 46,
-            premises: Premises::One(Row::ExitPoints(by, RETURNING, site)),
+            premises: Premises::of_one(Row::ExitPoints(by, RETURNING, site)),
             row: Row::Handed(site),
         })?;
         for_each_hit(

@@ -2,7 +2,8 @@
 #![tactic(auto)]
 
 use dex_code::{CodeFault, Counts, Insn, decode};
-use dex_reader::{Body, Dex, read_dex};
+use dex_reader::read_dex;
+use dex_tables::{Body, Dex};
 use std::alloc::Global;
 use std::env::Env;
 use std::fs::File;

@@ -1,4 +1,4 @@
-use cert_checker::TableDefect;
+use cert_checker::{RowDefect, TableDefect};
 use fact_rows::Row;
 use rule_ground::Conclusion;
 use std::io;
@@ -11,8 +11,10 @@ pub fn say<R: Print + AllocGlobal>(
 ) -> io::Result<()> {
     match said {
         Ok(()) => println!(rt; "{what}: good"),
-        Err(TableDefect::Stranger(row)) => println!(rt; "{what}: stranger {row:?}"),
-        Err(TableDefect::NoStart(row)) => println!(rt; "{what}: missing start {row:?}"),
+        Err(TableDefect::At(RowDefect::Stranger, row)) => println!(rt; "{what}: stranger {row:?}"),
+        Err(TableDefect::At(RowDefect::NoStart, row)) => println!(rt;
+            "{what}: missing start {row:?}"
+        ),
         Err(TableDefect::NotClosed(found)) => {
             let (row, rule) = (found.row, found.rule);
             println!(rt; "{what}: missing consequence {row:?} by rule {rule}")

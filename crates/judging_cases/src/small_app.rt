@@ -6,7 +6,8 @@ ghost use Rattle.office_forms.specs.Sound.{SoundLayouts, SoundManifest};
 
 use app_link::link;
 use app_model::{App, Layouts, Lists, Manifest};
-use dex_reader::{Dex, read_dex};
+use dex_reader::read_dex;
+use dex_tables::Dex;
 use office_forms::{read_layouts, read_lists, read_manifest};
 use std::alloc::Global;
 

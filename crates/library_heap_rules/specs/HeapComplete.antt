@@ -16,12 +16,11 @@ use Rattle.fact_rows.specs.declared.site.Site.TheVariants.{Shared as SharedSite}
 use Rattle.fact_rows.specs.declared.row.Row.{Row}
 use Rattle.fact_rows.specs.declared.row.Row.TheVariants.{Points, Taint, Cell, StaticPoints, Effect, Uses}
 use Rattle.flow_rules.specs.LibraryRules.{RowAt, places_of}
-use Rattle.rule_ground.specs.declared.conclusion.Premises.TheVariants.{One, Two, Three, Four}
 use Rattle.rule_ground.specs.declared.conclusion.Conclusion.{Conclusion}
 use Rattle.rule_ground.specs.declared.content.Content.{Content}
 use Rattle.rule_ground.specs.declared.content.Content.TheVariants.{Object, Label}
 use Rattle.rule_ground.specs.declared.key.Key.{Key}
-use Rattle.rule_ground.specs.Given.{concludes, held, stored}
+use Rattle.rule_ground.specs.Given.{of_one, of_two, of_three, of_four, concludes, held, stored}
 use Rattle.rule_ground.specs.Hits.{IsHits}
 use Rattle.rule_ground.specs.Listing.{itself}
 use Rattle.library_ground.specs.declared.pins.Pins.{Pins}
@@ -62,9 +61,9 @@ module _ (app : App) (lists : Lists) (has : Row → Type 0) (hits : Key → List
     -- 37
     pub put_in : (v : Content) (j o : ℕ) (s : Site) → In (i, j) r.row.puts → IsAt (places_of r) j o → has (Points n o s) → has (held v n x) →
         IsThat pins.object (Points n o s) → IsThat pins.value (held v n x) → is_some pins.cell ≡ false →
-        In (concludes 37 (Three (Uses n u) (Points n o s) (held v n x)) (stored v n s elem_key)) given
+        In (concludes 37 (of_three (Uses n u) (Points n o s) (held v n x)) (stored v n s elem_key)) given
     put_in v j o s m to hs h takes same fc =
-        let k = concludes 37 (Three (Uses n u) (Points n o s) (held v n x)) (stored v n s elem_key) in
+        let k = concludes 37 (of_three (Uses n u) (Points n o s) (held v n x)) (stored v n s elem_key) in
         in_writes k v same fc
         (in_front k (pairs_from i (put_gives hits pins c x) r.row.puts) (cond (is_some pins.object) [] (pairs_from i (store_gives hits pins c x) r.row.stores))
         (pairs_in k i j (put_gives hits pins c x) r.row.puts m
@@ -79,9 +78,9 @@ module _ (app : App) (lists : Lists) (has : Row → Type 0) (hits : Key → List
 
     -- 38
     pub store_in : (v : Content) (g : ℕ) → In (i, g) r.row.stores → has (held v n x) → IsThat pins.value (held v n x) → is_some pins.object ≡ false →
-        is_some pins.cell ≡ false → In (concludes 38 (Two (Uses n u) (held v n x)) (stored v n (SharedSite g) elem_key)) given
+        is_some pins.cell ≡ false → In (concludes 38 (of_two (Uses n u) (held v n x)) (stored v n (SharedSite g) elem_key)) given
     store_in v g m h same fo fc =
-        let k = concludes 38 (Two (Uses n u) (held v n x)) (stored v n (SharedSite g) elem_key) in
+        let k = concludes 38 (of_two (Uses n u) (held v n x)) (stored v n (SharedSite g) elem_key) in
         let stores : List Conclusion = pairs_from i (store_gives hits pins c x) r.row.stores in
         in_writes k v same fc
         (in_back k (pairs_from i (put_gives hits pins c x) r.row.puts) (cond (is_some pins.object) [] stores)
@@ -102,18 +101,18 @@ module _ (app : App) (lists : Lists) (has : Row → Type 0) (hits : Key → List
 
     pub copy_in : (j o : ℕ) (s t v : Site) → In (i, j) r.row.copies → IsAt (places_of r) j o → has (Points n x s) → has (Cell s elem_key t) →
         has (Points n o v) → IsThat pins.value (Points n x s) → IsThat pins.cell (Cell s elem_key t) → IsThat pins.object (Points n o v) →
-        In (concludes 39 (Four (Uses n u) (Points n x s) (Cell s elem_key t) (Points n o v)) (Cell v elem_key t)) given
+        In (concludes 39 (of_four (Uses n u) (Points n x s) (Cell s elem_key t) (Points n o v)) (Cell v elem_key t)) given
     copy_in j o s t v m to h ht hv same holds takes =
-        let k = concludes 39 (Four (Uses n u) (Points n x s) (Cell s elem_key t) (Points n o v)) (Cell v elem_key t) in
+        let k = concludes 39 (of_four (Uses n u) (Points n x s) (Cell s elem_key t) (Points n o v)) (Cell v elem_key t) in
         in_copies k (Object s) j o v m to takes h same
         (in_elements has hits law pins.cell k (copy_element hits pins.object c o (Points n x s)) s t ht holds
         (in_objects has hits law pins.object k (copy_into c (Points n x s) (Cell s elem_key t) t) n o v hv takes (inl refl)))
 
     pub copy_label_in : (j o : ℕ) (v : Site) (p q : Path) (l : ℕ) → In (i, j) r.row.copies → IsAt (places_of r) j o → rest p elem_key ≡ Some q →
         has (Taint n x p l) → has (Points n o v) → IsThat pins.value (Taint n x p l) → IsThat pins.object (Points n o v) → is_some pins.cell ≡ false →
-        In (concludes 39 (Three (Uses n u) (Taint n x p l) (Points n o v)) (Effect n v (cut elem_key q) l)) given
+        In (concludes 39 (of_three (Uses n u) (Taint n x p l) (Points n o v)) (Effect n v (cut elem_key q) l)) given
     copy_label_in j o v p q l m to left h hv same takes fc =
-        let k = concludes 39 (Three (Uses n u) (Taint n x p l) (Points n o v)) (Effect n v (cut elem_key q) l) in
+        let k = concludes 39 (of_three (Uses n u) (Taint n x p l) (Points n o v)) (Effect n v (cut elem_key q) l) in
         in_copies k (Label p l) j o v m to takes h same
         (in_unless k (is_some pins.cell) (copy_rest hits pins.object c o (Taint n x p l) l (rest p elem_key)) fc
         (subst (λ z. In k (copy_rest hits pins.object c o (Taint n x p l) l z)) (sym left)
@@ -121,8 +120,8 @@ module _ (app : App) (lists : Lists) (has : Row → Type 0) (hits : Key → List
 
   -- 38, of the static
   pub filled_in : AllFree pins → (i g : ℕ) → In (i, g) r.row.stores →
-      In (concludes 38 (One (Uses n u)) (StaticPoints (shared_static app g) (SharedSite g))) given
+      In (concludes 38 (of_one (Uses n u)) (StaticPoints (shared_static app g) (SharedSite g))) given
   filled_in free i g m =
-      let k = concludes 38 (One (Uses n u)) (StaticPoints (shared_static app g) (SharedSite g)) in
+      let k = concludes 38 (of_one (Uses n u)) (StaticPoints (shared_static app g) (SharedSite g)) in
       in_back k (at_places (at_position hits pins c) 0 c.places) (cond (are_free pins) (statics_filled app c) [])
       (in_where k (are_free pins) (statics_filled app c) (of_free pins free) (in_map (static_filled app c) r.row.stores (i, g) m))

@@ -10,14 +10,13 @@ use Rattle.fact_rows.specs.declared.site.Site.{Site}
 use Rattle.fact_rows.specs.declared.site.Site.TheVariants.{Shared as SharedSite}
 use Rattle.fact_rows.specs.declared.row.Row.{Row}
 use Rattle.fact_rows.specs.declared.row.Row.TheVariants.{Points, Taint, Cell, StaticPoints, Effect, Uses}
-use Rattle.rule_ground.specs.declared.conclusion.Premises.TheVariants.{One, Two, Three, Four}
 use Rattle.rule_ground.specs.declared.conclusion.Conclusion.{Conclusion}
 use Rattle.rule_ground.specs.declared.content.Content.{Content}
 use Rattle.rule_ground.specs.declared.content.Content.TheVariants.{Object, Label}
 use Rattle.rule_ground.specs.declared.key.Key.{Key}
 use Rattle.rule_ground.specs.declared.key.Key.TheVariants.{PointsAt, CellsOf}
 use Rattle.rule_ground.specs.Candidates.{candidates}
-use Rattle.rule_ground.specs.Given.{concludes, held, stored}
+use Rattle.rule_ground.specs.Given.{of_one, of_two, of_three, of_four, concludes, held, stored}
 use Rattle.library_ground.specs.declared.pins.Pins.{Pins}
 use Rattle.library_ground.specs.CallRow.{CallRow}
 use Rattle.library_ground.specs.Pinning.{are_free, may_stand, values_give}
@@ -29,7 +28,7 @@ pairs_from i f pairs = flat_map (λ (pair : ℕ × ℕ). cond (pair.0 == i) (f p
 
 -- 37. Each object of register o is one that holds the value of register x.
 abbrev pub put_into : CallRow → ℕ → Content → Row → List Conclusion
-put_into c x v (Points m y s) = concludes 37 (Three (Uses c.node c.uses) (Points m y s) (held v c.node x)) (stored v c.node s elem_key) ∷ []
+put_into c x v (Points m y s) = concludes 37 (of_three (Uses c.node c.uses) (Points m y s) (held v c.node x)) (stored v c.node s elem_key) ∷ []
 put_into c x v _ = []
 
 abbrev pub put_content : (Key → List Row) → Option Row → CallRow → ℕ → ℕ → Content → List Conclusion
@@ -49,7 +48,7 @@ put_gives hits pins c x j = put_at hits pins c x (slice_get c.places j)
 
 -- 38. The shared object holds the value of register x, and its static holds the object.
 abbrev pub store_content : CallRow → ℕ → ℕ → Content → List Conclusion
-store_content c x g v = concludes 38 (Two (Uses c.node c.uses) (held v c.node x)) (stored v c.node (SharedSite g) elem_key) ∷ []
+store_content c x g v = concludes 38 (of_two (Uses c.node c.uses) (held v c.node x)) (stored v c.node (SharedSite g) elem_key) ∷ []
 
 abbrev pub store_row : CallRow → ℕ → ℕ → Row → List Conclusion
 store_row c x g (Points m y t) = store_content c x g (Object t)
@@ -60,14 +59,14 @@ abbrev pub store_gives : (Key → List Row) → Pins → CallRow → ℕ → ℕ
 store_gives hits pins c x g = values_give hits pins.value c.node x (store_row c x g)
 
 abbrev pub static_filled : App → CallRow → ℕ × ℕ → Conclusion
-static_filled app c store = concludes 38 (One (Uses c.node c.uses)) (StaticPoints (shared_static app store.1) (SharedSite store.1))
+static_filled app c store = concludes 38 (of_one (Uses c.node c.uses)) (StaticPoints (shared_static app store.1) (SharedSite store.1))
 
 abbrev pub statics_filled : App → CallRow → List Conclusion
 statics_filled app c = map (static_filled app c) c.row.stores
 
 -- 39. Each object of register o holds what an object of register x holds as an element.
 abbrev pub copy_into : CallRow → Row → Row → Site → Row → List Conclusion
-copy_into c from cell t (Points m y v) = concludes 39 (Four (Uses c.node c.uses) from cell (Points m y v)) (Cell v elem_key t) ∷ []
+copy_into c from cell t (Points m y v) = concludes 39 (of_four (Uses c.node c.uses) from cell (Points m y v)) (Cell v elem_key t) ∷ []
 copy_into c from cell t _ = []
 
 abbrev pub copy_element : (Key → List Row) → Option Row → CallRow → ℕ → Row → Row → List Conclusion
@@ -75,7 +74,7 @@ copy_element hits object c o from (Cell s k t) = flat_map (copy_into c from (Cel
 copy_element hits object c o from _ = []
 
 abbrev pub label_into : CallRow → Row → Path → ℕ → Row → List Conclusion
-label_into c label q l (Points m y v) = concludes 39 (Three (Uses c.node c.uses) label (Points m y v)) (Effect c.node v (cut elem_key q) l) ∷ []
+label_into c label q l (Points m y v) = concludes 39 (of_three (Uses c.node c.uses) label (Points m y v)) (Effect c.node v (cut elem_key q) l) ∷ []
 label_into c label q l _ = []
 
 abbrev pub copy_rest : (Key → List Row) → Option Row → CallRow → ℕ → Row → ℕ → Option Path → List Conclusion

@@ -27,7 +27,7 @@ impl<'a> Join for ElementInto<'a> {
         match row {
             Row::Points(_, _, site) => out.put(Conclusion {
                 rule: 39,
-                premises: Premises::Four(self.call.premise(), self.from, self.cell, row),
+                premises: Premises::of_four(self.call.premise(), self.from, self.cell, row),
                 row: Row::Cell(site, ELEMENT, self.held),
             }),
             _ => Ok(()),
@@ -85,7 +85,7 @@ impl<'a> Join for LabelInto<'a> {
         match row {
             Row::Points(_, _, site) => out.put(Conclusion {
                 rule: 39,
-                premises: Premises::Three(self.call.premise(), self.from, row),
+                premises: Premises::of_three(self.call.premise(), self.from, row),
                 row: Row::Effect(self.call.node, site, cut(ELEMENT, &self.path), self.label),
             }),
             _ => Ok(()),

@@ -28,7 +28,7 @@ impl<'a> Join for IntoObject<'a> {
         match row {
             Row::Points(_, _, site) => out.put(Conclusion {
                 rule: 37,
-                premises: Premises::Three(
+                premises: Premises::of_three(
                     self.call.premise(),
                     row,
                     self.content.held(node, self.register),

@@ -22,7 +22,7 @@ fn store<S: Sink>(
 {
     out.put(Conclusion {
         rule: 38,
-        premises: Premises::Two(call.premise(), content.held(call.node, register)),
+        premises: Premises::of_two(call.premise(), content.held(call.node, register)),
         row: content.stored(call.node, Site::Shared(number), ELEMENT),
     })
 }
@@ -107,7 +107,7 @@ fn fill_each<S: Sink>(
     for store in stores {
         out.put(Conclusion {
             rule: 38,
-            premises: Premises::One(call.premise()),
+            premises: Premises::of_one(call.premise()),
             row: Row::StaticPoints(shared_static(app, store.1), Site::Shared(store.1)),
         })?;
     }

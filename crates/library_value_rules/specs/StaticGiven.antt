@@ -13,7 +13,7 @@ use Rattle.app_parts.specs.declared.summary_view.CallResult.TheVariants as resul
 use Rattle.app_parts.specs.Views.{call_result}
 use Rattle.fact_rows.specs.declared.row.Row.{Row}
 use Rattle.fact_rows.specs.declared.row.Row.TheVariants.{StaticTaint, Uses}
-use Rattle.rule_ground.specs.declared.conclusion.Premises.TheVariants.{Two}
+use Rattle.rule_ground.specs.Given.{of_two}
 use Rattle.rule_ground.specs.declared.conclusion.Conclusion.{Conclusion}
 use Rattle.rule_ground.specs.declared.content.Content.TheVariants.{Label}
 use Rattle.rule_ground.specs.declared.key.Key.{Key}
@@ -30,7 +30,7 @@ is_shared_of app g _ = false
 abbrev pub static_call : App → ℕ → Path → ℕ → Option CallRow → List Conclusion
 static_call app g p l None = []
 static_call app g p l (Some c) =
-    cond (has_result c) (cond (is_shared_of app g (call_result c.row.gives)) (results 36 (Two (Uses c.node c.uses) (StaticTaint g p l)) (Label p l) c) []) []
+    cond (has_result c) (cond (is_shared_of app g (call_result c.row.gives)) (results 36 (of_two (Uses c.node c.uses) (StaticTaint g p l)) (Label p l) c) []) []
 
 abbrev pub static_user : App → Lists → ℕ → Path → ℕ → Row → List Conclusion
 static_user app lists g p l (Uses n u) = static_call app g p l (call_row app lists n u)

@@ -24,14 +24,13 @@ use Rattle.fact_rows.specs.declared.row.Row.TheVariants.{Points, Taint, Cell, St
 use Rattle.flow_rules.specs.Nodes.{at_pc, GoesOn}
 use Rattle.flow_rules.specs.LibraryRules.{RowAt, places_of, HasResult, HasReference}
 use Rattle.rule_ground.specs.declared.conclusion.Premises.{Premises}
-use Rattle.rule_ground.specs.declared.conclusion.Premises.TheVariants.{One, Two, Three}
 use Rattle.rule_ground.specs.declared.conclusion.Conclusion.{Conclusion}
 use Rattle.rule_ground.specs.declared.content.Content.{Content}
 use Rattle.rule_ground.specs.declared.content.Content.TheVariants.{Object, Label}
 use Rattle.rule_ground.specs.declared.key.Key.{Key}
 use Rattle.rule_ground.specs.declared.key.Key.TheVariants.{TaintsAt, StaticTaintsOf}
 use Rattle.rule_ground.specs.Candidates.{candidates}
-use Rattle.rule_ground.specs.Given.{concludes, held}
+use Rattle.rule_ground.specs.Given.{of_one, of_two, of_three, concludes, held}
 use Rattle.rule_ground.specs.Hits.{IsHits}
 use Rattle.rule_ground.specs.Listing.{in_each, in_holds, itself, found}
 use Rattle.library_ground.specs.declared.pins.Pins.{Pins}
@@ -83,9 +82,9 @@ module _ (app : App) (lists : Lists) (has : Row → Type 0) (hits : Key → List
     -- 30, of a label
     pub handed_in : (s : Site) (p : Path) (l : ℕ) → has (Points n x s) → has (Taint n x p l) → IsThat pins.object (Points n x s) →
         IsThat pins.value (Taint n x p l) → is_some pins.cell ≡ false →
-        In (concludes 30 (Three (Uses n u) (Points n x s) (Taint n x p l)) (HandedTaint s p l)) given
+        In (concludes 30 (of_three (Uses n u) (Points n x s) (Taint n x p l)) (HandedTaint s p l)) given
     handed_in s p l hs hl takes same fc =
-        let k = concludes 30 (Three (Uses n u) (Points n x s) (Taint n x p l)) (HandedTaint s p l) in
+        let k = concludes 30 (of_three (Uses n u) (Points n x s) (Taint n x p l)) (HandedTaint s p l) in
         let all : List Conclusion = flat_map (label_hands hits pins.object c x) (candidates hits pins.value (TaintsAt n x)) in
         at_place k (Label p l) same
         (in_back k (cond (is_some pins.object) [] (values_give hits pins.value n x (row_gives hits pins.cell c i x))) (cond (is_some pins.cell) [] (labels_handed hits pins c x))
@@ -117,9 +116,9 @@ module _ (app : App) (lists : Lists) (has : Row → Type 0) (hits : Key → List
 
       -- 32
       pub same_in : (pc : ℕ) → is_some pins.cell ≡ false → r.row.gives ≡ gives.Same i → HasResult r → GoesOn app n pc →
-          In (concludes 32 (Two (Uses n u) (held v n x)) (held v (at_pc n pc) result_register)) given
+          In (concludes 32 (of_two (Uses n u) (held v n x)) (held v (at_pc n pc) result_register)) given
       same_in pc fc e gives_one g =
-          let k = concludes 32 (Two (Uses n u) (held v n x)) (held v (at_pc n pc) result_register) in
+          let k = concludes 32 (of_two (Uses n u) (held v n x)) (held v (at_pc n pc) result_register) in
           in_returned k (gives.Same i) e gives_one
           (in_where k (i == i) (cond (is_some pins.cell) [] (results 32 (with_value c x v) v c)) (itself i)
           (in_unless k (is_some pins.cell) (results 32 (with_value c x v) v c) fc
@@ -134,33 +133,33 @@ module _ (app : App) (lists : Lists) (has : Row → Type 0) (hits : Key → List
 
     -- 30, of an object
     pub hands_in : (s : Site) → has (Points n x s) → IsThat pins.value (Points n x s) → is_some pins.object ≡ false → is_some pins.cell ≡ false →
-        In (concludes 30 (Two (Uses n u) (Points n x s)) (Handed s)) given
-    hands_in s h same fo fc = in_effects (Object s) h same fo (concludes 30 (Two (Uses n u) (Points n x s)) (Handed s)) fc (inl refl)
+        In (concludes 30 (of_two (Uses n u) (Points n x s)) (Handed s)) given
+    hands_in s h same fo fc = in_effects (Object s) h same fo (concludes 30 (of_two (Uses n u) (Points n x s)) (Handed s)) fc (inl refl)
 
     -- 31
     pub arrives_in : (sink : ℕ) (p : Path) (l : ℕ) → IsSink r.row sink i → has (Taint n x p l) → IsThat pins.value (Taint n x p l) →
-        is_some pins.object ≡ false → is_some pins.cell ≡ false → In (concludes 31 (Two (Uses n u) (Taint n x p l)) (Arrive l sink n)) given
+        is_some pins.object ≡ false → is_some pins.cell ≡ false → In (concludes 31 (of_two (Uses n u) (Taint n x p l)) (Arrive l sink n)) given
     arrives_in sink p l m h same fo fc =
-        let k = concludes 31 (Two (Uses n u) (Taint n x p l)) (Arrive l sink n) in
+        let k = concludes 31 (of_two (Uses n u) (Taint n x p l)) (Arrive l sink n) in
         let listed : sink_of c i ≡ Some sink = ap (λ o. sink_among o i) m.1 ∙ ap (λ b. cond b (Some sink) None) (in_holds i m.0 m.2) in
         in_effects (Label p l) h same fo k fc (subst (λ o. In k (arrives c o x (Label p l))) (sym listed) (inl refl))
 
     -- 33
     pub taken_in : (pc : ℕ) (s t : Site) → r.row.gives ≡ gives.Taken i → HasResult r → GoesOn app n pc → has (Points n x s) → has (Cell s elem_key t) →
         IsThat pins.value (Points n x s) → IsThat pins.cell (Cell s elem_key t) → is_some pins.object ≡ false →
-        In (concludes 33 (Three (Uses n u) (Points n x s) (Cell s elem_key t)) (Points (at_pc n pc) result_register t)) given
+        In (concludes 33 (of_three (Uses n u) (Points n x s) (Cell s elem_key t)) (Points (at_pc n pc) result_register t)) given
     taken_in pc s t e gives_one g h ht same holds fo =
-        let k = concludes 33 (Three (Uses n u) (Points n x s) (Cell s elem_key t)) (Points (at_pc n pc) result_register t) in
+        let k = concludes 33 (of_three (Uses n u) (Points n x s) (Cell s elem_key t)) (Points (at_pc n pc) result_register t) in
         in_returned (Object s) h same fo k (gives.Taken i) e gives_one
         (in_where k (i == i) (taken hits pins.cell c x (Object s)) (itself i)
         (in_elements has hits law pins.cell k (took c (Points n x s)) s t ht holds
-        (in_each 33 (Three (Uses n u) (Points n x s) (Cell s elem_key t)) (Object t) n c.next result_register pc (goes_in app lists n u r g))))
+        (in_each 33 (of_three (Uses n u) (Points n x s) (Cell s elem_key t)) (Object t) n c.next result_register pc (goes_in app lists n u r g))))
 
     pub rest_in : (pc : ℕ) (p q : Path) (l : ℕ) → r.row.gives ≡ gives.Taken i → HasResult r → rest p elem_key ≡ Some q → GoesOn app n pc →
         has (Taint n x p l) → IsThat pins.value (Taint n x p l) → is_some pins.object ≡ false → is_some pins.cell ≡ false →
-        In (concludes 33 (Two (Uses n u) (Taint n x p l)) (Taint (at_pc n pc) result_register q l)) given
+        In (concludes 33 (of_two (Uses n u) (Taint n x p l)) (Taint (at_pc n pc) result_register q l)) given
     rest_in pc p q l e gives_one left g h same fo fc =
-        let k = concludes 33 (Two (Uses n u) (Taint n x p l)) (Taint (at_pc n pc) result_register q l) in
+        let k = concludes 33 (of_two (Uses n u) (Taint n x p l)) (Taint (at_pc n pc) result_register q l) in
         in_returned (Label p l) h same fo k (gives.Taken i) e gives_one
         (in_where k (i == i) (taken hits pins.cell c x (Label p l)) (itself i)
         (in_unless k (is_some pins.cell) (took_rest c x p l (rest p elem_key)) fc
@@ -170,7 +169,7 @@ module _ (app : App) (lists : Lists) (has : Row → Type 0) (hits : Key → List
     -- 35, of a position
     module _ (p : Path) (l pc : ℕ) (from : List ℕ) where
       abbrev gets : Path → Conclusion
-      gets q = concludes 35 (Two (Uses n u) (Taint n x p l)) (Taint (at_pc n pc) result_register q l)
+      gets q = concludes 35 (of_two (Uses n u) (Taint n x p l)) (Taint (at_pc n pc) result_register q l)
 
       pub joined_in : r.row.gives ≡ gives.Joined from → In i from → HasResult r → GoesOn app n pc → has (Taint n x p l) →
           IsThat pins.value (Taint n x p l) → is_some pins.object ≡ false → is_some pins.cell ≡ false → In (gets empty_path) given
@@ -194,51 +193,51 @@ module _ (app : App) (lists : Lists) (has : Row → Type 0) (hits : Key → List
 
     -- 34
     pub made_in : (pc : ℕ) (from : List ℕ) → r.row.gives ≡ gives.Joined from → HasReference r → GoesOn app n pc →
-        In (concludes 34 (One (Uses n u)) (Points (at_pc n pc) result_register (At n))) given
+        In (concludes 34 (of_one (Uses n u)) (Points (at_pc n pc) result_register (At n))) given
     made_in pc from e t g =
-        let k = concludes 34 (One (Uses n u)) (Points (at_pc n pc) result_register (At n)) in
+        let k = concludes 34 (of_one (Uses n u)) (Points (at_pc n pc) result_register (At n)) in
         in_alone k (gives.Joined from) e
         (in_front k (made c) (source_gives c r.row.source)
-        (in_where k (is_reference c.ret) (results 34 (One (Uses n u)) (Object (At n)) c) t
-        (in_each 34 (One (Uses n u)) (Object (At n)) n c.next result_register pc (goes_in app lists n u r g))))
+        (in_where k (is_reference c.ret) (results 34 (of_one (Uses n u)) (Object (At n)) c) t
+        (in_each 34 (of_one (Uses n u)) (Object (At n)) n c.next result_register pc (goes_in app lists n u r g))))
 
     -- 35, of the source
     in_source : (k : Conclusion) (l : ℕ) (from : List ℕ) → r.row.gives ≡ gives.Joined from → r.row.source ≡ Some l →
-        In k (labelled (One (Uses n u)) l c) → In k given
+        In k (labelled (of_one (Uses n u)) l c) → In k given
     in_source k l from e labels j =
         in_alone k (gives.Joined from) e (in_back k (made c) (source_gives c r.row.source) (subst (λ o. In k (source_gives c o)) (sym labels) j))
 
     pub source_in : (pc l : ℕ) (from : List ℕ) → r.row.gives ≡ gives.Joined from → r.row.source ≡ Some l → GoesOn app n pc →
-        In (concludes 35 (One (Uses n u)) (Taint (at_pc n pc) result_register empty_path l)) given
+        In (concludes 35 (of_one (Uses n u)) (Taint (at_pc n pc) result_register empty_path l)) given
     source_in pc l from e labels g =
-        in_source (concludes 35 (One (Uses n u)) (Taint (at_pc n pc) result_register empty_path l)) l from e labels
-        (in_bare (One (Uses n u)) l c pc (goes_in app lists n u r g))
+        in_source (concludes 35 (of_one (Uses n u)) (Taint (at_pc n pc) result_register empty_path l)) l from e labels
+        (in_bare (of_one (Uses n u)) l c pc (goes_in app lists n u r g))
 
     pub source_element_in : (pc l : ℕ) (from : List ℕ) → r.row.gives ≡ gives.Joined from → r.row.source ≡ Some l → HasReference r → GoesOn app n pc →
-        In (concludes 35 (One (Uses n u)) (Taint (at_pc n pc) result_register (cut elem_key empty_path) l)) given
+        In (concludes 35 (of_one (Uses n u)) (Taint (at_pc n pc) result_register (cut elem_key empty_path) l)) given
     source_element_in pc l from e labels t g =
-        in_source (concludes 35 (One (Uses n u)) (Taint (at_pc n pc) result_register (cut elem_key empty_path) l)) l from e labels
-        (in_element (One (Uses n u)) l c pc t (goes_in app lists n u r g))
+        in_source (concludes 35 (of_one (Uses n u)) (Taint (at_pc n pc) result_register (cut elem_key empty_path) l)) l from e labels
+        (in_element (of_one (Uses n u)) l c pc t (goes_in app lists n u r g))
 
     -- 36
     pub shared_static_in : (g : ℕ) → r.row.gives ≡ gives.Shared g →
-        In (concludes 36 (One (Uses n u)) (StaticPoints (shared_static app g) (SharedSite g))) given
-    shared_static_in g e = in_alone (concludes 36 (One (Uses n u)) (StaticPoints (shared_static app g) (SharedSite g))) (gives.Shared g) e (inl refl)
+        In (concludes 36 (of_one (Uses n u)) (StaticPoints (shared_static app g) (SharedSite g))) given
+    shared_static_in g e = in_alone (concludes 36 (of_one (Uses n u)) (StaticPoints (shared_static app g) (SharedSite g))) (gives.Shared g) e (inl refl)
 
     pub shared_in : (g pc : ℕ) → r.row.gives ≡ gives.Shared g → GoesOn app n pc →
-        In (concludes 36 (One (Uses n u)) (Points (at_pc n pc) result_register (SharedSite g))) given
+        In (concludes 36 (of_one (Uses n u)) (Points (at_pc n pc) result_register (SharedSite g))) given
     shared_in g pc e goes =
-        let k = concludes 36 (One (Uses n u)) (Points (at_pc n pc) result_register (SharedSite g)) in
+        let k = concludes 36 (of_one (Uses n u)) (Points (at_pc n pc) result_register (SharedSite g)) in
         in_alone k (gives.Shared g) e
-        (inr (in_front k (results 36 (One (Uses n u)) (Object (SharedSite g)) c) (flat_map (shared_label c) (hits (StaticTaintsOf (shared_static app g))))
-        (in_each 36 (One (Uses n u)) (Object (SharedSite g)) n c.next result_register pc (goes_in app lists n u r goes))))
+        (inr (in_front k (results 36 (of_one (Uses n u)) (Object (SharedSite g)) c) (flat_map (shared_label c) (hits (StaticTaintsOf (shared_static app g))))
+        (in_each 36 (of_one (Uses n u)) (Object (SharedSite g)) n c.next result_register pc (goes_in app lists n u r goes))))
 
     pub shared_label_in : (g pc : ℕ) (p : Path) (l : ℕ) → r.row.gives ≡ gives.Shared g → GoesOn app n pc → has (StaticTaint (shared_static app g) p l) →
-        In (concludes 36 (Two (Uses n u) (StaticTaint (shared_static app g) p l)) (Taint (at_pc n pc) result_register p l)) given
+        In (concludes 36 (of_two (Uses n u) (StaticTaint (shared_static app g) p l)) (Taint (at_pc n pc) result_register p l)) given
     shared_label_in g pc p l e goes h =
         let label : Row = StaticTaint (shared_static app g) p l in
-        let k = concludes 36 (Two (Uses n u) label) (Taint (at_pc n pc) result_register p l) in
+        let k = concludes 36 (of_two (Uses n u) label) (Taint (at_pc n pc) result_register p l) in
         in_alone k (gives.Shared g) e
-        (inr (in_back k (results 36 (One (Uses n u)) (Object (SharedSite g)) c) (flat_map (shared_label c) (hits (StaticTaintsOf (shared_static app g))))
+        (inr (in_back k (results 36 (of_one (Uses n u)) (Object (SharedSite g)) c) (flat_map (shared_label c) (hits (StaticTaintsOf (shared_static app g))))
         (found has hits law (StaticTaintsOf (shared_static app g)) (shared_label c) label k h (p, (l, refl))
-        (in_each 36 (Two (Uses n u) label) (Label p l) n c.next result_register pc (goes_in app lists n u r goes)))))
+        (in_each 36 (of_two (Uses n u) label) (Label p l) n c.next result_register pc (goes_in app lists n u r goes)))))

@@ -14,14 +14,13 @@ use Rattle.fact_rows.specs.declared.site.Site.TheVariants.{At, Shared as SharedS
 use Rattle.fact_rows.specs.declared.row.Row.{Row}
 use Rattle.fact_rows.specs.declared.row.Row.TheVariants.{Points, Taint, Cell, StaticPoints, StaticTaint, Handed, HandedTaint, Arrive, Uses}
 use Rattle.rule_ground.specs.declared.conclusion.Premises.{Premises}
-use Rattle.rule_ground.specs.declared.conclusion.Premises.TheVariants.{One, Two, Three}
 use Rattle.rule_ground.specs.declared.conclusion.Conclusion.{Conclusion}
 use Rattle.rule_ground.specs.declared.content.Content.{Content}
 use Rattle.rule_ground.specs.declared.content.Content.TheVariants.{Object, Label}
 use Rattle.rule_ground.specs.declared.key.Key.{Key}
 use Rattle.rule_ground.specs.declared.key.Key.TheVariants.{PointsAt, TaintsAt, CellsOf, StaticTaintsOf}
 use Rattle.rule_ground.specs.Candidates.{candidates}
-use Rattle.rule_ground.specs.Given.{concludes, held, at_each}
+use Rattle.rule_ground.specs.Given.{of_one, of_two, of_three, concludes, held, at_each}
 use Rattle.library_ground.specs.declared.pins.Pins.{Pins}
 use Rattle.library_ground.specs.CallRow.{CallRow, has_result, sink_of}
 use Rattle.library_ground.specs.Pinning.{are_free, may_stand, values_give}
@@ -33,7 +32,7 @@ results rule premises v c = at_each rule premises v c.node result_register c.nex
 
 -- the use of the row, beside a value of a register
 abbrev pub with_value : CallRow → ℕ → Content → Premises
-with_value c x v = Two (Uses c.node c.uses) (held v c.node x)
+with_value c x v = of_two (Uses c.node c.uses) (held v c.node x)
 
 -- 30. The object is handed, and what it leads to.
 abbrev pub hands : CallRow → ℕ → Content → List Conclusion
@@ -41,7 +40,7 @@ hands c x (Object s) = concludes 30 (with_value c x (Object s)) (Handed s) ∷ [
 hands c x (Label p l) = []
 
 abbrev pub handed_with : CallRow → Row → Path → ℕ → Row → List Conclusion
-handed_with c label p l (Points m y s) = concludes 30 (Three (Uses c.node c.uses) (Points m y s) label) (HandedTaint s p l) ∷ []
+handed_with c label p l (Points m y s) = concludes 30 (of_three (Uses c.node c.uses) (Points m y s) label) (HandedTaint s p l) ∷ []
 handed_with c label p l _ = []
 
 abbrev pub label_hands : (Key → List Row) → Option Row → CallRow → ℕ → Row → List Conclusion
@@ -60,7 +59,7 @@ arrives c _ x _ = []
 
 -- 33. The result is an element of the object, which the cell says, or the label behind the key.
 abbrev pub took : CallRow → Row → Row → List Conclusion
-took c from (Cell s k t) = results 33 (Three (Uses c.node c.uses) from (Cell s k t)) (Object t) c
+took c from (Cell s k t) = results 33 (of_three (Uses c.node c.uses) from (Cell s k t)) (Object t) c
 took c from _ = []
 
 abbrev pub took_rest : CallRow → ℕ → Path → ℕ → Option Path → List Conclusion
@@ -111,22 +110,22 @@ at_position hits pins c i x = cond (may_stand pins.value c.node x) (position_giv
 
 -- 34. The object that is made here.
 abbrev pub made : CallRow → List Conclusion
-made c = cond (is_reference c.ret) (results 34 (One (Uses c.node c.uses)) (Object (At c.node)) c) []
+made c = cond (is_reference c.ret) (results 34 (of_one (Uses c.node c.uses)) (Object (At c.node)) c) []
 
 -- 35. The label of the source.
 abbrev pub source_gives : CallRow → Option ℕ → List Conclusion
 source_gives c None = []
-source_gives c (Some l) = labelled (One (Uses c.node c.uses)) l c
+source_gives c (Some l) = labelled (of_one (Uses c.node c.uses)) l c
 
 -- 36. The shared object.
 abbrev pub shared_label : CallRow → Row → List Conclusion
-shared_label c (StaticTaint g p l) = results 36 (Two (Uses c.node c.uses) (StaticTaint g p l)) (Label p l) c
+shared_label c (StaticTaint g p l) = results 36 (of_two (Uses c.node c.uses) (StaticTaint g p l)) (Label p l) c
 shared_label c _ = []
 
 abbrev pub shared_gives : App → (Key → List Row) → CallRow → ℕ → List Conclusion
 shared_gives app hits c g =
-    concludes 36 (One (Uses c.node c.uses)) (StaticPoints (shared_static app g) (SharedSite g))
-    ∷ (results 36 (One (Uses c.node c.uses)) (Object (SharedSite g)) c ++ flat_map (shared_label c) (hits (StaticTaintsOf (shared_static app g))))
+    concludes 36 (of_one (Uses c.node c.uses)) (StaticPoints (shared_static app g) (SharedSite g))
+    ∷ (results 36 (of_one (Uses c.node c.uses)) (Object (SharedSite g)) c ++ flat_map (shared_label c) (hits (StaticTaintsOf (shared_static app g))))
 
 -- what the call gives to its result whatever its positions hold
 abbrev pub result_alone : App → (Key → List Row) → CallRow → CallResult → List Conclusion

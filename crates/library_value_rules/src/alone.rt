@@ -18,7 +18,7 @@ fn make<S: Sink>(call: &LibraryCall<'_>, out: &mut S) -> Result<(), S::Refusal>
 {
     if call.has_reference() {
         let object = Content::Object(Site::At(call.node));
-        give_result(34, Premises::One(call.premise()), object, call, out)
+        give_result(34, Premises::of_one(call.premise()), object, call, out)
     } else {
         Ok(())
     }
@@ -34,7 +34,7 @@ fn label_source<S: Sink>(
 {
     match source {
         None => Ok(()),
-        Some(label) => label_result(Premises::One(call.premise()), label, call, out),
+        Some(label) => label_result(Premises::of_one(call.premise()), label, call, out),
     }
 }
 
@@ -50,7 +50,7 @@ impl<'a> Join for SharedLabel<'a> {
     fn give<S: Sink>(&self, row: Row, out: &mut S) -> Result<(), S::Refusal> {
         match row {
             Row::StaticTaint(_, path, label) => {
-                let premises = Premises::Two(self.0.premise(), row);
+                let premises = Premises::of_two(self.0.premise(), row);
                 give_result(36, premises, Content::Label(path, label), &self.0, out)
             }
             _ => Ok(()),
@@ -73,7 +73,7 @@ fn share<F: Facts, S: Sink>(
 {
     let field = shared_static(app, number);
     let object = Site::Shared(number);
-    let premises = Premises::One(call.premise());
+    let premises = Premises::of_one(call.premise());
     out.put(Conclusion {
         rule: 36,
         premises,

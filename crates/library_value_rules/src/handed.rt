@@ -12,7 +12,7 @@ use rule_ground::{Conclusion, Content, Facts, Join, Key, Premises, Sink, for_eac
 pub fn with_value(call: &LibraryCall<'_>, register: u32, content: Content) -> Premises
     ensures { result ≡ with_value (shown_call call.now) register content }
 {
-    Premises::Two(call.premise(), content.held(call.node, register))
+    Premises::of_two(call.premise(), content.held(call.node, register))
 }
 
 /// An object is handed.
@@ -72,7 +72,7 @@ impl<'a> Join for HandedWith<'a> {
         match row {
             Row::Points(_, _, site) => out.put(Conclusion {
                 rule: 30,
-                premises: Premises::Three(self.call.premise(), row, self.taint),
+                premises: Premises::of_three(self.call.premise(), row, self.taint),
                 row: Row::HandedTaint(site, self.path, self.label),
             }),
             _ => Ok(()),

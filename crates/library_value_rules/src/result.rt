@@ -75,7 +75,7 @@ impl<'a> Join for Took<'a> {
     fn give<S: Sink>(&self, row: Row, out: &mut S) -> Result<(), S::Refusal> {
         match row {
             Row::Cell(_, _, held) => {
-                let premises = Premises::Three(self.call.premise(), self.from, row);
+                let premises = Premises::of_three(self.call.premise(), self.from, row);
                 give_result(33, premises, Content::Object(held), &self.call, out)
             }
             _ => Ok(()),

@@ -77,7 +77,7 @@ fn label_call<S: Sink>(
         from.now.label (Some (shown_call call.now)))) }
 {
     if call.has_result() && is_shared_of(from.app, from.number, call.gives()) {
-        let premises = Premises::Two(
+        let premises = Premises::of_two(
             call.premise(),
             Row::StaticTaint(from.number, from.path, from.label),
         );

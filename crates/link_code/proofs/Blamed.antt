@@ -1,14 +1,14 @@
 -- What running a script with its faults seen otherwise gives.
 use Rattle.std.proofs.Common.{◌≡◌, true, false, Ok, Err, ap}
 use Rattle.vet_base.specs.Script.{Script, Value, Test, run}
-use Rattle.dex_reader.specs.declared.dex.RawCode.{RawCode}
+use Rattle.dex_tables.specs.declared.dex.RawCode.{RawCode}
 use Rattle.dex_code.specs.declared.decoder.Counts.{Counts}
 use Rattle.dex_code.specs.declared.decoder.Decoded.{Decoded}
 use Rattle.dex_code.specs.declared.fault.CodeFault.{CodeFault}
 use Rattle.dex_code.specs.Code.{decoding, IsCode, FirstFault}
 use Rattle.dex_code.specs.CodeLaws.{CodeLaws}
 use Rattle.std.specs.Prelude.{List, Some}
-use Rattle.dex_reader.specs.declared.dex.Dex.{Dex}
+use Rattle.dex_tables.specs.declared.dex.Dex.{Dex}
 use Rattle.link_listing.specs.declared.members.Place.{Place}
 use Rattle.link_code.specs.Code.{blamed, code_at, ShortCode, ShortCodes}
 use Rattle.vet_base.proofs.Runs.{fails_first}

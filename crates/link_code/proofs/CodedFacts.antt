@@ -2,8 +2,8 @@
 use Rattle.std.proofs.Common.{◌≡◌, Bool, true, false, Ok, ap, subst}
 use Rattle.std.specs.Prelude.{◌==◌}
 use Rattle.vet_base.specs.Script.{Script, Value, Test, ◌>>=◌, test, run}
-use Rattle.dex_reader.specs.declared.dex.Dex.{Dex}
-use Rattle.dex_reader.specs.declared.dex.RawCode.{RawCode}
+use Rattle.dex_tables.specs.declared.dex.Dex.{Dex}
+use Rattle.dex_tables.specs.declared.dex.RawCode.{RawCode}
 use Rattle.dex_code.specs.declared.decoder.Decoded.{Decoded}
 use Rattle.dex_code.specs.declared.fault.CodeFault.TheVariants.{Register}
 use Rattle.dex_code.specs.Code.{decoding, IsCode}

@@ -1,7 +1,7 @@
 -- What a name stands for: what is needed, a key of the app, a static of the list, a call with the registers that it takes.
 use Rattle.std.proofs.Common.{◌≡◌, ℕ, ◌<◌, List, length, Option, Some, None, IsTrue, refl, sym}
 use Rattle.vet_base.specs.declared.key_id.KeyId.{KeyId}
-use Rattle.dex_reader.specs.declared.dex.Dex.{Dex}
+use Rattle.dex_tables.specs.declared.dex.Dex.{Dex}
 use Rattle.dex_code.specs.declared.insn.Insn.{Insn}
 use Rattle.dex_code.specs.declared.names.Naming.{Naming}
 use Rattle.dex_code.specs.declared.names.Naming.TheVariants as naming

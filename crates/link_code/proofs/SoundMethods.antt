@@ -1,7 +1,7 @@
 -- A method whose code was decoded and tested is sound.
 use Rattle.std.proofs.Common.{◌≡◌, ℕ, ◌<◌, ◌≤◌, Bool, true, false, cond, List, [], ◌∷◌, ◌++◌, length, Option, Some, None, slice_get, nat_cmp, refl, sym, ap, subst, ◌∙◌}
-use Rattle.dex_reader.specs.declared.dex.Dex.{Dex}
-use Rattle.dex_reader.specs.declared.dex.RawTry.{RawTry}
+use Rattle.dex_tables.specs.declared.dex.Dex.{Dex}
+use Rattle.dex_tables.specs.declared.dex.RawTry.{RawTry}
 use Rattle.dex_code.specs.declared.names.Named.{Named}
 use Rattle.dex_code.specs.Acts.{act_of, naming_of}
 use Rattle.dex_code.specs.CodeLaws.{starts_of, BeginsAtZero, AreSound, CodeLaws}

@@ -1,7 +1,7 @@
 -- There are no more statics than lines, and they stand in order.
 use Rattle.std.proofs.Common.{◌≡◌, ℕ, ◌+◌, ◌≤◌, List, [], ◌∷◌, ◌++◌, length, length-append, Option, Some, None, arith}
 use Rattle.std.specs.Prelude.{flat_map, slice_get}
-use Rattle.dex_reader.specs.declared.dex.Dex.{Dex}
+use Rattle.dex_tables.specs.declared.dex.Dex.{Dex}
 use Rattle.dex_code.specs.Lines.{Line}
 use Rattle.app_machine.specs.declared.app.App.{App}
 use Rattle.link_code.specs.declared.coded.Coded.{Coded}

@@ -1,8 +1,8 @@
 -- Control goes from a step of a method to steps of it; the steps stand by ascending pc.
 use Rattle.std.proofs.Common.{◌≡◌, ℕ, ◌<◌, Bool, true, false, cond, List, [], ◌∷◌, ◌++◌, map, append_assoc, nat_cmp, refl, sym, ap, subst, ◌∙◌, inl, inr}
-use Rattle.dex_reader.specs.declared.dex.Dex.{Dex}
-use Rattle.dex_reader.specs.declared.dex.RawTry.{RawTry}
-use Rattle.dex_reader.specs.declared.dex.RawCode.{RawCode}
+use Rattle.dex_tables.specs.declared.dex.Dex.{Dex}
+use Rattle.dex_tables.specs.declared.dex.RawTry.{RawTry}
+use Rattle.dex_tables.specs.declared.dex.RawCode.{RawCode}
 use Rattle.dex_code.specs.declared.decoder.Decoded.{Decoded}
 use Rattle.dex_code.specs.CodeLaws.{start_if, starts_of, AreSound}
 use Rattle.dex_code.specs.Insns.{is_payload}

@@ -1,7 +1,7 @@
 -- A count of units that stays at its largest.
 use Rattle.std.proofs.Common.{◌≡◌, ℕ, ◌+◌, min, List, [], ◌∷◌, arith}
 use Rattle.std.specs.Prelude.{fold}
-use Rattle.dex_reader.specs.declared.dex.Dex.{Dex}
+use Rattle.dex_tables.specs.declared.dex.Dex.{Dex}
 use Rattle.link_listing.specs.declared.members.Listed.{Listed}
 use Rattle.link_listing.specs.Texts.{Triple}
 use Rattle.link_listing.specs.MemberRows.{Methods}

@@ -2,10 +2,10 @@
 -- reference takes.
 use Rattle.std.specs.Prelude.{◌≡◌, ◌<◌, ℕ, ◌==◌, min, Bool, true, false, List, [], ◌∷◌, ◌++◌, length, Option, Some, None, slice_get, if◌then◌else◌}
 use Rattle.vet_base.specs.Script.{Script, Value, Test, ◌>>=◌, test, each}
-use Rattle.dex_reader.specs.declared.dex.Dex.{Dex}
-use Rattle.dex_reader.specs.declared.dex.ClassDef.{ClassDef}
-use Rattle.dex_reader.specs.declared.dex.Body.{Body}
-use Rattle.dex_reader.specs.declared.dex.RawCode.{RawCode}
+use Rattle.dex_tables.specs.declared.dex.Dex.{Dex}
+use Rattle.dex_tables.specs.declared.dex.ClassDef.{ClassDef}
+use Rattle.dex_tables.specs.declared.dex.Body.{Body}
+use Rattle.dex_tables.specs.declared.dex.RawCode.{RawCode}
 use Rattle.dex_code.specs.declared.decoder.Counts.{Counts}
 use Rattle.dex_code.specs.declared.decoder.Decoded.{Decoded}
 use Rattle.dex_code.specs.declared.insn.Insn.{Insn}

@@ -1,7 +1,7 @@
 -- The steps of a method: one for each instruction, none for a payload.
 use Rattle.std.specs.Prelude.{ℕ, List, [], ◌∷◌, ◌++◌, if◌then◌else◌}
-use Rattle.dex_reader.specs.declared.dex.Dex.{Dex}
-use Rattle.dex_reader.specs.declared.dex.RawTry.{RawTry}
+use Rattle.dex_tables.specs.declared.dex.Dex.{Dex}
+use Rattle.dex_tables.specs.declared.dex.RawTry.{RawTry}
 use Rattle.dex_code.specs.Acts.{act_of, naming_of}
 use Rattle.dex_code.specs.Insns.{is_payload}
 use Rattle.dex_code.specs.Lines.{Line}

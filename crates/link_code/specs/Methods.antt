@@ -1,6 +1,6 @@
 -- The methods of the app, with their steps.
 use Rattle.std.specs.Prelude.{◌≤◌, List, [], map, Some, None, slice_get}
-use Rattle.dex_reader.specs.declared.dex.Dex.{Dex}
+use Rattle.dex_tables.specs.declared.dex.Dex.{Dex}
 use Rattle.dex_code.specs.Find.{Ascend}
 use Rattle.app_machine.specs.declared.app.App.{App}
 use Rattle.app_machine.specs.declared.method.Method.{Method}

@@ -1,7 +1,7 @@
 -- What an instruction names, as the app has it.
 use Rattle.std.specs.Prelude.{ℕ, List}
 use Rattle.vet_base.specs.declared.key_id.KeyId.{KeyId}
-use Rattle.dex_reader.specs.declared.dex.Dex.{Dex}
+use Rattle.dex_tables.specs.declared.dex.Dex.{Dex}
 use Rattle.dex_code.specs.declared.names.Named.{Named}
 use Rattle.dex_code.specs.declared.names.Named.TheVariants as named
 use Rattle.dex_code.specs.declared.names.Naming.{Naming}

@@ -1,6 +1,6 @@
 -- Each static field that an instruction names, as the field that it stands for, once and in order.
 use Rattle.std.specs.Prelude.{◌↔◌, ℕ, List, [], ◌∷◌, flat_map, Option, Some, None, slice_get}
-use Rattle.dex_reader.specs.declared.dex.Dex.{Dex}
+use Rattle.dex_tables.specs.declared.dex.Dex.{Dex}
 use Rattle.dex_code.specs.declared.insn.Insn.{Insn}
 use Rattle.dex_code.specs.declared.names.Naming.{Naming}
 use Rattle.dex_code.specs.declared.names.Naming.TheVariants as naming

@@ -6,7 +6,7 @@ use Rattle.app_machine.specs.declared.app.App.{App}
 use Rattle.app_machine.specs.declared.app.Class.{Class}
 use Rattle.app_machine.specs.Names.{Name, same_name}
 use Rattle.vet_base.specs.Members.{first_index, first_given}
-use Rattle.dex_reader.specs.declared.dex.Dex.{Dex}
+use Rattle.dex_tables.specs.declared.dex.Dex.{Dex}
 use Rattle.app_machine.specs.Lookups.{class_named, up}
 use Rattle.link_hierarchy.specs.Hierarchy.{firsts}
 use Rattle.link_listing.specs.Texts.{Triple, field_of}

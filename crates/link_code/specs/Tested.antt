@@ -2,8 +2,8 @@
 use Rattle.std.specs.Prelude.{◌≡◌, true, false, IsTrue, List, [], Some, slice_get}
 use Rattle.std.specs.Ordering.{ordering_then}
 use Rattle.std.specs.declared.cmp.Ordering.{Ordering}
-use Rattle.dex_reader.specs.declared.dex.Dex.{Dex}
-use Rattle.dex_reader.specs.declared.dex.RawCode.{RawCode}
+use Rattle.dex_tables.specs.declared.dex.Dex.{Dex}
+use Rattle.dex_tables.specs.declared.dex.RawCode.{RawCode}
 use Rattle.dex_code.specs.Lines.{Line}
 use Rattle.dex_code.specs.Code.{IsCode}
 use Rattle.vet_base.specs.Members.{In}

@@ -1,8 +1,8 @@
 -- How many 16-bit units the code of the methods has.
 use Rattle.std.specs.Prelude.{ℕ, List, length, Option, Some, None, if◌then◌else◌}
 use Rattle.std.specs.List.{sum_by}
-use Rattle.dex_reader.specs.declared.dex.Dex.{Dex}
-use Rattle.dex_reader.specs.declared.dex.RawCode.{RawCode}
+use Rattle.dex_tables.specs.declared.dex.Dex.{Dex}
+use Rattle.dex_tables.specs.declared.dex.RawCode.{RawCode}
 use Rattle.link_listing.specs.declared.members.Listed.{Listed}
 use Rattle.link_listing.specs.Texts.{Triple}
 use Rattle.link_listing.specs.MemberRows.{Methods}

@@ -18,7 +18,7 @@ ghost use Rattle.link_listing.specs.declared.fault.Fault.TheVariants as faults;
 
 use app_model::{CallKind, MethodRef, Proto, is_wide};
 use dex_code::{CodeFault, Counts, Decoded, Insn, Naming, code_laws, decode};
-use dex_reader::{Body, ClassDef, Dex, RawCode};
+use dex_tables::{Body, ClassDef, Dex, RawCode};
 use link_listing::{
     Fault, Halt, Listed, Methods, Place, Triple, method_row_at, parameter_count, proto_at,
     proto_copied,

@@ -12,7 +12,7 @@ use crate::methods::methods_of;
 use crate::static_list::statics_of;
 use app_model::App;
 use dex_code::code_laws;
-use dex_reader::Dex;
+use dex_tables::Dex;
 use link_listing::Fields;
 use std::alloc::Global;
 use vet_base::{Memory, Seq};

@@ -12,7 +12,7 @@ use crate::naming::named_at;
 use crate::scope::Scope;
 use app_model::{Act, Step};
 use dex_code::{Insn, act_for, catches_of_lines, next_of_line};
-use dex_reader::RawTry;
+use dex_tables::RawTry;
 use std::alloc::Global;
 use vet_base::{Memory, Seq, Shared};
 

@@ -10,7 +10,7 @@ use crate::coded::{Coded, reference_copied};
 use crate::lift::steps_at;
 use crate::scope::Scope;
 use app_model::{App, Method, Step};
-use dex_reader::Dex;
+use dex_tables::Dex;
 use link_listing::{Fields, Triple};
 use std::alloc::Global;
 use vet_base::{Memory, Seq};

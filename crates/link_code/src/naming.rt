@@ -9,7 +9,7 @@ use crate::scope::Scope;
 use crate::statics::number_at;
 use app_model::{App, instance_key};
 use dex_code::{Named, Naming};
-use dex_reader::Dex;
+use dex_tables::Dex;
 use link_listing::{field_at, method_at, type_at};
 use std::alloc::Global;
 use vet_base::{KeyId, Memory};

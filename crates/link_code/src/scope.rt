@@ -1,7 +1,7 @@
 //! What the names of instructions are resolved in.
 
 use app_model::App;
-use dex_reader::Dex;
+use dex_tables::Dex;
 use link_listing::{Fields, Triple};
 
 /// The app before its methods are put in, the fields of the files, the statics that instructions name, and the file in

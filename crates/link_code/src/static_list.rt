@@ -11,7 +11,7 @@ use crate::coded::Coded;
 use crate::statics::static_at;
 use app_model::App;
 use dex_code::{Insn, Naming};
-use dex_reader::Dex;
+use dex_tables::Dex;
 use link_listing::{Fields, Triple};
 use std::alloc::Global;
 use std::collections::BTreeSet;

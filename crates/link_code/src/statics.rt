@@ -12,7 +12,7 @@ ghost use Rattle.link_listing.specs.Texts.{field_of};
 
 use crate::scope::Scope;
 use app_model::{App, Class, class_of, classes_upward, next_class};
-use dex_reader::Dex;
+use dex_tables::Dex;
 use link_hierarchy::add_all;
 use link_listing::{Fields, Triple, add_copies, field_at};
 use std::alloc::Global;

@@ -8,10 +8,10 @@ use Rattle.std.proofs.lemmas.Cmp.{nat_list_cmp_total}
 use Rattle.std.proofs.lemmas.List.{append-nil}
 use Rattle.std.proofs.lemmas.Map.Entries.{lookup_head, lookup_tail}
 use Rattle.vet_base.specs.Script.{Script, Value, Test, ◌>>=◌, run, through}
-use Rattle.dex_reader.specs.declared.dex.Dex.{Dex}
-use Rattle.dex_reader.specs.declared.dex.ClassDef.{ClassDef}
-use Rattle.dex_reader.specs.declared.dex.Member.{Member}
-use Rattle.dex_reader.specs.declared.dex.Body.{Body}
+use Rattle.dex_tables.specs.declared.dex.Dex.{Dex}
+use Rattle.dex_tables.specs.declared.dex.ClassDef.{ClassDef}
+use Rattle.dex_tables.specs.declared.dex.Member.{Member}
+use Rattle.dex_tables.specs.declared.dex.Body.{Body}
 use Rattle.app_machine.specs.declared.app.Class.{Class}
 use Rattle.app_machine.specs.declared.component.Kind.{Kind}
 use Rattle.app_machine.specs.declared.component.Component.{Component}

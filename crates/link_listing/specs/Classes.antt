@@ -2,9 +2,9 @@
 -- Android documentation, Dalvik Executable format: "class_def_item", "class_data_item".
 use Rattle.std.specs.Prelude.{Bool, not, ◌&&◌, List, [], ◌++◌, map, filter, is_none, option_map}
 use Rattle.vet_base.specs.Script.{Script, Value, ◌>>=◌, test, each}
-use Rattle.dex_reader.specs.declared.dex.Dex.{Dex}
-use Rattle.dex_reader.specs.declared.dex.ClassDef.{ClassDef}
-use Rattle.dex_reader.specs.declared.dex.Body.{Body}
+use Rattle.dex_tables.specs.declared.dex.Dex.{Dex}
+use Rattle.dex_tables.specs.declared.dex.ClassDef.{ClassDef}
+use Rattle.dex_tables.specs.declared.dex.Body.{Body}
 use Rattle.app_machine.specs.declared.app.Class.{Class}
 use Rattle.app_machine.specs.declared.call.Proto.{Proto}
 use Rattle.app_machine.specs.Names.{Name}

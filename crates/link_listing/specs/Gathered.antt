@@ -2,7 +2,7 @@
 use Rattle.std.specs.Prelude.{◌≡◌, List}
 use Rattle.std.specs.Map.{keys_of}
 use Rattle.vet_base.specs.Script.{Script, Value, ◌>>=◌}
-use Rattle.dex_reader.specs.declared.dex.Dex.{Dex}
+use Rattle.dex_tables.specs.declared.dex.Dex.{Dex}
 use Rattle.app_machine.specs.declared.app.Class.{Class}
 use Rattle.app_machine.specs.declared.component.Component.{Component}
 use Rattle.app_machine.specs.declared.papers.Manifest.{Manifest}

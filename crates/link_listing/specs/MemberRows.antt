@@ -3,10 +3,10 @@
 -- Android documentation, Dalvik Executable format: "class_data_item", "encoded_field", "encoded_method".
 use Rattle.std.specs.Prelude.{ℕ, Bool, true, false, not, List, [], is_some}
 use Rattle.vet_base.specs.Script.{Script, Value, ◌>>=◌, test, each, through}
-use Rattle.dex_reader.specs.declared.dex.Dex.{Dex}
-use Rattle.dex_reader.specs.declared.dex.ClassDef.{ClassDef}
-use Rattle.dex_reader.specs.declared.dex.Member.{Member}
-use Rattle.dex_reader.specs.declared.dex.Body.{Body}
+use Rattle.dex_tables.specs.declared.dex.Dex.{Dex}
+use Rattle.dex_tables.specs.declared.dex.ClassDef.{ClassDef}
+use Rattle.dex_tables.specs.declared.dex.Member.{Member}
+use Rattle.dex_tables.specs.declared.dex.Body.{Body}
 use Rattle.app_machine.specs.Names.{Name, descriptor_of}
 use Rattle.link_listing.specs.declared.fault.Fault.{Fault}
 use Rattle.link_listing.specs.declared.fault.Fault.TheVariants.{TwoMembers}

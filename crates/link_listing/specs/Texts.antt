@@ -1,9 +1,9 @@
 -- What an index of a DEX file names. Where there is no such row the name is empty; a file that was read has each row.
 -- Android documentation, Dalvik Executable format: "string_id_item", "type_id_item", "proto_id_item", "field_id_item", "method_id_item".
 use Rattle.std.specs.Prelude.{ℕ, List, [], map, Some, None, slice_get}
-use Rattle.dex_reader.specs.declared.dex.Dex.{Dex}
-use Rattle.dex_reader.specs.declared.dex.FieldId.{FieldId}
-use Rattle.dex_reader.specs.declared.dex.MethodRow.{MethodRow}
+use Rattle.dex_tables.specs.declared.dex.Dex.{Dex}
+use Rattle.dex_tables.specs.declared.dex.FieldId.{FieldId}
+use Rattle.dex_tables.specs.declared.dex.MethodRow.{MethodRow}
 use Rattle.app_machine.specs.declared.call.Proto.{Proto}
 use Rattle.app_machine.specs.declared.call.MethodRef.{MethodRef}
 use Rattle.app_machine.specs.Names.{Name}

@@ -10,7 +10,7 @@ use crate::fault::{Fault, Halt};
 use crate::flags::{says_interface, says_native};
 use crate::texts::{method_row_at, proto_at, text_at, type_at, types_at};
 use app_model::{Class, Proto};
-use dex_reader::{Body, ClassDef, Dex};
+use dex_tables::{Body, ClassDef, Dex};
 use std::alloc::Global;
 use std::collections::BTreeMap;
 use vet_base::{Memory, Name, Seq, Shared, Stop};

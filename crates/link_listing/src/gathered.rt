@@ -12,7 +12,7 @@ use crate::fault::Halt;
 use crate::members::{Fields, Members, Methods, members_of};
 use crate::weight::check_names;
 use app_model::{Component, Manifest};
-use dex_reader::Dex;
+use dex_tables::Dex;
 use std::alloc::Global;
 
 /// What the files and the manifest list.

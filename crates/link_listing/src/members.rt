@@ -11,7 +11,7 @@ use crate::fault::{Fault, Halt};
 use crate::flags::{says_native, says_static};
 use crate::texts::{field_row_at, method_row_at, proto_at, text_at, type_at};
 use app_model::Proto;
-use dex_reader::{Body, ClassDef, Dex, Member};
+use dex_tables::{Body, ClassDef, Dex, Member};
 use std::alloc::Global;
 use std::collections::BTreeMap;
 use vet_base::{Memory, Name, Stop};

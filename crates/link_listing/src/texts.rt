@@ -4,7 +4,7 @@ ghost use Rattle.std.specs.Prelude.{◌≡◌, ◌++◌, IfOk, OnOk};
 ghost use Rattle.link_listing.specs.Texts.{field_of, field_row, method_of, method_row, proto_of, text_of, type_of, types_of};
 
 use app_model::{MethodRef, Proto};
-use dex_reader::{Dex, FieldId, MethodRow};
+use dex_tables::{Dex, FieldId, MethodRow};
 use std::alloc::Global;
 use vet_base::{Memory, Name, Seq, Shared};
 

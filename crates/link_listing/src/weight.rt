@@ -4,7 +4,7 @@ ghost use Rattle.std.specs.Prelude.{◌≡◌, ◌+◌, ◌<◌, OnErr, OnOk, le
 ghost use Rattle.link_listing.specs.Texts.{method_row, proto_of};
 
 use crate::texts::{field_row_at, method_row_at};
-use dex_reader::{Body, ClassDef, Dex, Member, ProtoId};
+use dex_tables::{Body, ClassDef, Dex, Member, ProtoId};
 use std::alloc::Global;
 use vet_base::{Memory, Name};
 

@@ -4,7 +4,7 @@ use Rattle.vet_base.specs.Script.{run}
 use Rattle.vet_base.proofs.Results.{one_ok, ok_or_err}
 use Rattle.vet_base.proofs.Runs.{fails_first, one_first}
 use Rattle.vet_base.proofs.Scripts.{is_first}
-use Rattle.dex_reader.specs.declared.dex.RawCode.{RawCode}
+use Rattle.dex_tables.specs.declared.dex.RawCode.{RawCode}
 use Rattle.dex_code.specs.declared.decoder.Counts.{Counts}
 use Rattle.dex_code.specs.declared.decoder.Decoded.{Decoded}
 use Rattle.dex_code.specs.declared.fault.CodeFault.{CodeFault}

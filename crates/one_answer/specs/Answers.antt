@@ -2,7 +2,7 @@
 use Rattle.std.specs.Prelude.{ℕ, List}
 use Rattle.toml.specs.Data.{Members}
 use Rattle.vet_base.specs.Script.{Script}
-use Rattle.dex_reader.specs.declared.dex.RawCode.{RawCode}
+use Rattle.dex_tables.specs.declared.dex.RawCode.{RawCode}
 use Rattle.dex_code.specs.declared.decoder.Counts.{Counts}
 use Rattle.dex_code.specs.Code.{IsCode, FirstFault}
 use Rattle.form_fields.specs.declared.fault.Fault.{Fault}

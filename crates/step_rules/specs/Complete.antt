@@ -13,10 +13,9 @@ use Rattle.fact_rows.specs.declared.row.Row.TheVariants.{Reached, Points, Taint,
 use Rattle.flow_rules.specs.Nodes.{at_pc}
 use Rattle.flow_rules.specs.Rules.{Each}
 use Rattle.flow_rules.specs.LocalRules.{LocalRule, reach_next, reach_caught, keep_points, keep_taint, keep_points_caught, keep_taint_caught, move_points, move_taint, result_points, result_taint, exception_points, exception_taint, join_taint, new_points, fill_points, fill_cell, fill_taint, get_points, get_taint, put_cell, put_effect, get_static_points, get_static_taint, put_static_points, put_static_taint, throw_points, throw_taint, throw_exit_points, throw_exit_taint, return_points, return_taint, cell_back}
-use Rattle.rule_ground.specs.declared.conclusion.Premises.TheVariants.{One}
 use Rattle.rule_ground.specs.declared.content.Content.TheVariants.{Object, Label}
 use Rattle.rule_ground.specs.declared.key.Key.{Key}
-use Rattle.rule_ground.specs.Given.{concludes, at_each, to_all}
+use Rattle.rule_ground.specs.Given.{of_one, concludes, at_each, to_all}
 use Rattle.rule_ground.specs.Hits.{IsHits}
 use Rattle.rule_ground.specs.Exact.{IsListed}
 use Rattle.vet_base.proofs.Members.{in_front, in_back, in_map}
@@ -33,25 +32,25 @@ module _ (app : App) (has : Row → Type 0) (hits : Key → List Row) (law : (k 
 
   pub step_led : (rule : ℕ) (premises : List Row) (x : Row) → LocalRule app rule premises x → Each has premises → Leads rule premises x
   step_led rule premises x (reach_next {n = n} {pc = pc} g) k =
-      let c = concludes 1 (One (Reached n)) (Reached (at_pc n pc)) in (
+      let c = concludes 1 (of_one (Reached n)) (Reached (at_pc n pc)) in (
         Reached n,
         (
           inl refl,
-          (here (step_leads app hits) (Reached n) 1 (One (Reached n)) (Reached (at_pc n pc)) (at_reached app has hits law n g.step g.there c
+          (here (step_leads app hits) (Reached n) 1 (of_one (Reached n)) (Reached (at_pc n pc)) (at_reached app has hits law n g.step g.there c
               (in_front c (goes_on g.step.next n)
               (goes_on g.step.catches n ++ (made g.step.act g.step.next n ++ statics_read hits g.step.act g.step.next n))
-              (in_map (λ to. concludes 1 (One (Reached n)) (Reached (at_pc n to))) g.step.next pc g.next)))),
+              (in_map (λ to. concludes 1 (of_one (Reached n)) (Reached (at_pc n to))) g.step.next pc g.next)))),
         ),
       )
   step_led rule premises x (reach_caught {n = n} {pc = pc} g) k =
-      let c = concludes 1 (One (Reached n)) (Reached (at_pc n pc)) in (
+      let c = concludes 1 (of_one (Reached n)) (Reached (at_pc n pc)) in (
         Reached n,
         (
           inl refl,
-          (here (step_leads app hits) (Reached n) 1 (One (Reached n)) (Reached (at_pc n pc)) (at_reached app has hits law n g.step g.there c
+          (here (step_leads app hits) (Reached n) 1 (of_one (Reached n)) (Reached (at_pc n pc)) (at_reached app has hits law n g.step g.there c
               (in_back c (goes_on g.step.next n) (goes_on g.step.catches n ++ (made g.step.act g.step.next n ++ statics_read hits g.step.act g.step.next n))
               (in_front c (goes_on g.step.catches n) (made g.step.act g.step.next n ++ statics_read hits g.step.act g.step.next n)
-              (in_map (λ to. concludes 1 (One (Reached n)) (Reached (at_pc n to))) g.step.catches pc g.catch))))),
+              (in_map (λ to. concludes 1 (of_one (Reached n)) (Reached (at_pc n to))) g.step.catches pc g.catch))))),
         ),
       )
   step_led rule premises x (keep_points {n = n} {pc = pc} {r = r} {s = s} {act = a} h w g) k =
@@ -75,42 +74,42 @@ module _ (app : App) (has : Row → Type 0) (hits : Key → List Row) (law : (k 
   step_led rule premises x (exception_taint {n = n} {pc = pc} {d = d} {l = l} {p = p} h g) k =
       (Taint n exception_register p l, (inl refl, (excepted app has hits law (Label p l) n pc d h g)))
   step_led rule premises x (join_taint {n = n} {pc = pc} {l = l} d y {ds = ds} {xs = xs} {p = p} h i j bare g) k =
-      let c = concludes 4 (One (Taint n y p l)) (Taint (at_pc n pc) d empty_path l) in (
+      let c = concludes 4 (of_one (Taint n y p l)) (Taint (at_pc n pc) d empty_path l) in (
         Taint n y p l,
         (
           inl refl,
-          (here (step_leads app hits) (Taint n y p l) 4 (One (Taint n y p l)) (Taint (at_pc n pc) d empty_path l) (at_label app has hits law n y p l (act.Join ds xs) h c
-              (in_where c (holds xs y && is_bare p) (to_all 4 (One (Taint n y p l)) (Label empty_path l) n ds h.step.next)
+          (here (step_leads app hits) (Taint n y p l) 4 (of_one (Taint n y p l)) (Taint (at_pc n pc) d empty_path l) (at_label app has hits law n y p l (act.Join ds xs) h c
+              (in_where c (holds xs y && is_bare p) (to_all 4 (of_one (Taint n y p l)) (Label empty_path l) n ds h.step.next)
               (and_from (holds xs y) (is_bare p) (in_holds y xs j) (bare_of p bare))
-              (in_all 4 (One (Taint n y p l)) (Label empty_path l) n h.step.next ds d pc i (next_in app n h g))))),
+              (in_all 4 (of_one (Taint n y p l)) (Label empty_path l) n h.step.next ds d pc i (next_in app n h g))))),
         ),
       )
   step_led rule premises x (new_points {n = n} {pc = pc} {d = d} {class = class} h g) k =
-      (Reached n, (inl refl, (made_here app has hits law n pc d (act.New d class) h (in_each 5 (One (Reached n)) (Object (At n)) n h.step.next d pc (next_in app n h g)))))
+      (Reached n, (inl refl, (made_here app has hits law n pc d (act.New d class) h (in_each 5 (of_one (Reached n)) (Object (At n)) n h.step.next d pc (next_in app n h g)))))
   step_led rule premises x (fill_points {n = n} {pc = pc} {xs = xs} {class = class} h g) k =
-      (Reached n, (inl refl, (made_here app has hits law n pc result_register (act.Fill xs class) h (in_each 5 (One (Reached n)) (Object (At n)) n h.step.next result_register pc (next_in app n h g)))))
+      (Reached n, (inl refl, (made_here app has hits law n pc result_register (act.Fill xs class) h (in_each 5 (of_one (Reached n)) (Object (At n)) n h.step.next result_register pc (next_in app n h g)))))
   step_led rule premises x (fill_cell {n = n} y {xs = xs} {class = class} {s = s} h i) k =
-      let c = concludes 6 (One (Points n y s)) (Cell (At n) elem_key s) in
-      (Points n y s, (inl refl, (here (step_leads app hits) (Points n y s) 6 (One (Points n y s)) (Cell (At n) elem_key s) (at_object app has hits law n y s (act.Fill xs class) h c (in_where c (holds xs y) (c ∷ []) (in_holds y xs i) (inl refl))))))
+      let c = concludes 6 (of_one (Points n y s)) (Cell (At n) elem_key s) in
+      (Points n y s, (inl refl, (here (step_leads app hits) (Points n y s) 6 (of_one (Points n y s)) (Cell (At n) elem_key s) (at_object app has hits law n y s (act.Fill xs class) h c (in_where c (holds xs y) (c ∷ []) (in_holds y xs i) (inl refl))))))
   step_led rule premises x (fill_taint {n = n} {pc = pc} {l = l} y {xs = xs} {class = class} {p = p} h i g) k =
-      let c = concludes 6 (One (Taint n y p l)) (Taint (at_pc n pc) result_register (cut elem_key p) l) in (
+      let c = concludes 6 (of_one (Taint n y p l)) (Taint (at_pc n pc) result_register (cut elem_key p) l) in (
         Taint n y p l,
         (
           inl refl,
-          (here (step_leads app hits) (Taint n y p l) 6 (One (Taint n y p l)) (Taint (at_pc n pc) result_register (cut elem_key p) l) (at_label app has hits law n y p l (act.Fill xs class) h c
-              (in_where c (holds xs y) (at_each 6 (One (Taint n y p l)) (Label (cut elem_key p) l) n result_register h.step.next) (in_holds y xs i)
-              (in_each 6 (One (Taint n y p l)) (Label (cut elem_key p) l) n h.step.next result_register pc (next_in app n h g))))),
+          (here (step_leads app hits) (Taint n y p l) 6 (of_one (Taint n y p l)) (Taint (at_pc n pc) result_register (cut elem_key p) l) (at_label app has hits law n y p l (act.Fill xs class) h c
+              (in_where c (holds xs y) (at_each 6 (of_one (Taint n y p l)) (Label (cut elem_key p) l) n result_register h.step.next) (in_holds y xs i)
+              (in_each 6 (of_one (Taint n y p l)) (Label (cut elem_key p) l) n h.step.next result_register pc (next_in app n h g))))),
         ),
       )
   step_led rule premises x (get_points {n = n} {pc = pc} {o = o} d {ds = ds} {k = key} {s = s} {t = t} h i g) k = (Points n o s, (inl refl, (got_object app has hits law n pc o d ds key s t h i g k.1.0)))
   step_led rule premises x (get_taint {n = n} {pc = pc} {o = o} {l = l} d {ds = ds} {k = key} {p = p} {q = q} h i cut_off g) k =
-      let c = concludes 7 (One (Taint n o p l)) (Taint (at_pc n pc) d q l) in (
+      let c = concludes 7 (of_one (Taint n o p l)) (Taint (at_pc n pc) d q l) in (
         Taint n o p l,
         (
           inl refl,
-          (here (step_leads app hits) (Taint n o p l) 7 (One (Taint n o p l)) (Taint (at_pc n pc) d q l) (at_label app has hits law n o p l (act.Get ds o key) h c
+          (here (step_leads app hits) (Taint n o p l) 7 (of_one (Taint n o p l)) (Taint (at_pc n pc) d q l) (at_label app has hits law n o p l (act.Get ds o key) h c
               (in_where c (o == o) (rest_gives (rest p key) ds h.step.next n o p l) (itself o)
-              (subst (λ z. In c (rest_gives z ds h.step.next n o p l)) (sym cut_off) (in_all 7 (One (Taint n o p l)) (Label q l) n h.step.next ds d pc i (next_in app n h g)))))),
+              (subst (λ z. In c (rest_gives z ds h.step.next n o p l)) (sym cut_off) (in_all 7 (of_one (Taint n o p l)) (Label q l) n h.step.next ds d pc i (next_in app n h g)))))),
         ),
       )
   step_led rule premises x (put_cell {n = n} {o = o} {x = y} {k = key} {s = s} {t = t} h) k = (Points n o s, (inl refl, (put_points app has hits law n o y key s t h k.1.0)))
@@ -134,7 +133,7 @@ module _ (app : App) (has : Row → Type 0) (hits : Key → List Row) (law : (k 
   step_led rule premises x (return_taint {n = n} {x = y} {l = l} {p = p} h) k =
       (Taint n y p l, (inl refl, (returned app has hits law (Label p l) n y h)))
   step_led rule premises x (cell_back {k = key} {s = s} {t = t}) k =
-      (Cell s key t, (inl refl, (here (step_leads app hits) (Cell s key t) 13 (One (Cell s key t)) (Back t key s) (inl refl))))
+      (Cell s key t, (inl refl, (here (step_leads app hits) (Cell s key t) 13 (of_one (Cell s key t)) (Back t key s) (inl refl))))
 
   -- the only premise
   alone : {row a : Row} {rule : ℕ} {x : Row} → Leads rule (a ∷ []) x → In row (a ∷ []) → IsListed (step_given app hits row) rule (a ∷ []) x

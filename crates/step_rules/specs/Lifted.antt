@@ -1,5 +1,5 @@
 -- The rules of steps, each once for both kinds of content.
-use Rattle.std.proofs.Common.{◌≡◌, ◌==◌, ℕ, List, [], ◌∷◌, Some, IsFalse, refl, sym, subst}
+use Rattle.std.proofs.Common.{◌≡◌, ◌==◌, ℕ, List, [], ◌∷◌, Some, IsFalse, subst}
 use Rattle.vet_base.specs.declared.key_id.KeyId.{KeyId}
 use Rattle.app_machine.specs.declared.method.Act.{Act}
 use Rattle.app_machine.specs.declared.method.Act.TheVariants as act
@@ -10,7 +10,6 @@ use Rattle.app_machine.specs.Local.{writes}
 use Rattle.app_machine.specs.State.{result_register, exception_register}
 use Rattle.fact_rows.specs.declared.context.Node.{Node}
 use Rattle.fact_rows.specs.declared.site.Site.{Site}
-use Rattle.fact_rows.specs.declared.row.Row.{Row}
 use Rattle.fact_rows.specs.declared.row.Row.TheVariants.{Reached, Points}
 use Rattle.flow_rules.specs.Nodes.{at_pc, Acts, GoesOn, CaughtAt}
 use Rattle.flow_rules.specs.LocalRules.{LocalRule, returning, throwing, keep_points, keep_taint, keep_points_caught, keep_taint_caught, move_points, move_taint, result_points, result_taint, exception_points, exception_taint, put_cell, put_effect, get_static_points, get_static_taint, put_static_points, put_static_taint, throw_points, throw_taint, throw_exit_points, throw_exit_taint, return_points, return_taint}

@@ -1,5 +1,5 @@
 -- What is listed follows.
-use Rattle.std.proofs.Common.{◌≡◌, ◌==◌, ℕ, suc, arith, Bool, true, false, ◌&&◌, List, [], ◌∷◌, ◌++◌, Option, Some, None, cond, map, length, flat_map, IsFalse, eqb-true, refl, sym, ap, subst}
+use Rattle.std.proofs.Common.{◌≡◌, ◌==◌, ℕ, suc, arith, true, ◌&&◌, List, [], ◌∷◌, ◌++◌, Option, Some, None, cond, length, flat_map, eqb-true, refl, sym, ap, subst}
 use Rattle.std.proofs.lemmas.Bool.{and_parts}
 use Rattle.vet_base.specs.declared.key_id.KeyId.{KeyId}
 use Rattle.access_path.specs.declared.path.Path.{Path}
@@ -8,7 +8,6 @@ use Rattle.app_machine.specs.declared.method.Act.{Act}
 use Rattle.app_machine.specs.declared.method.Act.TheVariants as act
 use Rattle.app_machine.specs.declared.method.Step.{Step}
 use Rattle.app_machine.specs.declared.app.App.{App}
-use Rattle.vet_base.specs.Members.{In}
 use Rattle.app_machine.specs.Lookups.{elem_key}
 use Rattle.app_machine.specs.Local.{writes}
 use Rattle.app_machine.specs.State.{result_register, exception_register, holds}
@@ -16,16 +15,15 @@ use Rattle.fact_rows.specs.declared.context.Node.{Node}
 use Rattle.fact_rows.specs.declared.site.Site.{Site}
 use Rattle.fact_rows.specs.declared.site.Site.TheVariants.{At}
 use Rattle.fact_rows.specs.declared.row.Row.{Row}
-use Rattle.fact_rows.specs.declared.row.Row.TheVariants.{Reached, Points, Taint, Cell, Back, StaticPoints, StaticTaint, Calls, CalledBy, Effect, MethodEffect, ExitPoints, ExitTaint, Live, CompTaint, Handed, HandedTaint, Arrive, Unknown, Uses}
-use Rattle.flow_rules.specs.Nodes.{at_pc, Acts, GoesOn, CaughtAt}
+use Rattle.fact_rows.specs.declared.row.Row.TheVariants.{Reached, Points, Taint, Cell, StaticPoints, StaticTaint}
+use Rattle.flow_rules.specs.Nodes.{at_pc, Acts}
 use Rattle.flow_rules.specs.LocalRules.{LocalRule, returning, throwing, reach_next, reach_caught, join_taint, new_points, fill_points, fill_cell, fill_taint, get_points, get_taint, put_cell, put_effect, cell_back}
-use Rattle.rule_ground.specs.declared.conclusion.Premises.TheVariants.{One, Two}
 use Rattle.rule_ground.specs.declared.conclusion.Conclusion.{Conclusion}
 use Rattle.rule_ground.specs.declared.content.Content.{Content}
 use Rattle.rule_ground.specs.declared.content.Content.TheVariants.{Object, Label}
 use Rattle.rule_ground.specs.declared.key.Key.{Key}
 use Rattle.rule_ground.specs.declared.key.Key.TheVariants.{PointsAt, TaintsAt, PointsTo, CellsOf, StaticPointsOf, StaticTaintsOf, ReachedAt}
-use Rattle.rule_ground.specs.Given.{concludes, held, held_static, leaves, stored, at_each, to_all}
+use Rattle.rule_ground.specs.Given.{of_one, of_two, concludes, held, held_static, leaves, stored, at_each, to_all}
 use Rattle.rule_ground.specs.Hits.{IsHits}
 use Rattle.rule_ground.specs.Exact.{IsSound}
 use Rattle.std.specs.List.{AllByRecursion}
@@ -52,30 +50,30 @@ module _ (app : App) (has : Row → Type 0) (hits : Key → List Row) (law : (k 
   module _ (n : Node) (step : Step) (there : step_here app n ≡ Some step) where
     goes_sound : has (Reached n) → AllByRecursion (Sound (Reached n)) (goes_on step.next n)
     goes_sound p =
-        each_map (Sound (Reached n)) (λ pc. concludes 1 (One (Reached n)) (Reached (at_pc n pc))) step.next
+        each_map (Sound (Reached n)) (λ pc. concludes 1 (of_one (Reached n)) (Reached (at_pc n pc))) step.next
         (λ pc i. one R has (reach_next (next_of app n there i)) p)
 
     caught_sound : has (Reached n) → AllByRecursion (Sound (Reached n)) (goes_on step.catches n)
     caught_sound p =
-        each_map (Sound (Reached n)) (λ pc. concludes 1 (One (Reached n)) (Reached (at_pc n pc))) step.catches
+        each_map (Sound (Reached n)) (λ pc. concludes 1 (of_one (Reached n)) (Reached (at_pc n pc))) step.catches
         (λ pc i. one R has (reach_caught (catch_of app n there i)) p)
 
     made_sound : has (Reached n) → (a : Act) → step.act ≡ a → AllByRecursion (Sound (Reached n)) (made a step.next n)
     made_sound p (act.New d class) e =
-        each_sound (Sound (Reached n)) 5 (One (Reached n)) (Object (At n)) n step.next d
+        each_sound (Sound (Reached n)) 5 (of_one (Reached n)) (Object (At n)) n step.next d
         (λ pc i. one R has (new_points (act_of app n there e) (next_of app n there i)) p)
     made_sound p (act.Fill xs class) e =
-        each_sound (Sound (Reached n)) 5 (One (Reached n)) (Object (At n)) n step.next result_register
+        each_sound (Sound (Reached n)) 5 (of_one (Reached n)) (Object (At n)) n step.next result_register
         (λ pc i. one R has (fill_points (act_of app n there e) (next_of app n there i)) p)
     made_sound p _ e = tt
 
     reads_sound : (P : Conclusion → Type 0) (g : ℕ) (v : Content) →
-        ((x : Row) → LocalRule app 9 (Reached n ∷ held_static v g ∷ []) x → P (concludes 9 (Two (Reached n) (held_static v g)) x)) →
+        ((x : Row) → LocalRule app 9 (Reached n ∷ held_static v g ∷ []) x → P (concludes 9 (of_two (Reached n) (held_static v g)) x)) →
         (a : Act) → step.act ≡ a → AllByRecursion P (reads a step.next n g v)
-    reads_sound P g v h (act.GetStatic ds f) e = each_where P (f == g) (to_all 9 (Two (Reached n) (held_static v g)) v n ds step.next) (λ t.
+    reads_sound P g v h (act.GetStatic ds f) e = each_where P (f == g) (to_all 9 (of_two (Reached n) (held_static v g)) v n ds step.next) (λ t.
         let same : f ≡ g = eqb-true f g t in
         let own : Acts app n (act.GetStatic ds g) = subst (λ z. Acts app n (act.GetStatic ds z)) same (act_of app n there e) in
-        all_sound P 9 (Two (Reached n) (held_static v g)) v n step.next ds (λ d pc i j. h (held v (at_pc n pc) d) (from_static app n v pc g d ds own i (next_of app n there j))))
+        all_sound P 9 (of_two (Reached n) (held_static v g)) v n step.next ds (λ d pc i j. h (held v (at_pc n pc) d) (from_static app n v pc g d ds own i (next_of app n there j))))
     reads_sound P g v h _ e = tt
 
     statics_sound : has (Reached n) → (a : Act) → step.act ≡ a → AllByRecursion (Sound (Reached n)) (statics_read hits a step.next n)
@@ -94,32 +92,32 @@ module _ (app : App) (has : Row → Type 0) (hits : Key → List Row) (law : (k 
     keeps_sound : (v : Content) (r : ℕ) → has (held v n r) → AllByRecursion (Sound (held v n r)) (keeps step n r v)
     keeps_sound v r p =
         let P = Sound (held v n r) in
-        let f : List ℕ → List Conclusion = at_each 2 (One (held v n r)) v n r in
+        let f : List ℕ → List Conclusion = at_each 2 (of_one (held v n r)) v n r in
         each_append P (cond (writes step.act r) [] (f step.next)) (cond (r == exception_register) [] (f step.catches))
         (each_unless P (writes step.act r) (f step.next)
-        (λ w. each_sound P 2 (One (held v n r)) v n step.next r (λ pc i. one R has (keep app n v pc r step.act (act_of app n there refl) w (next_of app n there i)) p)))
+        (λ w. each_sound P 2 (of_one (held v n r)) v n step.next r (λ pc i. one R has (keep app n v pc r step.act (act_of app n there refl) w (next_of app n there i)) p)))
         (each_unless P (r == exception_register) (f step.catches)
-        (λ w. each_sound P 2 (One (held v n r)) v n step.catches r (λ pc i. one R has (caught app n v pc r w (catch_of app n there i)) p)))
+        (λ w. each_sound P 2 (of_one (held v n r)) v n step.catches r (λ pc i. one R has (caught app n v pc r w (catch_of app n there i)) p)))
 
     passes_sound : (v : Content) (r : ℕ) → has (held v n r) → (a : Act) → step.act ≡ a →
         AllByRecursion (Sound (held v n r)) (passes a step.next step.catches n r v)
-    passes_sound v r p (act.Move ds x) e = each_where (Sound (held v n r)) (x == r) (to_all 3 (One (held v n r)) v n ds step.next) (λ t.
-        all_sound (Sound (held v n r)) 3 (One (held v n r)) v n step.next ds (λ d pc i j.
+    passes_sound v r p (act.Move ds x) e = each_where (Sound (held v n r)) (x == r) (to_all 3 (of_one (held v n r)) v n ds step.next) (λ t.
+        all_sound (Sound (held v n r)) 3 (of_one (held v n r)) v n step.next ds (λ d pc i j.
         one R has (subst (λ z. LocalRule app 3 (held v n z ∷ []) (held v (at_pc n pc) d)) (eqb-true x r t) (moved app n v pc x d ds (act_of app n there e) i (next_of app n there j))) p))
-    passes_sound v r p (act.TakeResult ds) e = each_where (Sound (held v n r)) (r == result_register) (to_all 3 (One (held v n r)) v n ds step.next) (λ t.
-        all_sound (Sound (held v n r)) 3 (One (held v n r)) v n step.next ds (λ d pc i j.
+    passes_sound v r p (act.TakeResult ds) e = each_where (Sound (held v n r)) (r == result_register) (to_all 3 (of_one (held v n r)) v n ds step.next) (λ t.
+        all_sound (Sound (held v n r)) 3 (of_one (held v n r)) v n step.next ds (λ d pc i j.
         one R has (subst (λ z. LocalRule app 3 (held v n z ∷ []) (held v (at_pc n pc) d)) (sym (eqb-true r result_register t)) (resulted app n v pc d ds (act_of app n there e) i (next_of app n there j))) p))
-    passes_sound v r p (act.TakeException d) e = each_where (Sound (held v n r)) (r == exception_register) (at_each 3 (One (held v n r)) v n d step.next) (λ t.
-        each_sound (Sound (held v n r)) 3 (One (held v n r)) v n step.next d (λ pc j.
+    passes_sound v r p (act.TakeException d) e = each_where (Sound (held v n r)) (r == exception_register) (at_each 3 (of_one (held v n r)) v n d step.next) (λ t.
+        each_sound (Sound (held v n r)) 3 (of_one (held v n r)) v n step.next d (λ pc j.
         one R has (subst (λ z. LocalRule app 3 (held v n z ∷ []) (held v (at_pc n pc) d)) (sym (eqb-true r exception_register t)) (excepted app n v pc d (act_of app n there e) (next_of app n there j))) p))
-    passes_sound v r p (act.PutStatic g x) e = each_where (Sound (held v n r)) (x == r) (concludes 10 (One (held v n r)) (held_static v g) ∷ []) (λ t.
+    passes_sound v r p (act.PutStatic g x) e = each_where (Sound (held v n r)) (x == r) (concludes 10 (of_one (held v n r)) (held_static v g) ∷ []) (λ t.
         (one R has (subst (λ z. LocalRule app 10 (held v n z ∷ []) (held_static v g)) (eqb-true x r t) (to_static app n v g x (act_of app n there e))) p, tt))
     passes_sound v r p (act.Throw x) e = each_where (Sound (held v n r)) (x == r) (thrown step.catches n r v) (λ t. (
       one R has (subst (λ z. LocalRule app 11 (held v n z ∷ []) (leaves v n.by throwing)) (eqb-true x r t) (threw_out app n v x (act_of app n there e))) p,
-      each_sound (Sound (held v n r)) 11 (One (held v n r)) v n step.catches exception_register (λ pc j.
+      each_sound (Sound (held v n r)) 11 (of_one (held v n r)) v n step.catches exception_register (λ pc j.
           one R has (subst (λ z. LocalRule app 11 (held v n z ∷ []) (held v (at_pc n pc) exception_register)) (eqb-true x r t) (threw app n v pc x (act_of app n there e) (catch_of app n there j))) p),
     ))
-    passes_sound v r p (act.Return (Some x)) e = each_where (Sound (held v n r)) (x == r) (concludes 12 (One (held v n r)) (leaves v n.by returning) ∷ []) (λ t.
+    passes_sound v r p (act.Return (Some x)) e = each_where (Sound (held v n r)) (x == r) (concludes 12 (of_one (held v n r)) (leaves v n.by returning) ∷ []) (λ t.
         (one R has (subst (λ z. LocalRule app 12 (held v n z ∷ []) (leaves v n.by returning)) (eqb-true x r t) (returned app n v x (act_of app n there e))) p, tt))
     passes_sound v r p _ e = tt
 
@@ -142,14 +140,14 @@ module _ (app : App) (has : Row → Type 0) (hits : Key → List Row) (law : (k 
 
     object_sound : (r : ℕ) (s : Site) → has (Points n r s) → (a : Act) → step.act ≡ a →
         AllByRecursion (Sound (Points n r s)) (object_gives hits a step.next n r s)
-    object_sound r s p (act.Fill xs class) e = each_where (Sound (Points n r s)) (holds xs r) (concludes 6 (One (Points n r s)) (Cell (At n) elem_key s) ∷ []) (λ t.
+    object_sound r s p (act.Fill xs class) e = each_where (Sound (Points n r s)) (holds xs r) (concludes 6 (of_one (Points n r s)) (Cell (At n) elem_key s) ∷ []) (λ t.
         (one R has (fill_cell r (act_of app n there e) (holds_in r xs t)) p, tt))
     object_sound r s p (act.Get ds o k) e =
         let P = Sound (Points n r s) in
         let f : Row → List Conclusion = got_gives ds step.next n r s in
         each_where P (o == r) (flat_map f (hits (CellsOf s k))) (λ t. each_flat P f (hits (CellsOf s k)) (λ row i.
         let u = (law (CellsOf s k)).under row i in
-        subst (λ z. AllByRecursion P (f z)) (sym u.1) (all_sound P 7 (Two (Points n r s) (Cell s k u.0)) (Object u.0) n step.next ds (λ d pc m j.
+        subst (λ z. AllByRecursion P (f z)) (sym u.1) (all_sound P 7 (of_two (Points n r s) (Cell s k u.0)) (Object u.0) n step.next ds (λ d pc m j.
         first R has (subst (λ z. LocalRule app 7 (Points n z s ∷ Cell s k u.0 ∷ []) (Points (at_pc n pc) d u.0)) (eqb-true o r t) (get_points d (act_of app n there e) m (next_of app n there j))) p (at_hit has hits law _ row _ i u.1)))))
     object_sound r s p (act.Put o k x) e =
         let P = Sound (Points n r s) in
@@ -177,27 +175,27 @@ module _ (app : App) (has : Row → Type 0) (hits : Key → List Row) (law : (k 
         (o : Option Path) → rest p k ≡ o → AllByRecursion (Sound (Taint n r p l)) (rest_gives o ds step.next n r p l)
     rest_sound r p l ds k h a None e = tt
     rest_sound r p l ds k h a (Some q) e =
-        all_sound (Sound (Taint n r p l)) 7 (One (Taint n r p l)) (Label q l) n step.next ds
+        all_sound (Sound (Taint n r p l)) 7 (of_one (Taint n r p l)) (Label q l) n step.next ds
         (λ d pc i j. one R has (get_taint d a i e (next_of app n there j)) h)
 
     label_sound : (r : ℕ) (p : Path) (l : ℕ) → has (Taint n r p l) → (a : Act) → step.act ≡ a →
         AllByRecursion (Sound (Taint n r p l)) (label_gives a step.next n r p l)
-    label_sound r p l h (act.Join ds xs) e = each_where (Sound (Taint n r p l)) (holds xs r && is_bare p) (to_all 4 (One (Taint n r p l)) (Label empty_path l) n ds step.next) (λ t.
+    label_sound r p l h (act.Join ds xs) e = each_where (Sound (Taint n r p l)) (holds xs r && is_bare p) (to_all 4 (of_one (Taint n r p l)) (Label empty_path l) n ds step.next) (λ t.
         let b = and_parts (holds xs r) (is_bare p) t in
-        all_sound (Sound (Taint n r p l)) 4 (One (Taint n r p l)) (Label empty_path l) n step.next ds (λ d pc i j. one R has (join_taint d r (act_of app n there e) i (holds_in r xs b.0) (bare_is (keys_of p) b.1) (next_of app n there j)) h))
-    label_sound r p l h (act.Fill xs class) e = each_where (Sound (Taint n r p l)) (holds xs r) (at_each 6 (One (Taint n r p l)) (Label (cut elem_key p) l) n result_register step.next) (λ t.
-        each_sound (Sound (Taint n r p l)) 6 (One (Taint n r p l)) (Label (cut elem_key p) l) n step.next result_register (λ pc j. one R has (fill_taint r (act_of app n there e) (holds_in r xs t) (next_of app n there j)) h))
+        all_sound (Sound (Taint n r p l)) 4 (of_one (Taint n r p l)) (Label empty_path l) n step.next ds (λ d pc i j. one R has (join_taint d r (act_of app n there e) i (holds_in r xs b.0) (bare_is (keys_of p) b.1) (next_of app n there j)) h))
+    label_sound r p l h (act.Fill xs class) e = each_where (Sound (Taint n r p l)) (holds xs r) (at_each 6 (of_one (Taint n r p l)) (Label (cut elem_key p) l) n result_register step.next) (λ t.
+        each_sound (Sound (Taint n r p l)) 6 (of_one (Taint n r p l)) (Label (cut elem_key p) l) n step.next result_register (λ pc j. one R has (fill_taint r (act_of app n there e) (holds_in r xs t) (next_of app n there j)) h))
     label_sound r p l h (act.Get ds o k) e = each_where (Sound (Taint n r p l)) (o == r) (rest_gives (rest p k) ds step.next n r p l) (λ t.
         rest_sound r p l ds k h (subst (λ z. Acts app n (act.Get ds z k)) (eqb-true o r t) (act_of app n there e)) (rest p k) refl)
     label_sound r p l h _ e = tt
 
     gets_sound : (P : Conclusion → Type 0) (r : ℕ) (s : Site) (k : KeyId) (t : Site) →
-        ((x : Row) → LocalRule app 7 (Points n r s ∷ Cell s k t ∷ []) x → P (concludes 7 (Two (Points n r s) (Cell s k t)) x)) → (a : Act) →
+        ((x : Row) → LocalRule app 7 (Points n r s ∷ Cell s k t ∷ []) x → P (concludes 7 (of_two (Points n r s) (Cell s k t)) x)) → (a : Act) →
         step.act ≡ a → AllByRecursion P (gets a step.next n r s k t)
-    gets_sound P r s k t h (act.Get ds o j) e = each_where P (o == r && j.0 == k.0) (to_all 7 (Two (Points n r s) (Cell s k t)) (Object t) n ds step.next) (λ c.
+    gets_sound P r s k t h (act.Get ds o j) e = each_where P (o == r && j.0 == k.0) (to_all 7 (of_two (Points n r s) (Cell s k t)) (Object t) n ds step.next) (λ c.
         let b = and_parts (o == r) (j.0 == k.0) c in
         let own : Acts app n (act.Get ds r k) = subst (λ z. Acts app n (act.Get ds r z)) (key_same j k (eqb-true j.0 k.0 b.1)) (subst (λ z. Acts app n (act.Get ds z j)) (eqb-true o r b.0) (act_of app n there e)) in
-        all_sound P 7 (Two (Points n r s) (Cell s k t)) (Object t) n step.next ds (λ d pc i m. h (Points (at_pc n pc) d t) (get_points d own i (next_of app n there m))))
+        all_sound P 7 (of_two (Points n r s) (Cell s k t)) (Object t) n step.next ds (λ d pc i m. h (Points (at_pc n pc) d t) (get_points d own i (next_of app n there m))))
     gets_sound P r s k t h _ e = tt
 
   reached_sound : (n : Node) → has (Reached n) → (o : Option Step) → step_here app n ≡ o → AllByRecursion (Sound (Reached n)) (reached_on o hits n)
@@ -231,7 +229,7 @@ module _ (app : App) (has : Row → Type 0) (hits : Key → List Row) (law : (k 
       (puts_sound n step e (Label p l) r h step.act refl)
 
   reads_on_sound : (P : Conclusion → Type 0) (n : Node) (g : ℕ) (v : Content) →
-      ((x : Row) → LocalRule app 9 (Reached n ∷ held_static v g ∷ []) x → P (concludes 9 (Two (Reached n) (held_static v g)) x)) →
+      ((x : Row) → LocalRule app 9 (Reached n ∷ held_static v g ∷ []) x → P (concludes 9 (of_two (Reached n) (held_static v g)) x)) →
       (o : Option Step) → step_here app n ≡ o → AllByRecursion P (reads_on o n g v)
   reads_on_sound P n g v h None e = tt
   reads_on_sound P n g v h (Some step) e = reads_sound n step e P g v h step.act refl
@@ -245,7 +243,7 @@ module _ (app : App) (has : Row → Type 0) (hits : Key → List Row) (law : (k 
       (Reached u.0, u.1.1.1, reads_on_sound P u.0 g v (λ x by. second R has by (at_hit has hits law _ row _ i u.1.1.1) p) (step_here app u.0) refl)))
 
   gets_on_sound : (P : Conclusion → Type 0) (n : Node) (r : ℕ) (s : Site) (k : KeyId) (t : Site) →
-      ((x : Row) → LocalRule app 7 (Points n r s ∷ Cell s k t ∷ []) x → P (concludes 7 (Two (Points n r s) (Cell s k t)) x)) →
+      ((x : Row) → LocalRule app 7 (Points n r s ∷ Cell s k t ∷ []) x → P (concludes 7 (of_two (Points n r s) (Cell s k t)) x)) →
       (o : Option Step) → step_here app n ≡ o → AllByRecursion P (gets_on o n r s k t)
   gets_on_sound P n r s k t h None e = tt
   gets_on_sound P n r s k t h (Some step) e = gets_sound n step e P r s k t h step.act refl

@@ -1,5 +1,5 @@
 -- What a row gives by the rules of steps, as a list of conclusions.
-use Rattle.std.specs.Prelude.{◌==◌, ◌&&◌, ℕ, Bool, true, false, List, [], ◌∷◌, ◌++◌, length, Option, Some, None, cond, map, flat_map}
+use Rattle.std.specs.Prelude.{◌==◌, ◌&&◌, ℕ, Bool, List, [], ◌∷◌, ◌++◌, length, Option, Some, None, cond, map, flat_map}
 use Rattle.vet_base.specs.declared.key_id.KeyId.{KeyId}
 use Rattle.access_path.specs.declared.path.Path.{Path}
 use Rattle.access_path.specs.Paths.{keys_of, cut, rest, empty_path}
@@ -17,14 +17,12 @@ use Rattle.fact_rows.specs.declared.row.Row.{Row}
 use Rattle.fact_rows.specs.declared.row.Row.TheVariants.{Reached, Points, Taint, Cell, Back, StaticPoints, StaticTaint}
 use Rattle.flow_rules.specs.Nodes.{at_pc}
 use Rattle.flow_rules.specs.LocalRules.{returning, throwing}
-use Rattle.rule_ground.specs.declared.conclusion.Premises.{Premises}
-use Rattle.rule_ground.specs.declared.conclusion.Premises.TheVariants.{One, Two}
 use Rattle.rule_ground.specs.declared.conclusion.Conclusion.{Conclusion}
 use Rattle.rule_ground.specs.declared.content.Content.{Content}
 use Rattle.rule_ground.specs.declared.content.Content.TheVariants.{Object, Label}
 use Rattle.rule_ground.specs.declared.key.Key.{Key}
 use Rattle.rule_ground.specs.declared.key.Key.TheVariants.{PointsAt, TaintsAt, PointsTo, CellsOf, StaticPointsOf, StaticTaintsOf, ReachedAt}
-use Rattle.rule_ground.specs.Given.{concludes, held, held_static, leaves, stored, at_each, to_all}
+use Rattle.rule_ground.specs.Given.{of_one, of_two, concludes, held, held_static, leaves, stored, at_each, to_all}
 use Rattle.app_index.specs.declared.static_readers.Reader.{Reader}
 use Rattle.app_index.specs.Readers.{readers_of}
 
@@ -34,17 +32,17 @@ step_here app n = step_at app n.by.method n.pc
 
 -- 1. Control goes on.
 abbrev pub goes_on : List ℕ → Node → List Conclusion
-goes_on pcs n = map (λ pc. concludes 1 (One (Reached n)) (Reached (at_pc n pc))) pcs
+goes_on pcs n = map (λ pc. concludes 1 (of_one (Reached n)) (Reached (at_pc n pc))) pcs
 
 -- 5. What is made here.
 abbrev pub made : Act → List ℕ → Node → List Conclusion
-made (act.New d class) next n = at_each 5 (One (Reached n)) (Object (At n)) n d next
-made (act.Fill xs class) next n = at_each 5 (One (Reached n)) (Object (At n)) n result_register next
+made (act.New d class) next n = at_each 5 (of_one (Reached n)) (Object (At n)) n d next
+made (act.Fill xs class) next n = at_each 5 (of_one (Reached n)) (Object (At n)) n result_register next
 made _ next n = []
 
 -- 9. What a static gives to a reader, and to each reader that is found.
 abbrev pub reads : Act → List ℕ → Node → ℕ → Content → List Conclusion
-reads (act.GetStatic ds f) next n g v = cond (f == g) (to_all 9 (Two (Reached n) (held_static v g)) v n ds next) []
+reads (act.GetStatic ds f) next n g v = cond (f == g) (to_all 9 (of_two (Reached n) (held_static v g)) v n ds next) []
 reads _ next n g v = []
 
 abbrev pub reads_on : Option Step → Node → ℕ → Content → List Conclusion
@@ -81,26 +79,26 @@ reached_on (Some step) hits n = goes_on step.next n ++ (goes_on step.catches n +
 -- 2. A register keeps what it holds.
 abbrev pub keeps : Step → Node → ℕ → Content → List Conclusion
 keeps step n r v =
-    cond (writes step.act r) [] (at_each 2 (One (held v n r)) v n r step.next) ++ cond (r == exception_register) []
-    (at_each 2 (One (held v n r)) v n r step.catches)
+    cond (writes step.act r) [] (at_each 2 (of_one (held v n r)) v n r step.next) ++ cond (r == exception_register) []
+    (at_each 2 (of_one (held v n r)) v n r step.catches)
 
 -- 11. It is thrown: out of the activation, and to each handler.
 abbrev pub thrown : List ℕ → Node → ℕ → Content → List Conclusion
-thrown catches n r v = concludes 11 (One (held v n r)) (leaves v n.by throwing) ∷ at_each 11 (One (held v n r)) v n exception_register catches
+thrown catches n r v = concludes 11 (of_one (held v n r)) (leaves v n.by throwing) ∷ at_each 11 (of_one (held v n r)) v n exception_register catches
 
 -- 3, 10, 11, 12. It is passed on.
 abbrev pub passes : Act → List ℕ → List ℕ → Node → ℕ → Content → List Conclusion
-passes (act.Move ds x) next catches n r v = cond (x == r) (to_all 3 (One (held v n r)) v n ds next) []
-passes (act.TakeResult ds) next catches n r v = cond (r == result_register) (to_all 3 (One (held v n r)) v n ds next) []
-passes (act.TakeException d) next catches n r v = cond (r == exception_register) (at_each 3 (One (held v n r)) v n d next) []
-passes (act.PutStatic g x) next catches n r v = cond (x == r) (concludes 10 (One (held v n r)) (held_static v g) ∷ []) []
+passes (act.Move ds x) next catches n r v = cond (x == r) (to_all 3 (of_one (held v n r)) v n ds next) []
+passes (act.TakeResult ds) next catches n r v = cond (r == result_register) (to_all 3 (of_one (held v n r)) v n ds next) []
+passes (act.TakeException d) next catches n r v = cond (r == exception_register) (at_each 3 (of_one (held v n r)) v n d next) []
+passes (act.PutStatic g x) next catches n r v = cond (x == r) (concludes 10 (of_one (held v n r)) (held_static v g) ∷ []) []
 passes (act.Throw x) next catches n r v = cond (x == r) (thrown catches n r v) []
-passes (act.Return (Some x)) next catches n r v = cond (x == r) (concludes 12 (One (held v n r)) (leaves v n.by returning) ∷ []) []
+passes (act.Return (Some x)) next catches n r v = cond (x == r) (concludes 12 (of_one (held v n r)) (leaves v n.by returning) ∷ []) []
 passes _ next catches n r v = []
 
 -- 8, from the value: each object of the register is one that holds it.
 abbrev pub put_gives : Node → KeyId → ℕ → Content → Row → List Conclusion
-put_gives n k r v (Points m o s) = concludes 8 (Two (Points m o s) (held v n r)) (stored v n s k) ∷ []
+put_gives n k r v (Points m o s) = concludes 8 (of_two (Points m o s) (held v n r)) (stored v n s k) ∷ []
 put_gives n k r v _ = []
 
 abbrev pub puts : (Key → List Row) → Act → Node → ℕ → Content → List Conclusion
@@ -113,18 +111,18 @@ content_alone step n r v = keeps step n r v ++ passes step.act step.next step.ca
 
 -- 8, from the object: what the value's register holds.
 abbrev pub put_on_gives : Node → KeyId → ℕ → Site → Row → List Conclusion
-put_on_gives n k r s (Points m x t) = concludes 8 (Two (Points n r s) (Points m x t)) (Cell s k t) ∷ []
-put_on_gives n k r s (Taint m x p l) = concludes 8 (Two (Points n r s) (Taint m x p l)) (stored (Label p l) n s k) ∷ []
+put_on_gives n k r s (Points m x t) = concludes 8 (of_two (Points n r s) (Points m x t)) (Cell s k t) ∷ []
+put_on_gives n k r s (Taint m x p l) = concludes 8 (of_two (Points n r s) (Taint m x p l)) (stored (Label p l) n s k) ∷ []
 put_on_gives n k r s _ = []
 
 -- 7. What the object holds under the key.
 abbrev pub got_gives : List ℕ → List ℕ → Node → ℕ → Site → Row → List Conclusion
-got_gives ds next n r s (Cell u k t) = to_all 7 (Two (Points n r s) (Cell u k t)) (Object t) n ds next
+got_gives ds next n r s (Cell u k t) = to_all 7 (of_two (Points n r s) (Cell u k t)) (Object t) n ds next
 got_gives ds next n r s _ = []
 
 -- 6, 7, 8. What an object gives alone.
 abbrev pub object_gives : (Key → List Row) → Act → List ℕ → Node → ℕ → Site → List Conclusion
-object_gives hits (act.Fill xs class) next n r s = cond (holds xs r) (concludes 6 (One (Points n r s)) (Cell (At n) elem_key s) ∷ []) []
+object_gives hits (act.Fill xs class) next n r s = cond (holds xs r) (concludes 6 (of_one (Points n r s)) (Cell (At n) elem_key s) ∷ []) []
 object_gives hits (act.Get ds o k) next n r s = cond (o == r) (flat_map (got_gives ds next n r s) (hits (CellsOf s k))) []
 object_gives hits (act.Put o k x) next n r s =
     cond (o == r) (flat_map (put_on_gives n k r s) (hits (PointsAt n x)) ++ flat_map (put_on_gives n k r s) (hits (TaintsAt n x))) []
@@ -146,11 +144,11 @@ is_bare p = length (keys_of p) == 0
 -- 4, 6, 7. What a label gives alone.
 abbrev pub rest_gives : Option Path → List ℕ → List ℕ → Node → ℕ → Path → ℕ → List Conclusion
 rest_gives None ds next n r p l = []
-rest_gives (Some q) ds next n r p l = to_all 7 (One (Taint n r p l)) (Label q l) n ds next
+rest_gives (Some q) ds next n r p l = to_all 7 (of_one (Taint n r p l)) (Label q l) n ds next
 
 abbrev pub label_gives : Act → List ℕ → Node → ℕ → Path → ℕ → List Conclusion
-label_gives (act.Join ds xs) next n r p l = cond (holds xs r && is_bare p) (to_all 4 (One (Taint n r p l)) (Label empty_path l) n ds next) []
-label_gives (act.Fill xs class) next n r p l = cond (holds xs r) (at_each 6 (One (Taint n r p l)) (Label (cut elem_key p) l) n result_register next) []
+label_gives (act.Join ds xs) next n r p l = cond (holds xs r && is_bare p) (to_all 4 (of_one (Taint n r p l)) (Label empty_path l) n ds next) []
+label_gives (act.Fill xs class) next n r p l = cond (holds xs r) (at_each 6 (of_one (Taint n r p l)) (Label (cut elem_key p) l) n result_register next) []
 label_gives (act.Get ds o k) next n r p l = cond (o == r) (rest_gives (rest p k) ds next n r p l) []
 label_gives _ next n r p l = []
 
@@ -165,7 +163,7 @@ taint_on (Some step) hits n r p l = taint_leads (Some step) n r p l ++ puts hits
 
 -- 7, from the cell: each register that may hold the object.
 abbrev pub gets : Act → List ℕ → Node → ℕ → Site → KeyId → Site → List Conclusion
-gets (act.Get ds o j) next n r s k t = cond (o == r && j.0 == k.0) (to_all 7 (Two (Points n r s) (Cell s k t)) (Object t) n ds next) []
+gets (act.Get ds o j) next n r s k t = cond (o == r && j.0 == k.0) (to_all 7 (of_two (Points n r s) (Cell s k t)) (Object t) n ds next) []
 gets _ next n r s k t = []
 
 abbrev pub gets_on : Option Step → Node → ℕ → Site → KeyId → Site → List Conclusion
@@ -178,7 +176,7 @@ getter_gives app s k t _ = []
 
 -- 7, 13. What a cell gives.
 abbrev pub back_gives : Site → KeyId → Site → Conclusion
-back_gives s k t = concludes 13 (One (Cell s k t)) (Back t k s)
+back_gives s k t = concludes 13 (of_one (Cell s k t)) (Back t k s)
 
 abbrev pub cell_gives : App → (Key → List Row) → Site → KeyId → Site → List Conclusion
 cell_gives app hits s k t = back_gives s k t ∷ flat_map (getter_gives app s k t) (hits (PointsTo s))

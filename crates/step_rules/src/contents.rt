@@ -23,7 +23,7 @@ fn keep<S: Sink>(
 {
     let inference = Inference {
         rule: 2,
-        premises: Premises::One(content.held(node, register)),
+        premises: Premises::of_one(content.held(node, register)),
     };
     if !writes(&step.act, register) {
         put_each(
@@ -58,7 +58,7 @@ fn throw<S: Sink>(
 ) -> Result<(), S::Refusal>
     ensures { OnOk result (out.new ≡ fold S.then out.old (thrown catches.now node register content)) }
 {
-    let premises = Premises::One(content.held(node, register));
+    let premises = Premises::of_one(content.held(node, register));
     out.put(Conclusion {
         rule: 11,
         premises,
@@ -79,7 +79,7 @@ fn pass<S: Sink>(
     ensures { OnOk result (out.new ≡ fold S.then out.old (passes step.now.act step.now.next step.now.catches node
         register content)) }
 {
-    let premises = Premises::One(content.held(node, register));
+    let premises = Premises::of_one(content.held(node, register));
     let moved = Inference { rule: 3, premises };
     let next = step.next.as_slice();
     match &step.act {
@@ -135,7 +135,7 @@ impl Join for IntoObject {
         match row {
             Row::Points(_, _, site) => out.put(Conclusion {
                 rule: 8,
-                premises: Premises::Two(row, self.content.held(self.node, self.register)),
+                premises: Premises::of_two(row, self.content.held(self.node, self.register)),
                 row: self.content.stored(self.node, site, self.key),
             }),
             _ => Ok(()),

@@ -50,7 +50,7 @@ fn get_rest<S: Sink>(
         Some(shorter) => {
             let inference = Inference {
                 rule: 7,
-                premises: Premises::One(from.row()),
+                premises: Premises::of_one(from.row()),
             };
             let content = Content::Label(shorter, from.label);
             put_all(inference, content, from.node, targets, next, out)
@@ -63,7 +63,7 @@ fn label_alone<S: Sink>(step: &Step, held: Labelled, out: &mut S) -> Result<(), 
     ensures { OnOk result (out.new ≡ fold S.then out.old (label_gives step.now.act step.now.next held.node held.register
         held.path held.label)) }
 {
-    let premises = Premises::One(held.row());
+    let premises = Premises::of_one(held.row());
     let next = step.next.as_slice();
     match &step.act {
         Act::Join(targets, sources) => {

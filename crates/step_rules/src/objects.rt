@@ -47,7 +47,7 @@ impl<'a> Join for Got<'a> {
             Row::Cell(_, _, held) => {
                 let inference = Inference {
                     rule: 7,
-                    premises: Premises::Two(self.from.row(), row),
+                    premises: Premises::of_two(self.from.row(), row),
                 };
                 let held = Content::Object(held);
                 put_all(
@@ -77,7 +77,7 @@ impl Join for OnObject {
     ghost gives = { λ j row. put_on_gives j.into.node j.key j.into.register j.into.site row };
 
     fn give<S: Sink>(&self, row: Row, out: &mut S) -> Result<(), S::Refusal> {
-        let premises = Premises::Two(self.into.row(), row);
+        let premises = Premises::of_two(self.into.row(), row);
         match row {
             Row::Points(_, _, held) => out.put(Conclusion {
                 rule: 8,
@@ -109,7 +109,7 @@ fn object_alone<F: Facts, S: Sink>(
             if is_among(elements.as_slice(), held.register) {
                 out.put(Conclusion {
                     rule: 6,
-                    premises: Premises::One(held.row()),
+                    premises: Premises::of_one(held.row()),
                     row: Row::Cell(Site::At(held.node), KeyId(0), held.site),
                 })
             } else {
@@ -209,7 +209,7 @@ fn get_held<S: Sink>(
             if *register == from.register && own.0 == key.0 {
                 let inference = Inference {
                     rule: 7,
-                    premises: Premises::Two(from.row(), Row::Cell(from.site, key, held)),
+                    premises: Premises::of_two(from.row(), Row::Cell(from.site, key, held)),
                 };
                 let held = Content::Object(held);
                 put_all(
@@ -266,7 +266,7 @@ pub fn back<S: Sink>(site: Site, key: KeyId, held: Site, out: &mut S) -> Result<
 {
     out.put(Conclusion {
         rule: 13,
-        premises: Premises::One(Row::Cell(site, key, held)),
+        premises: Premises::of_one(Row::Cell(site, key, held)),
         row: Row::Back(held, key, site),
     })
 }

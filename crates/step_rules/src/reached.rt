@@ -16,7 +16,7 @@ fn go_on<S: Sink>(pcs: &[u32], node: Node, out: &mut S) -> Result<(), S::Refusal
     for pc in pcs {
         out.put(Conclusion {
             rule: 1,
-            premises: Premises::One(Row::Reached(node)),
+            premises: Premises::of_one(Row::Reached(node)),
             row: Row::Reached(at_pc(node, *pc)),
         })?;
     }
@@ -30,7 +30,7 @@ fn make<S: Sink>(act: &Act, next: &[u32], node: Node, out: &mut S) -> Result<(),
     let made = Content::Object(Site::At(node));
     let inference = Inference {
         rule: 5,
-        premises: Premises::One(Row::Reached(node)),
+        premises: Premises::of_one(Row::Reached(node)),
     };
     match act {
         Act::New(target, _) => put_each(inference, made, node, *target, next, out),

@@ -25,7 +25,7 @@ fn read<S: Sink>(
             if *own == number {
                 let inference = Inference {
                     rule: 9,
-                    premises: Premises::Two(Row::Reached(node), content.held_static(number)),
+                    premises: Premises::of_two(Row::Reached(node), content.held_static(number)),
                 };
                 put_all(inference, content, node, targets.as_slice(), next, out)
             } else {

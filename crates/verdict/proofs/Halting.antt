@@ -1,10 +1,10 @@
 -- The refusals of the parts.
 use Rattle.std.proofs.Common.{◌≡◌, ◌≢◌, ◌⊎◌, Result, Ok, Err, ℕ, ◌+◌, ◌^◌, ◌<◌, ◌≤◌, zero, suc, List, [], ◌∷◌, ◌++◌, length, take, get_or, Some, refl, sym, subst, arith, add-one, inl, inr}
 use Rattle.std.proofs.lemmas.Option.{slice_get_read}
-use Rattle.std.specs.Prelude.{false, codes, slice_get}
+use Rattle.std.specs.Prelude.{codes, slice_get}
 use Rattle.vet_base.specs.declared.stop.Stop.{Stop}
 use Rattle.vet_base.specs.declared.stop.Stop.TheVariants as stops
-use Rattle.dex_reader.specs.declared.dex.Dex.{Dex}
+use Rattle.dex_tables.specs.declared.dex.Dex.{Dex}
 use Rattle.dex_reader.specs.declared.told.DexFault.{DexFault}
 use Rattle.dex_reader.specs.declared.told.DexFault.TheVariants as dex_fault
 use Rattle.dex_reader.specs.Dex.{IsDex}

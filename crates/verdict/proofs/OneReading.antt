@@ -1,9 +1,9 @@
 -- What the DEX files hold is one list, or one of them is the first bad one, and not both.
-use Rattle.std.proofs.Common.{◌≡◌, ◌⊎◌, ℕ, zero, suc, ◌<◌, List, [], ◌∷◌, take, Some, refl, sym, ◌∙◌, subst, arith, inl, inr}
+use Rattle.std.proofs.Common.{◌≡◌, ◌⊎◌, ℕ, zero, suc, ◌<◌, List, [], ◌∷◌, take, Some, refl, sym, ◌∙◌, subst, inl, inr}
 use Rattle.std.specs.Prelude.{slice_get}
 use Rattle.std.proofs.lemmas.Bool.{cases_order}
-use Rattle.dex_reader.specs.declared.dex.Dex.{Dex}
-use Rattle.dex_reader.specs.declared.fault.Fault.{Fault}
+use Rattle.dex_tables.specs.declared.dex.Dex.{Dex}
+use Rattle.dex_tables.specs.declared.fault.Fault.{Fault}
 use Rattle.dex_reader.specs.Dex.{IsDex, OneDexOrFault}
 use Rattle.dex_reader.specs.Whole.{FirstDexFault}
 use Rattle.verdict.specs.Refuses.{AreDex, IsFirstBad}

@@ -1,11 +1,10 @@
 -- What an app comes to, that it tells of every run, and that a clear app is safe.
-use Rattle.std.proofs.Common.{◌≡◌, ◌==◌, ◌<◌, ℕ, true, List, [], ◌∷◌, ◌++◌, Option, Some, refl, sym, ◌∙◌, ap, subst, inl, inr}
-use Rattle.std.specs.Prelude.{length}
+use Rattle.std.proofs.Common.{◌≡◌, ◌==◌, ℕ, true, List, [], ◌∷◌, ◌++◌, Option, Some, refl, sym, ◌∙◌, ap, subst, inl, inr}
 use Rattle.std.proofs.lemmas.Bool.{eq-eqb}
 use Rattle.app_machine.specs.declared.app.App.{App}
 use Rattle.app_machine.specs.declared.lists.Lists.{Lists}
 use Rattle.app_machine.specs.declared.papers.Declaration.{Declaration}
-use Rattle.app_machine.specs.Safe.{Declared, Safe}
+use Rattle.app_machine.specs.Safe.{Safe}
 use Rattle.app_machine.specs.Sound.{SoundApp}
 use Rattle.app_machine.specs.State.{Arrival}
 use Rattle.app_flow.specs.declared.flow.Flow.{Flow}

@@ -21,7 +21,7 @@ use Rattle.verdict.specs.OneVerdict.{LowerLaws, RefusesOnly}
 use Rattle.verdict.specs.Recheck.{OnlyRejudgement, RechecksTo, Rejudgement, TellsAllBy, TellsBy, refused, linked}
 use Rattle.verdict.specs.Tells.{TellsAll, TellsOfApp}
 use Rattle.verdict.specs.Verdict.{IsSafeApp, refusal, refused as refused_judgement}
-use Rattle.verdict.proofs.OneVerdict.{as_read, fault_only, no_app_of}
+use Rattle.verdict.proofs.OneVerdict.{as_read, no_app_of}
 use Rattle.verdict.proofs.Outcomes.{clear_is_safe, rows_tell}
 
 -- where the rows are good, the outcome by them tells of every run

@@ -1,5 +1,5 @@
 -- The rows that follow in an app are a table.
-use Rattle.std.proofs.Common.{◌≡◌, ◌≤◌, List, length, Option, sym, subst, arith}
+use Rattle.std.proofs.Common.{◌≡◌, ◌≤◌, length, sym, subst, arith}
 use Rattle.std.specs.Prelude.{IfSome}
 use Rattle.app_machine.specs.declared.app.App.{App}
 use Rattle.app_machine.specs.declared.lists.Lists.{Lists}
@@ -8,7 +8,6 @@ use Rattle.app_machine.specs.SoundLists.{SoundLists}
 use Rattle.app_flow.specs.declared.flow.Flow.{Flow}
 use Rattle.app_flow.specs.declared.flow.Flow.TheVariants.{Rows, TooLarge}
 use Rattle.app_flow.specs.Flow.{IsFlow, all_rows, too_large, IsGoodFlow}
-use Rattle.fact_rows.specs.declared.row.Row.{Row}
 use Rattle.verdict.specs.declared.outcome.Judged.{Judged}
 use Rattle.verdict.specs.Table.{IsTable}
 use Rattle.verdict.specs.Verdict.{judged_by}

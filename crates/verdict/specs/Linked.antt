@@ -2,7 +2,7 @@
 use Rattle.std.specs.Prelude.{List}
 use Rattle.app_link.specs.IsApp.{IsApp}
 use Rattle.app_link.specs.OneAnswer.{OnlyApp}
-use Rattle.dex_reader.specs.declared.dex.Dex.{Dex}
+use Rattle.dex_tables.specs.declared.dex.Dex.{Dex}
 use Rattle.verdict.specs.declared.linking.Linked.{Linked}
 use Rattle.verdict.specs.declared.parts.Parts.{Parts}
 use Rattle.verdict.specs.Refuses.{Reads}

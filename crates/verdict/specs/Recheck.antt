@@ -5,7 +5,7 @@ use Rattle.app_link.specs.IsApp.{IsApp}
 use Rattle.app_machine.specs.declared.app.App.{App}
 use Rattle.app_machine.specs.declared.lists.Lists.{Lists}
 use Rattle.app_machine.specs.declared.papers.Declaration.{Declaration}
-use Rattle.dex_reader.specs.declared.dex.Dex.{Dex}
+use Rattle.dex_tables.specs.declared.dex.Dex.{Dex}
 use Rattle.fact_rows.specs.declared.row.Row.{Row}
 use Rattle.flow_rules.specs.Rules.{GoodTable}
 use Rattle.outcomes.specs.Causes.{causes_of}

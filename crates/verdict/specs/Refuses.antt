@@ -1,8 +1,8 @@
 -- The first refusal of the parts of an app: the manifest's form and the number of DEX files, the forms of layouts, declaration
 -- and lists, each DEX file, and then the app that they make.
 use Rattle.std.specs.Prelude.{◌≡◌, ◌≢◌, ℕ, List, [], ◌∷◌, length, take, Some, slice_get, codes}
-use Rattle.dex_reader.specs.declared.dex.Dex.{Dex}
-use Rattle.dex_reader.specs.declared.fault.Fault.{Fault}
+use Rattle.dex_tables.specs.declared.dex.Dex.{Dex}
+use Rattle.dex_tables.specs.declared.fault.Fault.{Fault}
 use Rattle.dex_reader.specs.Dex.{IsDex}
 use Rattle.dex_reader.specs.Told.{shown}
 use Rattle.dex_reader.specs.Whole.{FirstDexFault}
@@ -12,7 +12,6 @@ use Rattle.app_machine.specs.declared.papers.Layouts.{Layouts}
 use Rattle.app_machine.specs.declared.papers.Declaration.{Declaration}
 use Rattle.app_link.specs.declared.linking.LinkFault.{LinkFault}
 use Rattle.app_link.specs.FirstLinkFault.{FirstLinkFault}
-use Rattle.app_link.specs.IsApp.{IsApp}
 use Rattle.form_fields.specs.declared.told.FormFault.{FormFault}
 use Rattle.form_fields.specs.declared.told.FormFault.TheVariants.{Range}
 use Rattle.form_fields.specs.Form.{IsForm, FirstFormFault}

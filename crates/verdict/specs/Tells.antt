@@ -1,6 +1,6 @@
 -- What an outcome tells of the runs of an app.
 use Rattle.std.specs.Prelude.{◌≡◌, ◌⊎◌, ℕ, List}
-use Rattle.dex_reader.specs.declared.dex.Dex.{Dex}
+use Rattle.dex_tables.specs.declared.dex.Dex.{Dex}
 use Rattle.app_machine.specs.declared.app.App.{App}
 use Rattle.app_machine.specs.declared.lists.Lists.{Lists}
 use Rattle.app_machine.specs.declared.papers.Declaration.{Declaration}

@@ -9,7 +9,8 @@ ghost use Rattle.verdict.specs.Refuses.{AreDex, HasPapers};
 use crate::laws::lower_laws;
 use crate::papers::{Halt, Papers, Refusal};
 use crate::{Part, Parts, Reason};
-use dex_reader::{Dex, DexFault, read_dex};
+use dex_reader::{DexFault, read_dex};
+use dex_tables::Dex;
 use std::alloc::Global;
 use vet_base::Stop;
 

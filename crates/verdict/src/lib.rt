@@ -13,7 +13,7 @@ mod reasons;
 mod rejudging;
 mod reporting;
 
-pub use app_flow::TableDefect;
+pub use app_flow::{RowDefect, TableDefect};
 pub use judging::{judge, judge_linked};
 pub use laws::a_clear_verdict_is_of_a_safe_app;
 pub use linking::{Linked, linked_parts};

@@ -18,7 +18,7 @@ use crate::papers::{Halt, Papers, Refusal, papers_of};
 use crate::{Part, Parts, Reason};
 use app_link::{LinkFault, link};
 use app_model::App;
-use dex_reader::Dex;
+use dex_tables::Dex;
 use std::alloc::Global;
 use vet_base::Stop;
 

@@ -1,9 +1,8 @@
 -- What is found of parts, by what is asked of them.
-use Rattle.std.proofs.Common.{◌≡◌, ◌≢◌, ◌≤◌, ◌⊎◌, inl, inr, ℕ, List, Option, Some, None, Result, Ok, Err, refl, sym, ◌∙◌, ap, subst, arith}
+use Rattle.std.proofs.Common.{◌≡◌, ◌≢◌, ◌≤◌, ◌⊎◌, inl, inr, ℕ, List, Option, Some, None, Result, Ok, refl, sym, ◌∙◌, ap, subst, arith}
 use Rattle.std.specs.Prelude.{IsErr}
 use Rattle.vet_base.specs.declared.stop.Stop.{Stop}
 use Rattle.vet_base.specs.declared.stop.Stop.TheVariants as stops
-use Rattle.cert_checker.specs.declared.defect.TableDefect.{TableDefect}
 use Rattle.fact_rows.specs.declared.row.Row.{Row}
 use Rattle.certificate.specs.declared.fault.CertFault.{CertFault}
 use Rattle.certificate.specs.Cert.{IsCert}
@@ -26,7 +25,7 @@ use Rattle.vetting_desk.specs.declared.answer.Answer.{Answer}
 use Rattle.app_folder.specs.Due.{Due, reported}
 use Rattle.vetting_desk.specs.Due.{certified, uncertified, due_of}
 use Rattle.app_folder.specs.FolderDue.{Checks}
-use Rattle.vetting_desk.specs.PartsDue.{Certifies, digest_of, refusal_of, rechecked, RechecksBy}
+use Rattle.vetting_desk.specs.PartsDue.{Certifies, digest_of, rechecked, RechecksBy}
 use Rattle.vetting_desk.specs.Found.{ReportsAll, FindsOfParts, CertifiedAs, IsUnreadable}
 
 is_clear : (outcome : Outcome) → status_of outcome ≡ 0 → outcome ≡ Clear

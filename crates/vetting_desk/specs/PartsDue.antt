@@ -8,7 +8,8 @@ use Rattle.certificate.specs.Cert.{IsCert}
 use Rattle.certificate.specs.Digests.{parts_bytes}
 use Rattle.certificate.specs.Reading.{FirstCertFault}
 use Rattle.cert_checker.specs.declared.defect.TableDefect.{TableDefect}
-use Rattle.cert_checker.specs.declared.defect.TableDefect.TheVariants.{Stranger, NoStart, NotClosed}
+use Rattle.cert_checker.specs.declared.defect.RowDefect.TheVariants.{Stranger, NoStart}
+use Rattle.cert_checker.specs.declared.defect.TableDefect.TheVariants.{At, NotClosed}
 use Rattle.cert_report.specs.declared.refusal.CertRefusal.{CertRefusal}
 use Rattle.cert_report.specs.declared.refusal.CertRefusal.TheVariants as refusals
 use Rattle.verdict.specs.declared.outcome.Outcome.{Outcome}
@@ -32,8 +33,8 @@ pub data Certifies (path : List ℕ) (parts : Parts) : Due → Type 0 where
 
 -- a certificate is refused with the defect of its table
 abbrev pub refusal_of : TableDefect Row → CertRefusal
-refusal_of (Stranger row) = refusals.Stranger row
-refusal_of (NoStart row) = refusals.NoStart row
+refusal_of (At Stranger row) = refusals.Stranger row
+refusal_of (At NoStart row) = refusals.NoStart row
 refusal_of (NotClosed row) = refusals.NotClosed row
 
 -- due to parts that were judged by a table

@@ -18,7 +18,7 @@ use std::alloc::Global;
 use std::marker::Sync;
 use std::sync::Wait;
 use std::thread::Threads;
-use verdict::{Judged, Outcome, Parts, Rechecked, TableDefect, judge, judge_table};
+use verdict::{Judged, Outcome, Parts, Rechecked, RowDefect, TableDefect, judge, judge_table};
 use vet_base::{Memory, Seq, Stop};
 use worker_pool::{Crew, Gate};
 
@@ -76,8 +76,8 @@ fn refusal_for(defect: TableDefect<Row>) -> CertRefusal
     ensures { result ≡ refusal_of defect }
 {
     match defect {
-        TableDefect::Stranger(row) => CertRefusal::Stranger(row),
-        TableDefect::NoStart(row) => CertRefusal::NoStart(row),
+        TableDefect::At(RowDefect::Stranger, row) => CertRefusal::Stranger(row),
+        TableDefect::At(RowDefect::NoStart, row) => CertRefusal::NoStart(row),
         TableDefect::NotClosed(row) => CertRefusal::NotClosed(row),
     }
 }

@@ -1,7 +1,7 @@
 use Rattle.std.proofs.Common.{◌≡◌, ◌↔◌, IsTrue, List, sym, ap, subst, ◌∙◌}
 use Rattle.fact_rows.specs.declared.field.Field.{Field}
 use Rattle.fact_rows.specs.declared.parts.Parts.{Parts}
-use Rattle.fact_rows.specs.InApp.{FieldsIn, InApp}
+use Rattle.fact_rows.specs.InApp.{InApp}
 use Rattle.fact_rows.specs.Parts.{parts_of}
 use Rattle.app_rows.specs.Tests.{are_fields_in}
 use Rattle.app_rows.proofs.TestsTell.{fields_tell}

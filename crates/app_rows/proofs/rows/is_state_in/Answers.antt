@@ -1,4 +1,4 @@
-use Rattle.std.proofs.Common.{◌==◌, ◌||◌, ◌≡◌, Bool, Some, slice_get, sym, ap, ◌∙◌}
+use Rattle.std.proofs.Common.{◌==◌, ◌||◌, Bool, sym, ap, ◌∙◌}
 use Rattle.std.specs.List.{list_any}
 use Rattle.vet_base.proofs.Lists.{list_any-map}
 use Rattle.app_machine.specs.LifeEvents.{LifeEvent}

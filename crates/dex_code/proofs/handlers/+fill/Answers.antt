@@ -2,7 +2,7 @@ use Rattle.std.proofs.Common.{◌≡◌, List, [], arith, ap, length, map, take,
 use Rattle.std.proofs.lemmas.Bool.Decides.{nat_tests}
 use Rattle.std.proofs.lemmas.List.{nil_from_length}
 use Rattle.std.proofs.lemmas.Result.{on_ok_weaker}
-use Rattle.dex_reader.specs.declared.dex.RawTry.{RawTry}
+use Rattle.dex_tables.specs.declared.dex.RawTry.{RawTry}
 use Rattle.dex_code.specs.Lines.{Line}
 use Rattle.dex_code.specs.Handlers.{AddsCatches}
 use Rattle.dex_code.proofs.Ordered.{in_order-in_order}

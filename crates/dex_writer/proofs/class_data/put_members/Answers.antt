@@ -1,6 +1,6 @@
 use Rattle.std.proofs.Common.{get_or}
 use Rattle.std.proofs.lemmas.List.{get_or_default}
-use Rattle.dex_reader.specs.declared.dex.Member.{Member}
+use Rattle.dex_tables.specs.declared.dex.Member.{Member}
 use Rattle.dex_writer.proofs.ClassLemmas.{member_step, members_done}
 use Rattle.dex_writer.proofs.class_data.put_members.Goals as goal
 

@@ -1,5 +1,4 @@
 use Rattle.std.proofs.Common.{List, subst, sym}
-use Rattle.app_flow.specs.declared.flow.Flow.{Flow}
 use Rattle.app_flow.specs.Flow.{IsGoodFlow}
 use Rattle.fact_rows.specs.declared.row.Row.{Row}
 use Rattle.outcomes.specs.Within.{AreWithin}

@@ -1,0 +1,5 @@
+pub mod RisingHandlers
+pub mod Units
+pub mod HandlerReadings
+pub mod TryReadings
+pub mod CodeReadings

@@ -1,0 +1,5 @@
+pub mod Code
+pub mod CodeStands
+pub mod Handlers
+pub mod Rising
+pub mod Tries

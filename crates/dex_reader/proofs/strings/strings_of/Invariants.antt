@@ -1,7 +1,0 @@
-use Rattle.vet_base.specs.Script.{run}
-use Rattle.dex_reader.specs.Tables.{string_row, strings_at}
-use Rattle.vet_base.proofs.Repeats.{Repeats}
-use Rattle.dex_reader.proofs.strings.strings_of.Given as goal
-
-abbrev pub invariant-loop : goal.invariant-loop
-invariant-loop l = Repeats l.table.size l.counter (string_row l.file l.table.at) l.names.items l.place (run (strings_at l.file l.table))
