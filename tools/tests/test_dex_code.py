@@ -8,7 +8,8 @@ from pathlib import Path
 from tests.support import EXAMPLES, ROOT, ToolCase, as_reported, certificate, dexdump, expected
 from vet_tools.certificate import Certificate, Kind, node_of
 from vet_tools.dex_code import DexCode, DexFault, MethodRef, SourceLine
-from vet_tools.report import Place, parse, printed
+from vet_tools.report import Place, parse
+from vet_tools.shown import printed
 
 REFERRING = re.compile(r"(invoke|const-string|const-class|check-cast|instance-of|new-|filled-new|[is](get|put))")
 

@@ -4,7 +4,8 @@ from __future__ import annotations
 import unittest
 
 from tests.support import ToolCase, expected
-from vet_tools.report import (Cause, CauseKind, Finding, Outcome, Place, ReportFault, parse, printed, unprinted)
+from vet_tools.report import Cause, CauseKind, Finding, Outcome, Place, ReportFault, parse, unprinted
+from vet_tools.shown import printed
 
 PLACE = "La/Main;->go()V @4"
 

@@ -8,7 +8,8 @@ from dataclasses import dataclass, field
 from pathlib import Path
 
 from vet_tools import binary_xml
-from vet_tools.refusal import Refusal, readable, shown
+from vet_tools.refusal import Refusal, readable
+from vet_tools.shown import shown
 from vet_tools.toml_text import LONGEST_FILE
 
 MOST_DEX = 16

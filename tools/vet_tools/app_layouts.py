@@ -10,8 +10,9 @@ from dataclasses import dataclass
 from vet_tools.app_manifest import NAME
 from vet_tools.binary_xml import Element, Value
 from vet_tools.class_names import INFLATED_FROM, check_name, descriptor, mentioned
-from vet_tools.refusal import Refusal, shown
+from vet_tools.refusal import Refusal
 from vet_tools.resource_table import ResourceTable
+from vet_tools.shown import shown
 from vet_tools.toml_text import checked_count, checked_form, checked_text, quoted, text_list
 
 ON_CLICK = 0x0101026F

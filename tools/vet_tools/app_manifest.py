@@ -6,8 +6,9 @@ from enum import Enum
 
 from vet_tools.binary_xml import Element, Value
 from vet_tools.class_names import descriptor, full_name
-from vet_tools.refusal import Refusal, shown
+from vet_tools.refusal import Refusal
 from vet_tools.resource_table import ResourceTable
+from vet_tools.shown import shown
 from vet_tools.toml_text import checked_count, checked_form, checked_text, quoted, table
 
 # Numbers of the platform's attributes, as `android.R.attr` has them.

@@ -12,7 +12,8 @@ from typing import Iterator
 
 from androguard.core.bytecodes import axml
 
-from vet_tools.refusal import Refusal, shown
+from vet_tools.refusal import Refusal
+from vet_tools.shown import shown
 
 EVENTS = {
     axml.RES_XML_START_ELEMENT_TYPE: axml.START_TAG,

@@ -11,7 +11,8 @@ from enum import IntEnum
 from pathlib import Path
 from typing import Iterator
 
-from vet_tools.report import progress, shown
+from vet_tools.progress import tell
+from vet_tools.shown import in_quotes
 
 MAGIC, OLD_MAGIC = b"VETCERT2", b"VETCERT1"
 LONGEST = 536_870_912
@@ -183,7 +184,7 @@ class Certificate:
                 raise CertificateFault(f"longer than {LONGEST}")
             return Certificate(file.read_bytes())
         except OSError as fault:
-            raise CertificateFault(f"the file {shown(path)} could not be read ({fault.strerror})") from None
+            raise CertificateFault(f"the file {in_quotes(path)} could not be read ({fault.strerror})") from None
 
     def rows(self) -> Iterator[Flat]:
         """All rows in their order, each as its kind and the numbers of its fields. Raises `CertificateFault`."""
@@ -202,9 +203,9 @@ class Certificate:
                 raise CertificateFault(f"order at {begin}")
             last = row
             if number % 50_000 == 49_999:
-                progress(f"reading the certificate: {number + 1} of {self.count} rows")
+                tell(f"reading the certificate: {number + 1} of {self.count} rows")
             yield row
-        progress("")
+        tell("")
         if reader.at != len(self.data):
             raise CertificateFault(f"rest at {reader.at}")
 

@@ -1,7 +1,8 @@
 """Names of classes, as manifests and layouts write them, and the type descriptors that the forms take."""
 from __future__ import annotations
 
-from vet_tools.refusal import Refusal, shown
+from vet_tools.refusal import Refusal
+from vet_tools.shown import shown
 
 LONGEST = 255
 # Where a device looks for an element of a layout whose name has no dot.

@@ -5,17 +5,13 @@ import argparse
 import os
 import re
 import sys
-import tempfile
 from pathlib import Path
 from typing import Callable
 
 from vet_tools import forms, report
-from vet_tools.report import NoReport, Report, ReportFault, shown
-
-
-def counted(number: int, one: str, many: str = "") -> str:
-    """`1 finding`, `2 findings`."""
-    return f"{number} {one}" if number == 1 else f"{number} {many or one + 's'}"
+from vet_tools.report import NoReport, Report, ReportFault
+from vet_tools.shown import in_quotes
+from vet_tools.whole_file import write_whole
 
 
 def workers(word: str) -> int:
@@ -62,19 +58,11 @@ def write(target: Path, text: str, folder: Path, given: tuple[str | None, ...] =
     elif any(path and Path(path).resolve() == target.resolve() for path in given):
         what = "a file that is read"
     if what:
-        raise ReportFault(f"{shown(str(target))} is {what}; name another file after -o.")
+        raise ReportFault(f"{in_quotes(str(target))} is {what}; name another file after -o.")
     try:
-        handle, beside = tempfile.mkstemp(prefix=".vet_", dir=target.parent)
-        try:
-            with os.fdopen(handle, "w", encoding="utf-8") as file:
-                file.write(text)
-            os.chmod(beside, 0o644)
-            os.replace(beside, target)
-        except OSError:
-            os.unlink(beside)
-            raise
+        write_whole(target, text)
     except OSError as fault:
-        raise ReportFault(f"{shown(str(target))} could not be written ({fault.strerror}); name another file "
+        raise ReportFault(f"{in_quotes(str(target))} could not be written ({fault.strerror}); name another file "
                           "after -o.") from None
 
 

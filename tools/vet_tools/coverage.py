@@ -12,10 +12,11 @@ from pathlib import Path
 
 from vet_tools import forms, report
 from vet_tools.certificate import Certificate, CertificateFault, ContextKind, Flat, Kind, Node, node_of
-from vet_tools.command import counted, refuse
+from vet_tools.command import refuse
 from vet_tools.dex_code import DexCode, DexFault, Method
 from vet_tools.forms import Component, FormFault, Lists, Manifest
 from vet_tools.report import ReportFault
+from vet_tools.shown import counted
 
 # The methods of the life of each kind of component, in the order in which certificates number them (docs/MACHINE.md).
 EVENTS: dict[str, tuple[str, ...]] = {

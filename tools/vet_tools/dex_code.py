@@ -1,6 +1,6 @@
 """The code of an app as its DEX files have it: a method by its printed name, and what stands at an address of it.
 
-Androguard reads the files. Names are printed as `vet` prints them (`report.printed`), so a place of a report finds
+Androguard reads the files. Names are printed as `vet` prints them (`shown.printed`), so a place of a report finds
 its method by its text. What androguard can't read, or reads from other tables than the header names, is a `DexFault`.
 """
 from __future__ import annotations
@@ -11,7 +11,9 @@ from dataclasses import dataclass, field
 from pathlib import Path
 from typing import Any, Callable, Iterable, Iterator
 
-from vet_tools.report import Place, printed, progress, unprinted
+from vet_tools.progress import tell
+from vet_tools.report import Place, unprinted
+from vet_tools.shown import printed
 
 logging.getLogger("androguard").setLevel(logging.CRITICAL + 1)
 
@@ -316,13 +318,13 @@ class DexCode:
         """Reads DEX files in their order. Raises `DexFault`."""
         classes: list[AppClass] = []
         for path in paths:
-            progress(f"reading {printed(path.name.encode())}")
+            tell(f"reading {printed(path.name.encode())}")
             try:
                 data = path.read_bytes()
             except OSError as fault:
                 raise DexFault(f"{printed(path.name.encode())} could not be read ({fault.strerror}).") from None
             classes.extend(_File(printed(path.name.encode()), data).classes())
-        progress("")
+        tell("")
         return DexCode(classes)
 
     def method(self, text: str) -> Method | None:

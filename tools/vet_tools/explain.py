@@ -6,10 +6,11 @@ import sys
 import textwrap
 
 from vet_tools import advice
-from vet_tools.command import add_folder, counted, refuse, report_of
+from vet_tools.command import add_folder, refuse, report_of
 from vet_tools.explanation import Explained, Explanation, MissingClass, explain, java_method, java_place
 from vet_tools.list_rows import rows
 from vet_tools.report import CauseKind, NoReport, Outcome, Report, ReportFault
+from vet_tools.shown import counted
 
 WIDTH = 118
 KEPT = "The answer is that of vet, passed on as it is; what stands here is where to look."

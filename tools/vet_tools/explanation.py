@@ -11,7 +11,8 @@ from pathlib import Path
 from vet_tools import forms
 from vet_tools.dex_code import DexCode, DexFault, Instruction, Method, MethodRef, SourceLine
 from vet_tools.forms import FormFault, Lists
-from vet_tools.report import Cause, CauseKind, Finding, Outcome, Place, Report, printed
+from vet_tools.report import Cause, CauseKind, Finding, Outcome, Place, Report
+from vet_tools.shown import printed
 
 OBJECT = "Ljava/lang/Object;"
 PRIMITIVES = {"V": "void", "Z": "boolean", "B": "byte", "S": "short", "C": "char", "I": "int", "J": "long",

@@ -12,7 +12,8 @@ from pathlib import Path
 from typing import Any, Iterable, Iterator
 
 from vet_tools.dex_code import MethodRef
-from vet_tools.report import printed, unprinted
+from vet_tools.report import unprinted
+from vet_tools.shown import printed
 
 FORMS = ("manifest.toml", "layouts.toml", "declaration.toml", "lists.toml")
 COMPONENTS = ("activity", "service", "receiver")

@@ -2,9 +2,7 @@
 from __future__ import annotations
 
 import argparse
-import os
 import sys
-import tempfile
 from pathlib import Path
 
 from vet_tools import lists_lint
@@ -14,6 +12,8 @@ from vet_tools.lists_model import TableFault, Tables
 from vet_tools.lists_shapes import declared_by, known_shapes, shape_faults
 from vet_tools.lists_tables import read_tables
 from vet_tools.lists_toml import lists_text, not_carried
+from vet_tools.progress import tell
+from vet_tools.whole_file import write_whole
 
 TOP = Path(__file__).resolve().parents[2]
 LONGEST_FILE = 16_777_216
@@ -38,39 +38,19 @@ def arguments(words: list[str] | None) -> argparse.Namespace:
     return parser.parse_args(words)
 
 
-def say(text: str) -> None:
-    """Tells a person at a terminal what is being done; an empty text takes the line away."""
-    if sys.stderr.isatty():
-        sys.stderr.write(f'\r\x1b[K{text}')
-        sys.stderr.flush()
-
-
 def library_faults(tables: Tables, jar: Path | None) -> list[Fault]:
     """The faults that the tables alone show, and those that the JDK or a jar shows; without a JDK the former only."""
-    say('make-lists: reading class files')
+    tell('make-lists: reading class files')
     try:
         shapes = known_shapes(tables, jar)
     except NoJavap as missing:
-        say('')
+        tell('')
         print(f'make-lists: the classes were held against no JDK: {missing}', file=sys.stderr)
         return lists_lint.faults(tables)
-    say('make-lists: looking for faults')
+    tell('make-lists: looking for faults')
     found = lists_lint.faults(tables, declared_by(shapes)) + shape_faults(tables, shapes)
-    say('')
+    tell('')
     return found
-
-
-def write_whole(path: Path, text: str) -> None:
-    """Writes a file beside its place and then puts it there."""
-    handle, name = tempfile.mkstemp(dir=path.parent, prefix=path.name)
-    try:
-        with os.fdopen(handle, 'w', encoding='utf-8') as out:
-            out.write(text)
-        os.chmod(name, 0o644)
-        os.replace(name, path)
-    except BaseException:
-        os.unlink(name)
-        raise
 
 
 def run(words: argparse.Namespace) -> int:

@@ -17,14 +17,15 @@ from pathlib import Path
 from vet_tools import advice, forms, report
 from vet_tools.advice import Advice
 from vet_tools.certificate import Certificate, CertificateFault
-from vet_tools.command import add_folder, counted, refuse, report_of, write
+from vet_tools.command import add_folder, refuse, report_of, write
 from vet_tools.coverage import CAUSES, Coverage, CoverageFault, Places, coverage, percent
 from vet_tools.dex_code import DexFault
 from vet_tools.explain import HEADS, KEPT, missing_title, summary_title
 from vet_tools.explanation import Explained, Explanation, explain, java_method, java_place
 from vet_tools.forms import FormFault
 from vet_tools.list_rows import rows
-from vet_tools.report import CauseKind, NoReport, Outcome, Report, ReportFault, shown
+from vet_tools.report import CauseKind, NoReport, Outcome, Report, ReportFault
+from vet_tools.shown import counted, in_quotes
 
 STYLE = Path(__file__).with_name("page.css")
 BEFORE, AFTER = 5, 2
@@ -264,7 +265,7 @@ def subject_of(words: argparse.Namespace) -> Subject:
         manifest = forms.manifest_of(folder)
         package, digest = manifest.package, forms.digest_of(folder, manifest.dex_files).hex()
     except FormFault:
-        package, digest = shown(folder.resolve().name), ""
+        package, digest = in_quotes(folder.resolve().name), ""
     return Subject(found, reached, why, package, digest)
 
 
@@ -310,5 +311,5 @@ def main(arguments: list[str] | None = None) -> int:
         write(Path(words.output), html(subject), Path(words.folder), (words.certificate, words.report))
     except (ReportFault, NoReport) as fault:
         return refuse("tools/page", fault)
-    print(f"{subject.found.report.first_line}; the page is in {shown(words.output)}", file=sys.stderr)
+    print(f"{subject.found.report.first_line}; the page is in {in_quotes(words.output)}", file=sys.stderr)
     return subject.found.report.outcome.status

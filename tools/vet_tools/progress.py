@@ -28,3 +28,10 @@ class Progress:
             sys.stderr.write("\r\x1b[K")
             sys.stderr.flush()
             self.told = 0.0
+
+
+def tell(text: str) -> None:
+    """A line on stderr that the next one replaces, where a person looks at it; empty: takes it away."""
+    if sys.stderr.isatty():
+        sys.stderr.write(f"\r\x1b[K{text}")
+        sys.stderr.flush()

@@ -15,6 +15,8 @@ from dataclasses import dataclass
 from enum import Enum
 from pathlib import Path
 
+from vet_tools.shown import in_quotes
+
 ROOT = Path(__file__).resolve().parents[2]
 
 
@@ -122,7 +124,7 @@ _ROWS = re.compile(r"[1-9][0-9]{0,6}")
 def _place(text: str, line: str) -> Place:
     match = _PLACE.fullmatch(text)
     if match is None:
-        raise ReportFault(f"{shown(line)} names no place; hand in the report as vet printed it.")
+        raise ReportFault(f"{in_quotes(line)} names no place; hand in the report as vet printed it.")
     return Place(match[1], int(match[2]))
 
 
@@ -143,17 +145,6 @@ def _finding(line: str) -> Finding | None:
     return Finding(match[1], match[2], _place(match[3], line)) if match else None
 
 
-def shown(line: str) -> str:
-    """A line of unknown origin, short and in visible ASCII, for a sentence about it."""
-    text = printed(line.encode("utf-8", "surrogateescape"), " ")
-    return f"'{text[:80]}'" if len(text) <= 80 else f"'{text[:80]}..'"
-
-
-def printed(name: bytes, also: str = "") -> str:
-    """A name as `vet` prints it: visible ASCII but the backslash (and `also`) stays, each other byte is `\\xNN`."""
-    return "".join(chr(b) if 33 <= b <= 126 and b != 92 or chr(b) in also else f"\\x{b:02x}" for b in name)
-
-
 def unprinted(name: str) -> bytes:
     """The bytes of a printed name."""
     head, *parts = name.split("\\x")
@@ -167,14 +158,14 @@ def parse(text: str) -> Report:
     first, *rest = text[:-1].split("\n")
     refused = _REFUSED.fullmatch(first)
     if (refused or first == "clear") and rest:
-        raise ReportFault(f"A report that begins with {shown(first)} has no other line; hand in one report.")
+        raise ReportFault(f"A report that begins with {in_quotes(first)} has no other line; hand in one report.")
     if refused:
         return Report(Outcome.REFUSED, part=refused[1], reason=refused[2])
     if first == "clear":
         return Report(Outcome.CLEAR)
     counted = _COUNTED.fullmatch(first)
     if counted is None:
-        raise ReportFault(f"{shown(first)} is not the first line of a report; hand in what vet check printed.")
+        raise ReportFault(f"{in_quotes(first)} is not the first line of a report; hand in what vet check printed.")
     return _lines(Outcome(counted[1]), int(counted[2]), rest)
 
 
@@ -190,7 +181,7 @@ def _lines(outcome: Outcome, count: int, lines: list[str]) -> Report:
         elif finding:
             findings.append(finding)
         else:
-            raise ReportFault(f"{shown(line)} is no line of such a report; hand in the report as vet printed it.")
+            raise ReportFault(f"{in_quotes(line)} is no line of such a report; hand in the report as vet printed it.")
     counted = len(findings) if outcome is Outcome.FLAGGED else len(causes)
     if counted != count:
         raise ReportFault(f"The report says {outcome.value} {count} and has {counted} lines of these; it was cut.")
@@ -205,7 +196,7 @@ def read_file(path: str) -> Report:
     try:
         data = sys.stdin.buffer.read() if path == "-" else Path(path).read_bytes()
     except OSError as fault:
-        raise ReportFault(f"The report {shown(path)} could not be read ({fault.strerror}); "
+        raise ReportFault(f"The report {in_quotes(path)} could not be read ({fault.strerror}); "
                           "name a file that can.") from None
     return parse(data.decode("utf-8", "surrogateescape"))
 
@@ -215,9 +206,9 @@ def app_folder(path: str) -> Path:
     folder = Path(path)
     if folder.is_file():
         what = "an APK: tools/unpack makes its folder" if path.lower().endswith(".apk") else "a file and no folder"
-        raise ReportFault(f"{shown(path)} is {what}; name the folder of an unpacked app.")
+        raise ReportFault(f"{in_quotes(path)} is {what}; name the folder of an unpacked app.")
     if not folder.is_dir():
-        raise ReportFault(f"There is no folder {shown(path)}; name the folder of an unpacked app.")
+        raise ReportFault(f"There is no folder {in_quotes(path)}; name the folder of an unpacked app.")
     return folder
 
 
@@ -239,7 +230,7 @@ def run(words: list[str]) -> tuple[int, str]:
         clock.start()
         done = subprocess.run([program(), *words], stdin=subprocess.DEVNULL, stdout=subprocess.PIPE, check=False)
     except OSError as fault:
-        raise NoReport(1, f"{shown(program())} could not be started ({fault.strerror}); "
+        raise NoReport(1, f"{in_quotes(program())} could not be started ({fault.strerror}); "
                           "set VET to the vet program.") from None
     finally:
         tells.set()
@@ -260,22 +251,15 @@ def _tell_time(what: str, ended: threading.Event) -> None:
         sys.stderr.write("\r\033[K")
 
 
-def progress(text: str) -> None:
-    """A line on stderr that the next one replaces, where a person looks at it; empty: takes it away."""
-    if sys.stderr.isatty():
-        sys.stderr.write(f"\r\033[K{text}")
-        sys.stderr.flush()
-
-
 def _of(words: list[str]) -> Report:
     status, text = run(words)
     if status > 3:
         said = text.splitlines()[0] if text.strip() else "nothing"
-        raise NoReport(status, f"vet gave no report (status {status}); it said {shown(said)}. "
+        raise NoReport(status, f"vet gave no report (status {status}); it said {in_quotes(said)}. "
                                "docs/FORMATS.md says what to do (\"Other printed lines\").")
     report = parse(text)
     if report.outcome.status != status:
-        raise ReportFault(f"vet ended with the status {status} and printed {shown(report.first_line)}; "
+        raise ReportFault(f"vet ended with the status {status} and printed {in_quotes(report.first_line)}; "
                           "these do not go together, so look at which program VET names.")
     return report
 

@@ -7,8 +7,8 @@ from dataclasses import dataclass
 from vet_tools.desk_cases import Case, Entry, Line, State
 from vet_tools.desk_client import Told
 from vet_tools.office import day_text
-from vet_tools.report_words import OUTCOMES, Part, parts_of
-from vet_tools.shown import count, escaped, prose, size
+from vet_tools.report_words import Part, outcome_words, parts_of
+from vet_tools.shown import counted, escaped, prose, size
 
 # How many lines of a report, and how many bytes of a form, a page shows; the rest stands behind a link.
 LINES_SHOWN = 500
@@ -118,7 +118,7 @@ def _queue_part(frame: Frame, lists: Lists, decide: str) -> str:
     heads = [("Place", "number"), ("Developer", ""), ("Reference", "")]
     rows = [[str(n + 1), _developer(line), _name(frame, line)] for n, line in enumerate(lists.queue)]
     shown = "" if len(rows) == lists.queued else f"; the first {len(rows):,} are shown"
-    waiting = f"{count(lists.queued, 'case waits', 'cases wait')} for a decision{shown}"
+    waiting = f"{counted(lists.queued, 'case waits', 'cases wait')} for a decision{shown}"
     first = lists.queue[0]
     return (
         f'<h2 id="queue">Queue</h2>\n{decide}\n<p class="note">The desk judges the first case of its queue, now'
@@ -137,7 +137,7 @@ def _appeals_part(frame: Frame, lists: Lists) -> str:
         for line in lists.appeals
     ]
     shown = "" if len(rows) == lists.appealed else f"; the oldest {len(rows):,} are shown"
-    waiting = f"{count(lists.appealed, 'appeal waits', 'appeals wait')} for a ruling{shown}"
+    waiting = f"{counted(lists.appealed, 'appeal waits', 'appeals wait')} for a ruling{shown}"
     return '<h2 id="appeals">Appeals</h2>\n' + _table(waiting, heads, rows)
 
 
@@ -181,7 +181,7 @@ def first_page(frame: Frame, lists: Lists, told: Told | None, decide: str) -> by
 def _report_part(frame: Frame, case: Case, place: int, entry: Entry) -> str:
     first, parts = parts_of(entry.report)
     word = first.split(b" ")[0].decode("ascii", "replace")
-    text = [f"<h3>Report</h3>\n<pre>{escaped(first)}</pre>", f'<p class="note">{escaped(OUTCOMES.get(word, ""))}</p>']
+    text = [f"<h3>Report</h3>\n<pre>{escaped(first)}</pre>", f'<p class="note">{escaped(outcome_words(word))}</p>']
     room = LINES_SHOWN
     for part in parts:
         text.append(_lines_part(part, room))
@@ -194,7 +194,7 @@ def _report_part(frame: Frame, case: Case, place: int, entry: Entry) -> str:
 def _lines_part(part: Part, room: int) -> str:
     shown = "\n".join(escaped(line) for line in part.lines[:room])
     missing = len(part.lines) - min(room, len(part.lines))
-    more = f'<p class="note">{count(missing, "line more", "lines more")}</p>' if missing else ""
+    more = f'<p class="note">{counted(missing, "line more", "lines more")}</p>' if missing else ""
     block = f"<pre>{shown}</pre>" if shown else ""
     return f"<p><strong>{part.name}</strong> ({len(part.lines):,}): {escaped(part.advice)}</p>\n{block}{more}"
 
@@ -243,7 +243,7 @@ def _app_part(frame: Frame, case: Case, looks: str) -> str:
         _form_part("declaration.toml", case.declaration, is_open=True),
         _form_part("manifest.toml", case.manifest, is_open=False),
         _form_part("layouts.toml", case.layouts, is_open=False),
-        _table(count(len(case.dex), "DEX file", "DEX files"), heads, rows),
+        _table(counted(len(case.dex), "DEX file", "DEX files"), heads, rows),
         looks,
         f'<p class="only-screen">Take {link}: with the office\'s lists in it, as <code>vet check</code> reads it.</p>',
     ])
@@ -270,7 +270,7 @@ def case_page(frame: Frame, case: Case, told: Told | None, forms: str, looks: st
 def waiting_page(frame: Frame, what: str, seconds: int) -> bytes:
     """That a command is under way; the page asks again by itself."""
     body = (
-        f'<h1>{escaped(what)}</h1>\n<p role="status">The desk has been at it for {count(seconds, "second", "seconds")}.'
+        f'<h1>{escaped(what)}</h1>\n<p role="status">The desk has been at it for {counted(seconds, "second", "seconds")}.'
         " An app of many methods takes minutes, and the desk serves one request after the other.</p>"
         '<p class="note">This page asks again every two seconds. Leaving it stops nothing.</p>'
     )

@@ -1,4 +1,4 @@
-"""Bytes of a stranger as text that can be shown: in a page, and on a terminal."""
+"""Texts of a stranger as they can be shown: in a page, on a terminal, and as a report prints names."""
 
 from __future__ import annotations
 
@@ -35,13 +35,29 @@ def prose(data: bytes) -> str:
     return escaped(data.replace(b"\r\n", b"\n"), keep="\n\t")
 
 
-def count(number: int, one: str, many: str) -> str:
+def printed(name: bytes, also: str = "") -> str:
+    """A name as `vet` prints it: visible ASCII but the backslash (and `also`) stays, each other byte is `\\xNN`."""
+    return "".join(chr(b) if 33 <= b <= 126 and b != 92 or chr(b) in also else f"\\x{b:02x}" for b in name)
+
+
+def shown(text: str) -> str:
+    """A text of an app as `vet` prints a name."""
+    return printed(text.encode("utf-8", "surrogatepass"))
+
+
+def in_quotes(line: str) -> str:
+    """A line of unknown origin, short and in visible ASCII, for a sentence about it."""
+    text = printed(line.encode("utf-8", "surrogateescape"), " ")
+    return f"'{text}'" if len(text) <= 80 else f"'{text[:80]}..'"
+
+
+def counted(number: int, one: str, many: str = "") -> str:
     """A number with its noun: `1 case`, `1,200 cases`."""
-    return f"{number:,} {one if number == 1 else many}"
+    return f"{number:,} {one if number == 1 else many or one + 's'}"
 
 
 def size(number: int) -> str:
     """A number of bytes as a person reads it."""
     if number < 1000:
-        return count(number, "byte", "bytes")
+        return counted(number, "byte")
     return f"{number / 1e3:,.1f} kB" if number < 1_000_000 else f"{number / 1e6:,.1f} MB"

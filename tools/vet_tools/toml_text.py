@@ -3,7 +3,8 @@ from __future__ import annotations
 
 import json
 
-from vet_tools.refusal import Refusal, shown
+from vet_tools.refusal import Refusal
+from vet_tools.shown import shown
 
 MOST = 4096
 LONGEST = 255

@@ -21,8 +21,9 @@ from vet_tools.app_layouts import AppNames, Layout
 from vet_tools.app_manifest import Manifest, read_manifest
 from vet_tools.named_classes import named_classes
 from vet_tools.progress import Progress
-from vet_tools.refusal import Refusal, readable, shown
+from vet_tools.refusal import Refusal, readable
 from vet_tools.resource_table import ResourceTable
+from vet_tools.shown import shown
 from vet_tools.toml_text import LONGEST_FILE
 
 ROOT = Path(__file__).resolve().parents[2]
