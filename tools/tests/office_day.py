@@ -6,12 +6,19 @@ What is due is from docs/DESK.md and docs/CASES.md.
 from __future__ import annotations
 
 import json
+import unittest
+from collections.abc import Callable
 from dataclasses import dataclass
 
 from tests.desk_at_work import submission
+from tests.desk_description import Description
 
 FLOW = "flagged 1\ndevice_id -> network at La/Main;->onCreate(Landroid/os/Bundle;)V @4\n"
 NAMED = {"developer": "ann", "reference": "r1"}
+
+
+# What sends a request of a party and gives status, content type and body of the reply.
+Ask = Callable[[str | None, str, str, str | None], tuple[int, str, bytes]]
 
 
 @dataclass(frozen=True)
@@ -74,3 +81,15 @@ def day() -> list[Asked]:
         Asked("ann", "POST", "/cases", submission("declared", "r3", layouts=1), 422, _no("field layouts")),
         Asked("ann", "POST", "/cases/r1/appeal", '{"text":""}', 422, _no("field text")),
     ]
+
+
+def go_through(test: unittest.TestCase, ask: Ask) -> None:
+    """Sends the requests of the day in turn: each gets the reply that is due, and as it is described."""
+    description = Description()
+    for asked in day():
+        with test.subTest(request=f"{asked.who}: {asked.method} {asked.path} {(asked.body or '')[:60]}"):
+            status, kind, body = ask(asked.who, asked.method, asked.path, asked.body)
+            test.assertEqual(status, asked.status)
+            description.check(asked.method, asked.path, status, kind, body)
+            if asked.due is not None:
+                test.assertEqual(json.loads(body) if kind == "application/json" else body.decode(), asked.due)

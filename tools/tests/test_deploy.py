@@ -18,9 +18,8 @@ import warnings
 from pathlib import Path
 
 from tests.desk_at_work import TOKENS, TOP, DeskAtWork, free_port, submission
-from tests.desk_description import Description
 from tests.nginx_at_work import NginxAtWork
-from tests.office_day import day
+from tests.office_day import go_through
 
 DEPLOY = TOP / "deploy"
 NO_RATE = ("rate=5r/s", "rate=1000r/s")
@@ -47,16 +46,10 @@ class BeforeADesk(Nginx):
         self.assertNotRegex(done.stderr, "emerg|warn")
 
     def test_a_day_of_the_office_goes_through_tls(self) -> None:
-        desk, description = DeskAtWork(), Description()
+        desk = DeskAtWork()
         self.addCleanup(desk.end)
         nginx = self.nginx(desk.port, NO_RATE)
-        for asked in day():
-            with self.subTest(request=f"{asked.who}: {asked.method} {asked.path}"):
-                status, kind, body = nginx.ask(asked.who, asked.method, asked.path, asked.body)
-                self.assertEqual(status, asked.status)
-                description.check(asked.method, asked.path, status, kind, body)
-                if asked.due is not None:
-                    self.assertEqual(json.loads(body) if kind == "application/json" else body.decode(), asked.due)
+        go_through(self, nginx.ask)
         self.check_logs(nginx)
         self.check_targets(nginx)
 

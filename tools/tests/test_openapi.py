@@ -10,7 +10,7 @@ import jsonschema
 
 from tests.desk_at_work import TOP, DeskAtWork, submission
 from tests.desk_description import Description
-from tests.office_day import day
+from tests.office_day import go_through
 
 
 def rows(head: str) -> list[list[str]]:
@@ -94,15 +94,9 @@ class Replies(unittest.TestCase):
     """The description beside a desk at work."""
 
     def test_the_replies_of_a_day_are_those_due_and_are_described(self) -> None:
-        description, desk = Description(), DeskAtWork()
+        desk = DeskAtWork()
         self.addCleanup(desk.end)
-        for asked in day():
-            with self.subTest(request=f"{asked.who}: {asked.method} {asked.path} {(asked.body or '')[:60]}"):
-                status, kind, body = desk.ask(asked.who, asked.method, asked.path, asked.body)
-                self.assertEqual(status, asked.status)
-                description.check(asked.method, asked.path, status, kind, body)
-                if asked.due is not None:
-                    self.assertEqual(json.loads(body) if kind == "application/json" else body.decode(), asked.due)
+        go_through(self, desk.ask)
 
     def test_a_submission_is_described_and_a_reply_of_another_form_is_not(self) -> None:
         description = Description()

@@ -243,7 +243,7 @@ def _app_part(frame: Frame, case: Case, looks: str) -> str:
         _form_part("declaration.toml", case.declaration, is_open=True),
         _form_part("manifest.toml", case.manifest, is_open=False),
         _form_part("layouts.toml", case.layouts, is_open=False),
-        _table(counted(len(case.dex), "DEX file", "DEX files"), heads, rows),
+        _table(counted(len(case.dex), "DEX file"), heads, rows),
         looks,
         f'<p class="only-screen">Take {link}: with the office\'s lists in it, as <code>vet check</code> reads it.</p>',
     ])
@@ -270,7 +270,7 @@ def case_page(frame: Frame, case: Case, told: Told | None, forms: str, looks: st
 def waiting_page(frame: Frame, what: str, seconds: int) -> bytes:
     """That a command is under way; the page asks again by itself."""
     body = (
-        f'<h1>{escaped(what)}</h1>\n<p role="status">The desk has been at it for {counted(seconds, "second", "seconds")}.'
+        f'<h1>{escaped(what)}</h1>\n<p role="status">The desk has been at it for {counted(seconds, "second")}.'
         " An app of many methods takes minutes, and the desk serves one request after the other.</p>"
         '<p class="note">This page asks again every two seconds. Leaving it stops nothing.</p>'
     )
