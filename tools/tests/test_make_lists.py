@@ -575,6 +575,7 @@ class Command(unittest.TestCase):
         made = self.small(methods='+odd\n')
         self.assertIn('methods.txt:8', self.run_tool('--tables', str(made))[2])
         self.assertIn('android.jar', self.run_tool('--tables', str(made), '--jar', '/nowhere')[2])
+        self.assertIn('is no jar', self.run_tool('--tables', str(made), '--jar', str(made / 'head.txt'))[2])
 
     def test_help_has_an_example(self) -> None:
         out = io.StringIO()

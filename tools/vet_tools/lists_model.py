@@ -9,12 +9,12 @@ OBJECT = 'Ljava/lang/Object;'
 
 @dataclass(frozen=True)
 class Place:
-    """A line of a table."""
+    """A line of a table; 0 stands for the whole table."""
     file: str
     line: int
 
     def __str__(self) -> str:
-        return f'{self.file}:{self.line}'
+        return f'{self.file}:{self.line}' if self.line else self.file
 
 
 class TableFault(Exception):

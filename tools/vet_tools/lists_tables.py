@@ -16,8 +16,10 @@ def lines_of(path: Path) -> Iterator[tuple[Place, str]]:
     """The lines that say something, with their places. Raises TableFault where the file is none that can be read."""
     try:
         text = path.read_text('utf-8')
-    except (OSError, UnicodeDecodeError) as fault:
-        raise TableFault(Place(path.name, 0), f'the table cannot be read: {fault}') from None
+    except OSError as fault:
+        raise TableFault(Place(path.name, 0), f'the table {path} cannot be read: {fault.strerror}') from None
+    except UnicodeDecodeError:
+        raise TableFault(Place(path.name, 0), f'the table {path} is no text in UTF-8') from None
     for number, line in enumerate(text.splitlines(), 1):
         if line.strip() and not line.lstrip().startswith('#'):
             yield Place(path.name, number), line.strip()

@@ -3,6 +3,7 @@ from __future__ import annotations
 
 import argparse
 import sys
+import zipfile
 from pathlib import Path
 
 from vet_tools import lists_lint
@@ -55,8 +56,8 @@ def library_faults(tables: Tables, jar: Path | None) -> list[Fault]:
 
 def run(words: argparse.Namespace) -> int:
     """Reads, looks for faults, and writes where there are none. Raises TableFault and OSError."""
-    if words.jar and not words.jar.is_file():
-        print(f'make-lists: {words.jar} is no file: give the android.jar of an SDK', file=sys.stderr)
+    if words.jar and not (words.jar.is_file() and zipfile.is_zipfile(words.jar)):
+        print(f'make-lists: {words.jar} is no jar: give the android.jar of an SDK', file=sys.stderr)
         return 1
     tables = read_tables(words.tables)
     found = library_faults(tables, words.jar)
