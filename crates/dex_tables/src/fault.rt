@@ -44,4 +44,5 @@ pub enum Fault {
     TooMany(Limit),
 }
 
+/// The first fault of the bytes, or want of memory.
 pub type ReadError = Stop<Fault>;

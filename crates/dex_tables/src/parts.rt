@@ -6,6 +6,9 @@ use crate::fault::{Fault, ReadError, Table};
 use std::alloc::Global;
 use vet_base::{Name, Stop, read_sleb, read_u2, read_u4, read_uleb};
 
+/// A `ushort` at an offset, least byte first, and the offset behind it. Past the end of the file it is
+/// [`Fault::Outside`] of the item that it belongs to (Dalvik Executable format, 'Bitfield, string, and constant
+/// definitions').
 pub fn u2_of(file: &[u8], at: u32, item: u32) -> Result<(u16, u32), ReadError>
     requires { length file.now < 2 ^ 32 }
     ensures { Gives (λ x. x) result (u2_at file.now at item) }
@@ -16,6 +19,7 @@ pub fn u2_of(file: &[u8], at: u32, item: u32) -> Result<(u16, u32), ReadError>
     }
 }
 
+/// A `uint` at an offset, as [`u2_of`].
 pub fn u4_of(file: &[u8], at: u32, item: u32) -> Result<(u32, u32), ReadError>
     requires { length file.now < 2 ^ 32 }
     ensures { Gives (λ x. x) result (u4_at file.now at item) }
@@ -26,6 +30,8 @@ pub fn u4_of(file: &[u8], at: u32, item: u32) -> Result<(u32, u32), ReadError>
     }
 }
 
+/// A `uleb128` at an offset, and the offset behind it, as `read_uleb` reads it. Where there is none it is
+/// [`Fault::Leb`] of the offset (Dalvik Executable format, 'LEB128').
 pub fn uleb_of(file: &[u8], at: u32) -> Result<(u32, u32), ReadError>
     requires { length file.now < 2 ^ 32 }
     ensures value { Gives (λ x. x) result (uleb_at file.now at) }
@@ -37,6 +43,7 @@ pub fn uleb_of(file: &[u8], at: u32) -> Result<(u32, u32), ReadError>
     }
 }
 
+/// An `sleb128`, as [`uleb_of`].
 pub fn sleb_of(file: &[u8], at: u32) -> Result<(i32, u32), ReadError>
     requires { length file.now < 2 ^ 32 }
     ensures value { Gives (λ x. x) result (sleb_at file.now at) }
@@ -48,6 +55,7 @@ pub fn sleb_of(file: &[u8], at: u32) -> Result<(i32, u32), ReadError>
     }
 }
 
+/// An index is below the size of its table. Else it is [`Fault::Index`] of the table and of the row that has it.
 pub fn test_index(index: u32, size: u32, table: Table, row: u32) -> Result<(), ReadError>
     ensures { Gives (λ x. x) result (index_test index size table row) }
 {
