@@ -10,7 +10,7 @@ use Rattle.verdict.specs.declared.outcome.Part.TheVariants.{Manifest as manifest
 use Rattle.verdict.specs.declared.outcome.Reason.{Reason}
 use Rattle.verdict.specs.declared.outcome.Reason.TheVariants.{Absent, TooLong, Form}
 use Rattle.verdict.specs.declared.parts.Parts.{Parts}
-use Rattle.verdict.specs.Reasons.{part_name}
+use Rattle.verdict_report.specs.Reasons.{part_name}
 
 -- the bytes of each file that is there, by name
 abbrev pub Held : Type 0

@@ -10,7 +10,8 @@ ghost use Rattle.app_folder.specs.Reading.{ReadsAs, Leaves, FailsAt, CountsDex, 
 use office_forms::{FormFault, read_manifest};
 use printed_text::FILE_LIMIT;
 use std::alloc::{AllocError, AllocFailed, Global};
-use verdict::{Part, Parts, Reason, push_part_name};
+use verdict::{Part, Parts, Reason};
+use verdict_report::push_part_name;
 use vet_base::{FileFault, Files, Seq};
 
 /// Why the parts of an app could not be had.

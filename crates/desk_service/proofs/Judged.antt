@@ -10,7 +10,7 @@ use Rattle.verdict.specs.declared.outcome.Judged.{Judged}
 use Rattle.verdict.specs.declared.outcome.Outcome.{Outcome}
 use Rattle.verdict.specs.declared.outcome.Outcome.TheVariants.{Clear, Flagged, Undecided, Refused}
 use Rattle.verdict.specs.declared.parts.Parts.{Parts}
-use Rattle.verdict.specs.Report.{report_text}
+use Rattle.verdict_report.specs.Report.{report_text}
 use Rattle.verdict.specs.Tells.{TellsOfApp}
 use Rattle.verdict.specs.Verdict.{IsSafeApp, Judgement}
 use Rattle.desk_service.specs.Judging.{IsJudged, FindsBy, parts_of, word_of}

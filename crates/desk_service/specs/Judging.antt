@@ -11,7 +11,7 @@ use Rattle.verdict.specs.declared.outcome.Judged.{Judged}
 use Rattle.verdict.specs.declared.outcome.Outcome.{Outcome}
 use Rattle.verdict.specs.declared.outcome.Outcome.TheVariants.{Clear, Flagged, Undecided, Refused}
 use Rattle.verdict.specs.declared.parts.Parts.{Parts}
-use Rattle.verdict.specs.Report.{report_text}
+use Rattle.verdict_report.specs.Report.{report_text}
 use Rattle.verdict.specs.Tells.{IsFollowed, TellsOfApp}
 use Rattle.verdict.specs.Verdict.{IsSafeApp}
 use Rattle.verdict.specs.Verdict.{Judgement as Verdict}

@@ -2,7 +2,7 @@
 use Rattle.std.specs.Prelude.{ℕ, List, ◌++◌, codes}
 use Rattle.std.specs.Fmt.{decimal}
 use Rattle.printed_text.specs.Printed.{escaped}
-use Rattle.verdict.specs.Reasons.{form_reason}
+use Rattle.verdict_report.specs.Reasons.{form_reason}
 use Rattle.desk_service.specs.declared.opening.Paper.{Paper}
 use Rattle.desk_service.specs.declared.opening.Unfit.{Unfit}
 use Rattle.desk_service.specs.declared.opening.Unfit.TheVariants.{Absent, TooLong, Form}

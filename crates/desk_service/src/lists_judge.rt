@@ -4,7 +4,7 @@ ghost use Rattle.sha2.specs.Sha256.{sha256};
 ghost use Rattle.case_rules.specs.declared.case.Content.{Content};
 ghost use Rattle.case_rules.specs.Desk.{Judgement};
 ghost use Rattle.desk_serving.specs.Obeying.{judgement_of};
-ghost use Rattle.verdict.specs.Report.{report_text};
+ghost use Rattle.verdict_report.specs.Report.{report_text};
 ghost use Rattle.desk_service.specs.Judging.{IsJudged, JudgesApps, parts_of, word_of, FindsBy};
 
 use case_rules::{Content, OutcomeWord};
@@ -14,7 +14,8 @@ use std::alloc::Global;
 use std::marker::Sync;
 use std::sync::Wait;
 use std::thread::Threads;
-use verdict::{Judged as JudgedApp, Outcome, Parts, judge, report};
+use verdict::{Judged as JudgedApp, Outcome, Parts, judge};
+use verdict_report::report;
 use vet_base::{Memory, Seq, Shared};
 use worker_pool::{Crew, Gate};
 

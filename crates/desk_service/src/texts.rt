@@ -6,7 +6,7 @@ ghost use Rattle.desk_service.specs.Texts.{unfit_text, refused_text, read_fault_
 use crate::opening::{Paper, Unfit, name_of};
 use printed_text::{put, put_name};
 use std::alloc::Global;
-use verdict::put_form_reason;
+use verdict_report::put_form_reason;
 use vet_base::Memory;
 
 /// Adds why a file is refused.

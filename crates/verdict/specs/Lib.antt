@@ -3,11 +3,8 @@ pub mod Halts
 pub mod Linked
 pub mod OneVerdict
 pub mod Outcome
-pub mod Printed
-pub mod Reasons
 pub mod Recheck
 pub mod Refuses
-pub mod Report
 pub mod Table
 pub mod Tells
 pub mod Verdict

@@ -1,4 +1,4 @@
-//! The verdict on the parts of an app: what its bytes come to, and the report that says so.
+//! The verdict on the parts of an app: what its bytes come to.
 #![tactic(auto)]
 
 mod dexes;
@@ -8,10 +8,7 @@ mod linking;
 mod outcome;
 mod papers;
 mod parts;
-mod printed;
-mod reasons;
 mod rejudging;
-mod reporting;
 
 pub use app_flow::{RowDefect, TableDefect};
 pub use judging::{judge, judge_linked};
@@ -21,6 +18,4 @@ pub use outcome::{Judged, Outcome, Part, Reason, Rechecked, status_for};
 pub use outcomes::{Cause, Finding, Place};
 pub use papers::{Halt, Papers, Refusal};
 pub use parts::Parts;
-pub use reasons::{push_part_name, put_form_reason};
 pub use rejudging::judge_table;
-pub use reporting::report;

@@ -18,7 +18,7 @@ use Rattle.verdict.specs.declared.outcome.Rechecked.TheVariants as rechecks
 use Rattle.verdict.specs.declared.parts.Parts.{Parts}
 use Rattle.verdict.specs.Outcome.{status_of}
 use Rattle.verdict.specs.Recheck.{Rejudgement, TellsBy}
-use Rattle.verdict.specs.Report.{report_text}
+use Rattle.verdict_report.specs.Report.{report_text}
 use Rattle.verdict.specs.Tells.{IsFollowed, TellsOfApp}
 use Rattle.verdict.specs.Verdict.{Judgement, IsSafeApp}
 use Rattle.vetting_desk.specs.declared.answer.Answer.{Answer}

@@ -7,7 +7,7 @@ use Rattle.verdict.specs.declared.outcome.Outcome.{Outcome}
 use Rattle.verdict.specs.declared.outcome.Outcome.TheVariants.{Clear, Flagged, Undecided, Refused}
 use Rattle.verdict.specs.declared.parts.Parts.{Parts}
 use Rattle.verdict.specs.Outcome.{status_of}
-use Rattle.verdict.specs.Report.{report_text}
+use Rattle.verdict_report.specs.Report.{report_text}
 use Rattle.verdict.specs.Tells.{IsFollowed, TellsOfApp}
 use Rattle.verdict.specs.Verdict.{Judgement, IsSafeApp}
 use Rattle.desk_words.specs.Words.{Words, Check, Certify, Recheck, Make}

@@ -6,7 +6,7 @@ use Rattle.cert_report.specs.Refusal.{refusal_text}
 use Rattle.verdict.specs.declared.outcome.Outcome.{Outcome}
 use Rattle.verdict.specs.Outcome.{status_of}
 use Rattle.printed_text.specs.Printed.{escaped}
-use Rattle.verdict.specs.Report.{report_text}
+use Rattle.verdict_report.specs.Report.{report_text}
 use Rattle.vetting_desk.specs.declared.answer.Answer.{Answer}
 use Rattle.vetting_desk.specs.declared.answer.Answer.TheVariants.{Usage, Vetted, Certified, NoCertificate, LongCertificate, Uncertified, Made}
 use Rattle.vetting_desk.specs.Made.{summary_text}

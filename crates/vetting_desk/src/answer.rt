@@ -7,7 +7,8 @@ use crate::summary::summary;
 use cert_report::{CertRefusal, report_refusal};
 use printed_text::{put, put_name};
 use std::alloc::Global;
-use verdict::{Outcome, report, status_for};
+use verdict::{Outcome, status_for};
+use verdict_report::report;
 use vet_base::{Memory, Seq};
 
 /// The exit status of the program: 0 clear, 1 flagged, 2 undecided, 3 refused, 4 the words are no command, 5 a file

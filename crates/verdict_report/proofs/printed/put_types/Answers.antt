@@ -1,6 +1,6 @@
 use Rattle.printed_text.proofs.Names.{escaped_nothing}
-use Rattle.verdict.proofs.Texts.{types_go_on}
-use Rattle.verdict.proofs.printed.put_types.Goals as goal
+use Rattle.verdict_report.proofs.Texts.{types_go_on}
+use Rattle.verdict_report.proofs.printed.put_types.Goals as goal
 
 pub loop-kind-init : goal.loop-kind-init
 loop-kind-init c = escaped_nothing c.args.text.now.items

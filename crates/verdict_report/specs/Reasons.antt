@@ -15,7 +15,7 @@ use Rattle.verdict.specs.declared.outcome.Part.TheVariants as part
 use Rattle.verdict.specs.declared.outcome.Reason.{Reason}
 use Rattle.verdict.specs.declared.outcome.Reason.TheVariants as reason
 use Rattle.printed_text.specs.Printed.{escaped}
-use Rattle.verdict.specs.Printed.{method_text}
+use Rattle.verdict_report.specs.Printed.{method_text}
 
 unfoldable pub first_dex_name : List ℕ
 first_dex_name = codes "classes.dex"

@@ -1,6 +1,6 @@
 use Rattle.std.proofs.Common.{append_assoc}
-use Rattle.verdict.specs.Reasons.{link_reason}
-use Rattle.verdict.proofs.reasons.put_link_reason.Goals as goal
+use Rattle.verdict_report.specs.Reasons.{link_reason}
+use Rattle.verdict_report.proofs.reasons.put_link_reason.Goals as goal
 
 pub returns-in-TwoMembers : goal.returns-in-TwoMembers
 unfolding link_reason

@@ -8,8 +8,8 @@ use Rattle.verdict.specs.declared.outcome.Outcome.{Outcome}
 use Rattle.verdict.specs.declared.outcome.Outcome.TheVariants.{Clear, Flagged, Undecided, Refused}
 use Rattle.verdict.specs.declared.outcome.Part.{Part}
 use Rattle.verdict.specs.declared.outcome.Reason.{Reason}
-use Rattle.verdict.specs.Printed.{finding_line, place_line, class_line, counted_line}
-use Rattle.verdict.specs.Reasons.{part_name, reason_text}
+use Rattle.verdict_report.specs.Printed.{finding_line, place_line, class_line, counted_line}
+use Rattle.verdict_report.specs.Reasons.{part_name, reason_text}
 
 unfoldable pub cause_line : Cause → List ℕ
 cause_line (NoSummary place) = place_line (codes "no summary: ") place

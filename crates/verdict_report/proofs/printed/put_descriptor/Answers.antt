@@ -1,5 +1,5 @@
-use Rattle.verdict.proofs.Texts.{descriptor_parts}
-use Rattle.verdict.proofs.printed.put_descriptor.Goals as goal
+use Rattle.verdict_report.proofs.Texts.{descriptor_parts}
+use Rattle.verdict_report.proofs.printed.put_descriptor.Goals as goal
 
 pub returns : goal.returns
 returns c =

@@ -3,16 +3,16 @@
 ghost use Rattle.std.specs.Prelude.{◌≡◌, ◌++◌, codes, string_bytes, OnOk};
 ghost use Rattle.std.specs.Fmt.{decimal};
 ghost use Rattle.printed_text.specs.Printed.{escaped};
-ghost use Rattle.verdict.specs.Reasons.{dex_name, part_name, form_reason, dex_reason, code_reason, member_name, link_reason, reason_text};
+ghost use Rattle.verdict_report.specs.Reasons.{dex_name, part_name, form_reason, dex_reason, code_reason, member_name, link_reason, reason_text};
 
 use crate::printed::put_method;
-use crate::{Part, Reason};
 use app_link::LinkFault;
 use dex_code::CodeFault;
 use dex_reader::DexFault;
 use office_forms::FormFault;
 use printed_text::{put, put_name, put_number};
 use std::alloc::{AllocError, Global};
+use verdict::{Part, Reason};
 use vet_base::{Memory, Name};
 
 type Text = Vec<u8>;

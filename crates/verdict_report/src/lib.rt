@@ -1,0 +1,9 @@
+//! The report that says a verdict.
+#![tactic(auto)]
+
+mod printed;
+mod reasons;
+mod reporting;
+
+pub use reasons::{push_part_name, put_form_reason};
+pub use reporting::report;
