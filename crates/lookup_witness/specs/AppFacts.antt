@@ -1,0 +1,47 @@
+-- What look-ups find in the small app. Behind each fact stands what code would answer that does otherwise.
+use Rattle.std.specs.Prelude.{◌≡◌, true, [], ◌∷◌, Some, None, slice_get, codes}
+use Rattle.app_machine.specs.declared.call.CallKind.TheVariants.{Virtual}
+use Rattle.app_machine.specs.declared.component.Kind.TheVariants.{Activity}
+use Rattle.app_machine.specs.declared.method.Act.TheVariants.{New}
+use Rattle.app_machine.specs.declared.lists.Lists.{Lists}
+use Rattle.app_machine.specs.LifeEvents.{life_events}
+use Rattle.app_machine.specs.Lookups.{Nothing, target, find_body, body_named, initialisers}
+use Rattle.app_machine.specs.Sound.{SoundApp}
+use Rattle.app_model.specs.Above.{is_below}
+use Rattle.app_model.specs.EventBodies.{click, handed_callback}
+use Rattle.lookup_witness.specs.Shapes.{activity_class, child_class, outer_interface, screen_class, go, stop, on_given, tap, shapes}
+
+-- lists with one callback, on activities
+unfoldable pub callback_lists : Lists
+callback_lists = record {
+  rows = 1000;
+  categories = codes "device_id" ∷ [];
+  classes = [];
+  shared = [];
+  methods = [];
+  callbacks = record { class = activity_class; name = on_given.name; proto = on_given.proto; sources = [] } ∷ [];
+}
+
+pub record LooksUp : Type 0 where
+  -- the app is sound, as the look-ups ask
+  pub sound : SoundApp shapes
+  -- the body of `go` on the child is the base's, past the child's method without code; a search that ends there gives None
+  pub past_bare : find_body shapes child_class go.name go.proto ≡ Some 1
+  -- a call of a method without code, on no object, comes to nothing; without a look at such methods it comes to `Library`
+  pub on_nothing : target shapes Virtual 1 stop None ≡ Nothing
+  -- the activity is called back, since its class is below the row's; the other way round it gives None
+  pub called_back : handed_callback shapes callback_lists 0 screen_class ≡ Some ([], 2)
+  -- a click comes to the activity, and none to the service, which has such a method; for services too it gives Some 4
+  pub clicked : click shapes 0 0 ≡ Some 3
+  pub not_clicked : click shapes 1 0 ≡ None
+  -- a stopped activity that is destroyed is absent, in state 0; a row that leaves it made says 1
+  pub destroyed : slice_get (life_events Activity) 10 ≡ Some (record { from = 6; name = codes "onDestroy"; descriptor = codes "()V"; to = 0 })
+  -- there is no `tap` of a number; by class and name alone it is that of a view, Some 3
+  pub by_descriptor : body_named shapes screen_class (tap screen_class).name (codes "(I)V") ≡ None
+  -- the child is below the interface above its interface; without the interfaces' own it is false
+  pub by_interface : is_below shapes callback_lists child_class outer_interface ≡ true
+  -- a new child runs the base's initialiser, having none of its own; a walk that ends at the child gives none
+  pub from_above : initialisers shapes (New 0 child_class) ≡ 0 ∷ []
+
+abbrev pub AppIsLookedUp : Type 0
+AppIsLookedUp = LooksUp

@@ -1,0 +1,4 @@
+pub mod AppFacts
+pub mod IndexFacts
+pub mod PartFacts
+pub mod Shapes
