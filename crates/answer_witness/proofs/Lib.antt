@@ -1,0 +1,4 @@
+pub mod Rows
+pub mod Sought
+pub mod Sound
+pub mod Told

@@ -1,0 +1,4 @@
+pub mod GroundFacts
+pub mod Office
+pub mod OutcomeFacts
+pub mod RowFacts

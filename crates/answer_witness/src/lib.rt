@@ -1,0 +1,29 @@
+//! Small facts that show what is told of an app: its findings and causes, the rows with which its table
+//! starts and which it can have, and how rows are looked for. Each is a theorem over the definitions
+//! that the clauses of the code name, so that code which answers otherwise is refused.
+#![tactic(auto)]
+
+ghost use Rattle.answer_witness.specs.GroundFacts.{RowsAreSought};
+ghost use Rattle.answer_witness.specs.OutcomeFacts.{OutcomesAreTold};
+ghost use Rattle.answer_witness.specs.RowFacts.{RowsAreOfTheApp, StartsAreThere};
+
+/// Findings and causes are told each in its place, in order and by its own kind, and only where the
+/// declaration does not name the pair.
+pub fn outcomes_are_told()
+    ensures { OutcomesAreTold }
+{}
+
+/// A table starts with each component, or with the application alone.
+pub fn starts_are_there()
+    ensures { StartsAreThere }
+{}
+
+/// Rows name RES, three causes, and contexts at whose calls methods are entered.
+pub fn rows_are_of_the_app()
+    ensures { RowsAreOfTheApp }
+{}
+
+/// A search comes to each row, the least conclusion is kept, and a label is stored by a cut path.
+pub fn rows_are_sought()
+    ensures { RowsAreSought }
+{}
