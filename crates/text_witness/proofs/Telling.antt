@@ -1,0 +1,38 @@
+-- The facts hold by what the definitions say.
+use Rattle.std.proofs.Common.{refl}
+use Rattle.std.specs.Char.{encode_utf8}
+use Rattle.std.specs.Fmt.{digits}
+use Rattle.desk_answers.specs.Bodies.{error_body, state_body, decided_body, shown_json, named_json, lines_body}
+use Rattle.desk_answers.specs.Json.{latin1}
+use Rattle.desk_answers.specs.Texts.{refusal_text, no_memory}
+use Rattle.desk_answers.specs.Words.{state_word, outcome_word}
+use Rattle.desk_words.specs.Numbers.{digits as number_digits, number, positive}
+use Rattle.desk_words.specs.Serve.{count_of, database_name, is_serve}
+use Rattle.desk_words.specs.Words.{is_check, is_certify, is_recheck, is_make, is_file_name, workers, seed_of, size_of}
+use Rattle.json.specs.Print.{escape_byte}
+use Rattle.text_witness.specs.Answers.{AnswersTell}
+use Rattle.text_witness.specs.Tokens.{TokensTell}
+use Rattle.text_witness.specs.Words.{WordsTell}
+
+pub words_tell : WordsTell
+unfolding is_serve is_check is_certify is_recheck is_make is_file_name workers seed_of size_of count_of positive number number_digits database_name
+words_tell = record { one_worker = refl; no_leading_zero = refl; some_workers = refl; greatest_seed = refl; no_greater_seed = refl; serve_is_serve = refl; cases_are_in = refl }
+
+pub tokens_tell : TokensTell
+tokens_tell = record { own_token = refl; not_by_name = refl; not_by_front = refl; longest = refl; no_longer = refl }
+
+pub answers_tell : AnswersTell
+unfolding encode_utf8 error_body state_body decided_body shown_json named_json lines_body latin1 refusal_text no_memory state_word outcome_word escape_byte digits
+answers_tell = record {
+  too_many = refl;
+  forbidden = refl;
+  own_list = refl;
+  full_list = refl;
+  kept = refl;
+  high_byte = refl;
+  report = refl;
+  flagged = refl;
+  undecided = refl;
+  appeal_day = refl;
+  want_of_memory = refl;
+}
