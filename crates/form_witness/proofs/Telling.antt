@@ -1,0 +1,28 @@
+-- The facts hold by what the definitions say.
+use Rattle.std.proofs.Common.{refl, arith}
+use Rattle.vet_base.specs.Script.{each, walk}
+use Rattle.form_fields.specs.Fields.{is_known, least_unknown, known, at_key, word_at}
+use Rattle.form_fields.specs.Shape.{is_number, is_text, are_texts, number_and_texts, is_named_pair, has_shape, all_have}
+use Rattle.form_fields.specs.Spelling.{fits, is_token, are_visible, is_visible}
+use Rattle.form_fields.specs.Tree.{items_in}
+use Rattle.form_fields.specs.Words.{text_of, keys_of}
+use Rattle.link_listing.specs.Classes.{class_row, dex_classes, all_classes}
+use Rattle.link_listing.specs.Gathered.{gathering}
+use Rattle.link_listing.specs.Orders.{named, with_name}
+use Rattle.link_listing.specs.Texts.{text_of as string_of, type_of}
+use Rattle.method_fields.specs.Gives.{default_word, result_at, from_fits, shared_fits, shared_at, gives_at}
+use Rattle.method_fields.specs.Positions.{has_key, items_at, position_rows, positions_at}
+use Rattle.form_witness.specs.Fields.{FieldsTell, RowsTell}
+use Rattle.form_witness.specs.Listed.{ListingsTell}
+
+pub fields_tell : FieldsTell
+unfolding all_have has_shape is_named_pair items_in number_and_texts is_number are_texts is_text fits is_token are_visible is_visible known least_unknown is_known keys_of text_of
+fields_tell = record { pair = refl; no_longer_pair = refl; shortest_token = refl; no_shorter_token = refl; least_key = refl }
+
+pub rows_tell : RowsTell
+unfolding gives_at result_at word_at at_key text_of has_key default_word positions_at items_at items_in all_have position_rows walk from_fits shared_at shared_fits
+rows_tell = record { shared_is_text = refl; blank_has_none = refl; with_receiver = refl }
+
+pub listings_tell : ListingsTell
+unfolding gathering all_classes dex_classes class_row each named with_name string_of type_of
+listings_tell = record { two_classes = refl; too_dear = λ left rest cost less same. omega arith }
