@@ -2,6 +2,8 @@
 use Rattle.std.proofs.Common.{refl}
 use Rattle.std.specs.Char.{encode_utf8}
 use Rattle.std.specs.Fmt.{digits}
+use Rattle.cert_report.specs.Refusal.{fault_text, digests_text, row_text, reason_text, refusal_text as refusal_line}
+use Rattle.cert_rows.specs.Spelling.{ctx_bytes, site_bytes, field_bytes, row_bytes}
 use Rattle.desk_answers.specs.Bodies.{error_body, state_body, decided_body, shown_json, named_json, lines_body}
 use Rattle.desk_answers.specs.Json.{latin1}
 use Rattle.desk_answers.specs.Texts.{refusal_text, no_memory}
@@ -9,8 +11,10 @@ use Rattle.desk_answers.specs.Words.{state_word, outcome_word}
 use Rattle.desk_words.specs.Numbers.{digits as number_digits, number, positive}
 use Rattle.desk_words.specs.Serve.{count_of, database_name, is_serve}
 use Rattle.desk_words.specs.Words.{is_check, is_certify, is_recheck, is_make, is_file_name, workers, seed_of, size_of}
+use Rattle.hex.specs.Hex.{encode_with}
 use Rattle.json.specs.Print.{escape_byte}
 use Rattle.text_witness.specs.Answers.{AnswersTell}
+use Rattle.text_witness.specs.Refusals.{RefusalsTell}
 use Rattle.text_witness.specs.Tokens.{TokensTell}
 use Rattle.text_witness.specs.Words.{WordsTell}
 
@@ -36,3 +40,7 @@ answers_tell = record {
   appeal_day = refl;
   want_of_memory = refl;
 }
+
+pub refusals_tell : RefusalsTell
+unfolding refusal_line reason_text fault_text digests_text row_text row_bytes field_bytes site_bytes ctx_bytes encode_with digits
+refusals_tell = record { rest = refl; digests = refl; stranger = refl }
