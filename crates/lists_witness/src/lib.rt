@@ -1,0 +1,19 @@
+//! Small facts that show how the lists and the office file are read, from whole trees of TOML. Each is a
+//! theorem over the definitions that the clauses of their readers name, so that a reader which answers
+//! otherwise is refused.
+#![tactic(auto)]
+
+ghost use Rattle.lists_witness.specs.ListFacts.{ListsAreRead};
+ghost use Rattle.lists_witness.specs.OfficeFacts.{OfficeIsRead};
+
+/// Names and categories keep to their spellings, a default is the one that its word says, a type is
+/// tested before a range, and rows before what stands twice.
+pub fn the_lists_are_read()
+    ensures { ListsAreRead }
+{}
+
+/// No port is 0, a role is the one that its word says, and a token that stands twice is told by the
+/// name of its party.
+pub fn the_office_is_read()
+    ensures { OfficeIsRead }
+{}
