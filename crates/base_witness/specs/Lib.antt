@@ -1,0 +1,3 @@
+pub mod ByteFacts
+pub mod OutsideFacts
+pub mod TableFacts
