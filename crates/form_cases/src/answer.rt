@@ -17,23 +17,23 @@ pub enum Form {
 /// What the reader of the form answers.
 pub fn answer_of(alloc: Global, form: Form, text: &[u8]) -> Result<String, AllocError> {
     match form {
-        Form::Declaration => told(alloc, read_declaration(alloc, text)),
-        Form::Layouts => told(alloc, read_layouts(alloc, text)),
-        Form::Manifest => told(alloc, read_manifest(alloc, text)),
-        Form::Lists => told(alloc, read_lists(alloc, text)),
-        Form::Office => told(alloc, read_office(alloc, text)),
+        Form::Declaration => told(alloc, &read_declaration(alloc, text)),
+        Form::Layouts => told(alloc, &read_layouts(alloc, text)),
+        Form::Manifest => told(alloc, &read_manifest(alloc, text)),
+        Form::Lists => told(alloc, &read_lists(alloc, text)),
+        Form::Office => told(alloc, &read_office(alloc, text)),
     }
 }
 
-fn told<T: Drop>(alloc: Global, read: Result<T, FormFault>) -> Result<String, AllocError> {
+fn told<T: Drop>(alloc: Global, read: &Result<T, FormFault>) -> Result<String, AllocError> {
     match read {
         Ok(_) => format!(in alloc; "ok"),
         Err(FormFault::NotToml) => format!(in alloc; "not toml"),
-        Err(FormFault::Missing(key)) => words(alloc, "missing", &key),
-        Err(FormFault::Wrong(key)) => words(alloc, "wrong", &key),
-        Err(FormFault::Unknown(key)) => words(alloc, "unknown", &key),
-        Err(FormFault::Range(key)) => words(alloc, "range", &key),
-        Err(FormFault::Twice(name)) => words(alloc, "twice", &name),
+        Err(FormFault::Missing(key)) => words(alloc, "missing", key),
+        Err(FormFault::Wrong(key)) => words(alloc, "wrong", key),
+        Err(FormFault::Unknown(key)) => words(alloc, "unknown", key),
+        Err(FormFault::Range(key)) => words(alloc, "range", key),
+        Err(FormFault::Twice(name)) => words(alloc, "twice", name),
         Err(FormFault::Memory) => format!(in alloc; "memory"),
     }
 }

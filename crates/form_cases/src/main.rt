@@ -6,25 +6,31 @@ mod answer;
 mod sample;
 
 use crate::answer::{Form, answer_of};
+use std::alloc::{AllocError, Global};
 use std::rt::Files;
 use std::{fs, io};
 
-/// Whether the text is answered as it is due; another answer is printed.
+/// What is answered to the text behind its head.
+fn answer_behind(alloc: Global, form: Form, head: &str, rest: &str) -> Result<String, AllocError> {
+    let whole = format!(in alloc; "{head}\n{rest}")?;
+    answer_of(alloc, form, whole.as_bytes())
+}
+
+/// Whether the text of a case, behind its head, is answered as its first line says; another answer is printed.
 fn is_answered(
     rt: &(impl Print + AllocGlobal),
     name: &str,
     form: Form,
     head: &str,
-    want: &str,
-    rest: &str,
+    case: &str,
 ) -> io::Result<bool> {
-    let whole = format!(in rt.alloc(); "{head}\n{rest}")?;
-    let found = answer_of(rt.alloc(), form, whole.as_bytes())?;
-    let is_due = found.as_str() == want;
-    if !is_due {
-        println!(rt; "{name}: {found} in place of {want}")?;
+    let (want, rest) = case.split_once("\n").unwrap_or((case, ""));
+    let found = answer_behind(rt.alloc(), form, head, rest)?;
+    if found.as_str() == want {
+        return Ok(true);
     }
-    Ok(is_due)
+    println!(rt; "{name}: {found} in place of {want}")?;
+    Ok(false)
 }
 
 /// Reads each text of a file of cases, which stand each behind a line `## ANSWER`. The lines before the
@@ -35,11 +41,7 @@ fn answers<R: Files + Print + AllocGlobal>(rt: &R, name: &str, form: Form) -> io
     let head = cases.next().unwrap_or("");
     let mut due = 0u64;
     for case in cases {
-        let is_due = match case.split_once("\n") {
-            Some((want, rest)) => is_answered(rt, name, form, head, want, rest)?,
-            None => is_answered(rt, name, form, head, case, "")?,
-        };
-        if is_due {
+        if is_answered(rt, name, form, head, case)? {
             due = due.saturating_add(1);
         }
     }

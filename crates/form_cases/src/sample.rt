@@ -1,52 +1,77 @@
 //! What samples say.
 use crate::answer::text_of;
-use app_machine::{Gives, Summary};
+use app_machine::{Gives, Layouts, LibClass, Lists, Summary};
 use office_forms::{read_layouts, read_lists, read_office};
 use std::alloc::{AllocError, Global};
 use std::rt::Files;
 use std::{fs, io};
+use store_office::Office;
 use vet_base::Name;
 
-/// Prints each row of the lists.
+/// Prints each row of the lists in a file.
 pub fn print_lists<R: Files + Print + AllocGlobal>(rt: &R, name: &str) -> io::Result<()> {
     let text = fs::read_to_string(rt, name)?;
-    let Ok(lists) = read_lists(rt.alloc(), text.as_bytes()) else {
-        return println!(rt; "{name}: not read");
-    };
+    match read_lists(rt.alloc(), text.as_bytes()) {
+        Ok(lists) => print_rows(rt, &lists),
+        Err(_) => println!(rt; "{name}: not read"),
+    }
+}
+
+fn print_rows<R: Print + AllocGlobal>(rt: &R, lists: &Lists) -> io::Result<()> {
     println!(rt; "rows {}", lists.rows)?;
-    println!(rt;
-        "categories{}",
-        texts(rt.alloc(), lists.categories.as_slice())?
-    )?;
+    print_names(rt, "categories", lists.categories.as_slice())?;
     for class in lists.classes.as_slice() {
-        let above = texts(rt.alloc(), class.above.as_slice())?;
-        println!(rt; "class{above}, default {:?}", class.fallback)?;
+        print_class(rt, class)?;
     }
     for shared in lists.shared.as_slice() {
         println!(rt; "shared {} {}", text_of(&shared.0), text_of(&shared.1))?;
     }
     for method in lists.methods.as_slice() {
-        println!(rt; "{}", row_of(rt.alloc(), method)?)?;
+        print_method(rt, method)?;
     }
     println!(rt; "callbacks {}", lists.callbacks.len())
 }
 
-/// Prints the clicks and the classes of the layouts.
-pub fn print_layouts<R: Files + Print + AllocGlobal>(rt: &R, name: &str) -> io::Result<()> {
-    let text = fs::read_to_string(rt, name)?;
-    let Ok(layouts) = read_layouts(rt.alloc(), text.as_bytes()) else {
-        return println!(rt; "{name}: not read");
-    };
-    println!(rt; "clicks{}", texts(rt.alloc(), layouts.clicks.as_slice())?)?;
-    println!(rt; "classes{}", texts(rt.alloc(), layouts.classes.as_slice())?)
+fn print_class<R: Print + AllocGlobal>(rt: &R, class: &LibClass) -> io::Result<()> {
+    let above = texts(rt.alloc(), class.above.as_slice())?;
+    println!(rt; "class{above}, default {:?}", class.fallback)
 }
 
-/// Prints what the office file says, with each party's name, role and token.
+fn print_method<R: Print + AllocGlobal>(rt: &R, method: &Summary) -> io::Result<()> {
+    let row = row_of(rt.alloc(), method)?;
+    println!(rt; "{row}")
+}
+
+/// Prints a word and the names.
+fn print_names<R: Print + AllocGlobal>(rt: &R, word: &str, names: &[Name]) -> io::Result<()> {
+    let texts = texts(rt.alloc(), names)?;
+    println!(rt; "{word}{texts}")
+}
+
+/// Prints the clicks and the classes of the layouts in a file.
+pub fn print_layouts<R: Files + Print + AllocGlobal>(rt: &R, name: &str) -> io::Result<()> {
+    let text = fs::read_to_string(rt, name)?;
+    match read_layouts(rt.alloc(), text.as_bytes()) {
+        Ok(layouts) => print_elements(rt, &layouts),
+        Err(_) => println!(rt; "{name}: not read"),
+    }
+}
+
+fn print_elements<R: Print + AllocGlobal>(rt: &R, layouts: &Layouts) -> io::Result<()> {
+    print_names(rt, "clicks", layouts.clicks.as_slice())?;
+    print_names(rt, "classes", layouts.classes.as_slice())
+}
+
+/// Prints what an office file says, with each party's name, role and token.
 pub fn print_office<R: Files + Print + AllocGlobal>(rt: &R, name: &str) -> io::Result<()> {
     let text = fs::read_to_string(rt, name)?;
-    let Ok(office) = read_office(rt.alloc(), text.as_bytes()) else {
-        return println!(rt; "{name}: not read");
-    };
+    match read_office(rt.alloc(), text.as_bytes()) {
+        Ok(office) => print_parties(rt, &office),
+        Err(_) => println!(rt; "{name}: not read"),
+    }
+}
+
+fn print_parties<R: Print>(rt: &R, office: &Office) -> io::Result<()> {
     println!(rt;
         "port {}, workers {}, appeal days {}",
         office.port, office.workers, office.appeal_days
