@@ -1,5 +1,5 @@
 use certificate::{CertFault, digest_of, read_cert};
-use std::alloc::AllocError;
+use std::alloc::{AllocError, Global};
 use std::test::Fail;
 use vet_base::{Seq, Stop};
 
@@ -43,8 +43,9 @@ static EACH_KIND: [u8; 658] = [
     12, 0, 0, 0,
 ];
 
-fn with_rows(rt: HostRuntime, count: u32, rows: &[u8]) -> Result<Vec<u8>, AllocError> {
-    let mut bytes = Vec::new(rt.alloc());
+/// A certificate with this count and these rows.
+fn with_rows(alloc: Global, count: u32, rows: &[u8]) -> Result<Vec<u8>, AllocError> {
+    let mut bytes = Vec::new(alloc);
     bytes.extend_from_slice(b"VETCERT2".as_slice())?;
     bytes.extend_from_slice(&[0; 32])?;
     bytes.extend_from_slice(&count.to_le_bytes())?;
@@ -52,125 +53,119 @@ fn with_rows(rt: HostRuntime, count: u32, rows: &[u8]) -> Result<Vec<u8>, AllocE
     Ok(bytes)
 }
 
-fn fault_of(rt: HostRuntime, bytes: &[u8]) -> Option<CertFault> {
-    match read_cert(rt.alloc(), bytes) {
+fn fault_of(alloc: Global, bytes: &[u8]) -> Option<CertFault> {
+    match read_cert(alloc, bytes) {
         Ok(_) => None,
         Err(Stop::Memory) => None,
         Err(Stop::Fault(fault)) => Some(fault),
     }
 }
 
-fn first_fault(rt: HostRuntime, rows: &[u8]) -> Result<Option<CertFault>, AllocError> {
-    let bytes = with_rows(rt, 1, rows)?;
-    Ok(fault_of(rt, &bytes))
+fn fault_of_rows(alloc: Global, count: u32, rows: &[u8]) -> Result<Option<CertFault>, AllocError> {
+    let bytes = with_rows(alloc, count, rows)?;
+    Ok(fault_of(alloc, &bytes))
 }
 
-fn rows_in(rt: HostRuntime, bytes: &[u8]) -> usize {
-    match read_cert(rt.alloc(), bytes) {
+/// How many rows are read of a certificate.
+fn rows_in(alloc: Global, bytes: &[u8]) -> usize {
+    match read_cert(alloc, bytes) {
         Ok(cert) => cert.rows.len(),
         Err(_) => 0,
     }
 }
 
+fn rows_of_each_kind(alloc: Global) -> Result<usize, AllocError> {
+    let bytes = with_rows(alloc, 20, &EACH_KIND)?;
+    Ok(rows_in(alloc, &bytes))
+}
+
 #[test]
-fn a_foreign_certificate_is_read(rt: HostRuntime) -> Result<(), Fail> {
-    assert_eq!(rt; rows_in(rt, &UNLISTED_CALL), 15);
-    Ok(())
+fn a_foreign_certificate_is_read(rt: HostRuntime) {
+    assert_eq!(rt; rows_in(rt.alloc(), &UNLISTED_CALL), 15);
 }
 
 #[test]
 fn a_row_of_each_kind_is_read(rt: HostRuntime) -> Result<(), Fail> {
-    let bytes = with_rows(rt, 20, &EACH_KIND)?;
-    assert_eq!(rt; rows_in(rt, &bytes), 20);
+    assert_eq!(rt; rows_of_each_kind(rt.alloc())?, 20);
     Ok(())
 }
 
 #[test]
 fn a_byte_more_is_told(rt: HostRuntime) -> Result<(), Fail> {
-    let bytes = with_rows(rt, 1, &[14, 5, 0, 0, 0, 0, 7])?;
-    assert_eq!(rt; fault_of(rt, &bytes), Some(CertFault::Rest(50)));
+    let fault = fault_of_rows(rt.alloc(), 1, &[14, 5, 0, 0, 0, 0, 7])?;
+    assert_eq!(rt; fault, Some(CertFault::Rest(50)));
     Ok(())
 }
 
 #[test]
-fn the_first_version_is_told(rt: HostRuntime) -> Result<(), Fail> {
+fn the_first_version_is_told(rt: HostRuntime) {
+    let first = fault_of(rt.alloc(), b"VETCERT1");
+    let third = fault_of(rt.alloc(), b"VETCERT3");
     assert_eq!(rt;
-        fault_of(rt, b"VETCERT1".as_slice()),
-        Some(CertFault::Version)
+        [first, third],
+        [Some(CertFault::Version), Some(CertFault::Magic)]
     );
-    assert_eq!(rt;
-        fault_of(rt, b"VETCERT3".as_slice()),
-        Some(CertFault::Magic)
-    );
-    Ok(())
 }
 
 #[test]
 fn rows_out_of_order_or_twice_are_told(rt: HostRuntime) -> Result<(), Fail> {
-    let exchanged = with_rows(rt, 2, &[14, 5, 0, 0, 0, 1, 14, 5, 0, 0, 0, 0])?;
-    assert_eq!(rt; fault_of(rt, &exchanged), Some(CertFault::Order(50)));
-    let twice = with_rows(rt, 2, &[14, 5, 0, 0, 0, 1, 14, 5, 0, 0, 0, 1])?;
-    assert_eq!(rt; fault_of(rt, &twice), Some(CertFault::Order(50)));
+    let exchanged = fault_of_rows(rt.alloc(), 2, &[14, 5, 0, 0, 0, 1, 14, 5, 0, 0, 0, 0])?;
+    let twice = fault_of_rows(rt.alloc(), 2, &[14, 5, 0, 0, 0, 1, 14, 5, 0, 0, 0, 1])?;
+    assert_eq!(rt; [exchanged, twice], [Some(CertFault::Order(50)); 2]);
     Ok(())
 }
 
 #[test]
 fn a_great_count_is_not_believed(rt: HostRuntime) -> Result<(), Fail> {
-    let bytes = with_rows(rt, 0xFFFF_FFFF, &[])?;
-    assert_eq!(rt; fault_of(rt, &bytes), Some(CertFault::Cut(44)));
+    let fault = fault_of_rows(rt.alloc(), 0xFFFF_FFFF, &[])?;
+    assert_eq!(rt; fault, Some(CertFault::Cut(44)));
     Ok(())
 }
 
+/// Rows that a byte or the end cuts off, and the fault of each.
+static ODD_ROWS: [(&[u8], Option<CertFault>); 15] = [
+    // No kind.
+    (&[0], Some(CertFault::Bad(44))),
+    (&[21], Some(CertFault::Bad(44))),
+    // A context, a site and a use of no kind.
+    (&[1, 7], Some(CertFault::Bad(44))),
+    (&[16, 4], Some(CertFault::Bad(44))),
+    (
+        &[20, 0, 0, 0, 0, 0, 0, 0, 0, 0, 0, 0, 0, 0, 0, 0, 0, 0, 2],
+        Some(CertFault::Bad(44)),
+    ),
+    // The second number of a handed context is 0, in each of its bytes.
+    (&[1, 3, 1, 0, 0, 0, 0, 1], Some(CertFault::Bad(44))),
+    (&[1, 3, 1, 0, 0, 0, 0, 0], Some(CertFault::Cut(44))),
+    // Six keys, and the same in an open path.
+    (&[7, 0, 0, 0, 0, 6], Some(CertFault::Bad(44))),
+    (&[7, 0, 0, 0, 0, 77], Some(CertFault::Bad(44))),
+    (&[7, 0, 0, 0, 0, 134], Some(CertFault::Bad(44))),
+    (&[7, 0, 0, 0, 0, 133], Some(CertFault::Cut(44))),
+    // An end that is neither return nor throw, and a cause of none.
+    (
+        &[12, 0, 0, 0, 0, 0, 0, 0, 0, 0, 0, 0, 0, 0, 2],
+        Some(CertFault::Bad(44)),
+    ),
+    (
+        &[19, 0, 0, 0, 0, 0, 0, 0, 0, 0, 0, 0, 0, 0, 0, 0, 0, 0, 0],
+        Some(CertFault::Bad(44)),
+    ),
+    (
+        &[19, 0, 0, 0, 0, 0, 0, 0, 0, 0, 0, 0, 0, 0, 0, 0, 0, 0, 4],
+        Some(CertFault::Bad(44)),
+    ),
+    (
+        &[19, 0, 0, 0, 0, 0, 0, 0, 0, 0, 0, 0, 0, 0, 0, 0, 0, 0, 3],
+        None,
+    ),
+];
+
 #[test]
 fn bytes_that_no_row_has_are_told_before_the_end(rt: HostRuntime) -> Result<(), Fail> {
-    // No kind.
-    assert_eq!(rt; first_fault(rt, &[0])?, Some(CertFault::Bad(44)));
-    assert_eq!(rt; first_fault(rt, &[21])?, Some(CertFault::Bad(44)));
-    // A context, a site and a use of no kind.
-    assert_eq!(rt; first_fault(rt, &[1, 7])?, Some(CertFault::Bad(44)));
-    assert_eq!(rt; first_fault(rt, &[16, 4])?, Some(CertFault::Bad(44)));
-    let mut uses = [0; 19];
-    uses[0] = 20;
-    uses[18] = 2;
-    assert_eq!(rt; first_fault(rt, &uses)?, Some(CertFault::Bad(44)));
-    // The second number of a handed context is 0, in each of its bytes.
-    assert_eq!(rt;
-        first_fault(rt, &[1, 3, 1, 0, 0, 0, 0, 1])?,
-        Some(CertFault::Bad(44))
-    );
-    assert_eq!(rt;
-        first_fault(rt, &[1, 3, 1, 0, 0, 0, 0, 0])?,
-        Some(CertFault::Cut(44))
-    );
-    // Six keys, and the same in an open path.
-    assert_eq!(rt;
-        first_fault(rt, &[7, 0, 0, 0, 0, 6])?,
-        Some(CertFault::Bad(44))
-    );
-    assert_eq!(rt;
-        first_fault(rt, &[7, 0, 0, 0, 0, 77])?,
-        Some(CertFault::Bad(44))
-    );
-    assert_eq!(rt;
-        first_fault(rt, &[7, 0, 0, 0, 0, 134])?,
-        Some(CertFault::Bad(44))
-    );
-    assert_eq!(rt;
-        first_fault(rt, &[7, 0, 0, 0, 0, 133])?,
-        Some(CertFault::Cut(44))
-    );
-    // An end that is neither return nor throw, and a cause of none.
-    let mut exit = [0; 15];
-    exit[0] = 12;
-    exit[14] = 2;
-    assert_eq!(rt; first_fault(rt, &exit)?, Some(CertFault::Bad(44)));
-    let mut unknown = [0; 19];
-    unknown[0] = 19;
-    assert_eq!(rt; first_fault(rt, &unknown)?, Some(CertFault::Bad(44)));
-    unknown[18] = 4;
-    assert_eq!(rt; first_fault(rt, &unknown)?, Some(CertFault::Bad(44)));
-    unknown[18] = 3;
-    assert_eq!(rt; first_fault(rt, &unknown)?, None);
+    for &(rows, fault) in ODD_ROWS.iter() {
+        assert_eq!(rt; fault_of_rows(rt.alloc(), 1, rows)?, fault, "{rows:?}");
+    }
     Ok(())
 }
 
@@ -180,18 +175,22 @@ static DIGEST: [u8; 32] = [
     111, 139, 157, 165, 145, 107, 235, 131, 175, 36, 128, 87,
 ];
 
-#[test]
-fn each_part_has_its_length_in_front(rt: HostRuntime) -> Result<(), Fail> {
-    let mut dex = Vec::new(rt.alloc());
-    dex.push(Seq::from_vec(b"one".as_slice().to_vec(rt.alloc())?))?;
-    dex.push(Seq::new(rt.alloc()))?;
-    let digest = digest_of(
+/// The digest over two DEX files, of which the second is empty.
+fn digest(alloc: Global) -> Result<[u8; 32], AllocError> {
+    let mut dex = Vec::new(alloc);
+    dex.push(Seq::from_vec(b"one".as_slice().to_vec(alloc)?))?;
+    dex.push(Seq::new(alloc))?;
+    Ok(digest_of(
         b"m".as_slice(),
         &[],
         b"dec".as_slice(),
         b"lists".as_slice(),
         &dex,
-    );
-    assert_eq!(rt; digest, DIGEST);
+    ))
+}
+
+#[test]
+fn each_part_has_its_length_in_front(rt: HostRuntime) -> Result<(), Fail> {
+    assert_eq!(rt; digest(rt.alloc())?, DIGEST);
     Ok(())
 }
