@@ -5,52 +5,55 @@ use case_rules::{
 use desk_answers::{answer_of, answer_to_fault, error_answer, no_memory, store_failed};
 use desk_http::{Answer, HttpFault};
 use std::alloc::Global;
-use std::process::Abort;
 use std::test::Fail;
 use store_office::Role;
 use vet_base::{Memory, Name, Shared};
 
-fn expect(rt: &impl Abort, answer: &Answer, status: u16, body: &str) {
-    assert_eq!(rt; answer.body.as_slice(), body.as_bytes());
-    assert!(rt; answer.status == status && !answer.is_text);
+/// Whether the status and the body of an answer in JSON are these.
+fn is_answer(answer: &Answer, status: u16, body: &str) -> [bool; 2] {
+    [
+        answer.status == status && !answer.is_text,
+        answer.body.as_slice() == body.as_bytes(),
+    ]
 }
 
-/// A developer is told `own`, and a reviewer `all`.
-fn expect_told(
-    rt: &impl Abort,
+fn is_told(
+    alloc: Global,
+    role: Role,
+    reply: &Reply,
+    status: u16,
+    body: &str,
+) -> Result<[bool; 2], Memory> {
+    let answer = answer_of(alloc, role, reply)?;
+    Ok(is_answer(&answer, status, body))
+}
+
+fn are_told(
     alloc: Global,
     reply: &Reply,
     status: u16,
     own: &str,
     all: &str,
-) -> Result<(), Memory> {
-    expect(rt, &answer_of(alloc, Role::Developer, reply)?, status, own);
-    expect(rt, &answer_of(alloc, Role::Reviewer, reply)?, status, all);
-    Ok(())
+) -> Result<[[bool; 2]; 2], Memory> {
+    let developer = is_told(alloc, Role::Developer, reply, status, own)?;
+    let reviewer = is_told(alloc, Role::Reviewer, reply, status, all)?;
+    Ok([developer, reviewer])
 }
 
-/// The same of a reply that is dropped here, and nowhere in a test: its destructor is long.
-fn expect_each(
-    rt: &impl Abort,
+/// Whether the status and the body are these that a developer is told, with the body `own`, and those that a reviewer
+/// is told, with the body `all`. The reply is dropped here, and nowhere in a test: its destructor is long.
+fn told(
     alloc: Global,
     reply: Reply,
     status: u16,
     own: &str,
     all: &str,
-) -> Result<(), Memory> {
-    expect_told(rt, alloc, &reply, status, own, all)
+) -> Result<[[bool; 2]; 2], Memory> {
+    are_told(alloc, &reply, status, own, all)
 }
 
-/// Both roles are told the same.
-fn expect_both(
-    rt: &impl Abort,
-    alloc: Global,
-    reply: Reply,
-    status: u16,
-    body: &str,
-) -> Result<(), Memory> {
-    expect_each(rt, alloc, reply, status, body, body)
-}
+/// All that `told` looks at is as it is wanted.
+const AS_WANTED: [[bool; 2]; 2] = [[true; 2]; 2];
 
 fn name(alloc: Global, text: &str) -> Result<Name, Memory> {
     Name::from_bytes(alloc, text.as_bytes())
@@ -59,10 +62,10 @@ fn name(alloc: Global, text: &str) -> Result<Name, Memory> {
 #[test]
 fn a_new_case_is_told_in_35_bytes(rt: HostRuntime) -> Result<(), Fail> {
     let alloc = rt.alloc();
-    let added = Reply::Added(name(alloc, "r1")?);
     let body = "{\"reference\":\"r1\",\"state\":\"queued\"}";
     assert_eq!(rt; body.len(), 35);
-    expect_both(&rt, alloc, added, 201, body)?;
+    let added = Reply::Added(name(alloc, "r1")?);
+    assert_eq!(rt; told(alloc, added, 201, body, body)?, AS_WANTED);
     Ok(())
 }
 
@@ -84,8 +87,8 @@ static KEPT: [(State, &str); 4] = [
 fn a_kept_case_is_told_with_its_state(rt: HostRuntime) -> Result<(), Fail> {
     let alloc = rt.alloc();
     for &(state, body) in KEPT.iter() {
-        let reply = Reply::Kept(name(alloc, "r1")?, state);
-        expect_both(&rt, alloc, reply, 200, body)?;
+        let kept = Reply::Kept(name(alloc, "r1")?, state);
+        assert_eq!(rt; told(alloc, kept, 200, body, body)?, AS_WANTED, "{body}");
     }
     Ok(())
 }
@@ -93,14 +96,9 @@ fn a_kept_case_is_told_with_its_state(rt: HostRuntime) -> Result<(), Fail> {
 #[test]
 fn an_appeal_is_told(rt: HostRuntime) -> Result<(), Fail> {
     let alloc = rt.alloc();
+    let body = "{\"reference\":\"r1\",\"state\":\"appealed\"}";
     let taken = Reply::Appealed(name(alloc, "r1")?);
-    expect_both(
-        &rt,
-        alloc,
-        taken,
-        200,
-        "{\"reference\":\"r1\",\"state\":\"appealed\"}",
-    )?;
+    assert_eq!(rt; told(alloc, taken, 200, body, body)?, AS_WANTED);
     Ok(())
 }
 
@@ -128,8 +126,8 @@ static DECIDED: [(OutcomeWord, &str); 4] = [
 fn a_decision_is_told_with_its_outcome(rt: HostRuntime) -> Result<(), Fail> {
     let alloc = rt.alloc();
     for &(outcome, body) in DECIDED.iter() {
-        let reply = Reply::Decided(name(alloc, "ann")?, name(alloc, "r1")?, outcome);
-        expect_both(&rt, alloc, reply, 200, body)?;
+        let decided = Reply::Decided(name(alloc, "ann")?, name(alloc, "r1")?, outcome);
+        assert_eq!(rt; told(alloc, decided, 200, body, body)?, AS_WANTED, "{body}");
     }
     Ok(())
 }
@@ -150,54 +148,71 @@ static RULED: [(RulingWord, &str); 2] = [
 fn a_ruling_is_told_with_its_word(rt: HostRuntime) -> Result<(), Fail> {
     let alloc = rt.alloc();
     for &(word, body) in RULED.iter() {
-        let reply = Reply::Ruled(name(alloc, "ann")?, name(alloc, "r1")?, word);
-        expect_both(&rt, alloc, reply, 200, body)?;
+        let ruled = Reply::Ruled(name(alloc, "ann")?, name(alloc, "r1")?, word);
+        assert_eq!(rt; told(alloc, ruled, 200, body, body)?, AS_WANTED, "{body}");
     }
     Ok(())
 }
 
-/// An entry of this outcome and day, with no appeal, or an appeal of the next day, or a ruling on it too.
-fn entry(alloc: Global, outcome: OutcomeWord, day: u32, state: State) -> Result<Entry, Memory> {
-    let appeal = match state {
+fn appeal(state: State) -> Option<Appeal> {
+    match state {
         State::Appealed | State::Ruled => Some(Appeal {
             day: 20002,
             text: Shared::new(),
         }),
         _ => None,
-    };
-    let ruling = match state {
-        State::Ruled => Some(Ruling {
-            reviewer: name(alloc, "rex")?,
-            day: 20003,
-            word: RulingWord::Overturn,
-        }),
-        _ => None,
-    };
+    }
+}
+
+fn ruling(alloc: Global, state: State) -> Result<Option<Ruling>, Memory> {
+    if state != State::Ruled {
+        return Ok(None);
+    }
+    let reviewer = name(alloc, "rex")?;
+    Ok(Some(Ruling {
+        reviewer,
+        day: 20003,
+        word: RulingWord::Overturn,
+    }))
+}
+
+/// An entry of this outcome and day, with no appeal, or an appeal of the next day, or a ruling on it too.
+fn entry(alloc: Global, outcome: OutcomeWord, day: u32, state: State) -> Result<Entry, Memory> {
+    let reviewer = name(alloc, "roy")?;
+    let ruling = ruling(alloc, state)?;
     Ok(Entry {
         decision: Decision {
             outcome,
             report: Shared::new(),
             lists: [0; 32],
-            reviewer: name(alloc, "roy")?,
+            reviewer,
             day,
         },
-        appeal,
+        appeal: appeal(state),
         ruling,
     })
 }
 
-fn shown(alloc: Global, entries: Vec<Entry>) -> Result<Reply, Memory> {
-    Ok(Reply::Shown(Case {
-        party: name(alloc, "ann")?,
-        reference: name(alloc, "r1")?,
+/// An entry that was ruled, and a later one that came so far.
+fn entries(alloc: Global, state: State) -> Result<Shared<Entry>, Memory> {
+    let first = entry(alloc, OutcomeWord::Undecided, 19000, State::Ruled)?;
+    let last = entry(alloc, OutcomeWord::Flagged, 20001, state)?;
+    let entries = vec![in alloc; first, last]?;
+    Ok(Shared::from_vec(alloc, entries)?)
+}
+
+fn shown(party: Name, reference: Name, entries: Shared<Entry>) -> Reply {
+    Reply::Shown(Case {
+        party,
+        reference,
         content: Content {
             manifest: Shared::new(),
             layouts: Shared::new(),
             declaration: Shared::new(),
             dex: Shared::new(),
         },
-        entries: Shared::from_vec(alloc, entries)?,
-    }))
+        entries,
+    })
 }
 
 #[test]
@@ -205,7 +220,8 @@ fn a_queued_case_is_shown(rt: HostRuntime) -> Result<(), Fail> {
     let alloc = rt.alloc();
     let body =
         "{\"appeal\":null,\"decided\":null,\"editions\":0,\"outcome\":null,\"reference\":\"r1\",\"ruling\":null,\"state\":\"queued\"}";
-    expect_both(&rt, alloc, shown(alloc, Vec::new(alloc))?, 200, body)?;
+    let queued = shown(name(alloc, "ann")?, name(alloc, "r1")?, Shared::new());
+    assert_eq!(rt; told(alloc, queued, 200, body, body)?, AS_WANTED);
     Ok(())
 }
 
@@ -225,60 +241,75 @@ static SHOWN: [(State, &str); 3] = [
     ),
 ];
 
+/// What is told of a case whose last entry came so far.
+fn shown_told(alloc: Global, state: State, body: &str) -> Result<[[bool; 2]; 2], Memory> {
+    let party = name(alloc, "ann")?;
+    let reference = name(alloc, "r1")?;
+    let entries = entries(alloc, state)?;
+    told(alloc, shown(party, reference, entries), 200, body, body)
+}
+
 #[test]
 fn a_case_is_shown_by_its_last_entry(rt: HostRuntime) -> Result<(), Fail> {
-    let alloc = rt.alloc();
     for &(state, body) in SHOWN.iter() {
-        let mut entries = Vec::new(alloc);
-        entries.push(entry(alloc, OutcomeWord::Undecided, 19000, State::Ruled)?)?;
-        entries.push(entry(alloc, OutcomeWord::Flagged, 20001, state)?)?;
-        expect_both(&rt, alloc, shown(alloc, entries)?, 200, body)?;
+        assert_eq!(rt; shown_told(rt.alloc(), state, body)?, AS_WANTED, "{body}");
     }
     Ok(())
 }
 
+fn answer(alloc: Global, role: Role, reply: Reply) -> Result<Answer, Memory> {
+    answer_of(alloc, role, &reply)
+}
+
+/// The status of the answer to a report, whether it is text, and whether the body is the report.
+fn report_told(alloc: Global, report: &[u8]) -> Result<(u16, bool, bool), Memory> {
+    let text = Reply::Text(Shared::from_vec(alloc, report.to_vec(alloc)?)?);
+    let answer = answer(alloc, Role::Developer, text)?;
+    let is_whole = answer.body.as_slice() == report;
+    Ok((answer.status, answer.is_text, is_whole))
+}
+
 #[test]
 fn a_report_is_told_as_it_is(rt: HostRuntime) -> Result<(), Fail> {
-    let alloc = rt.alloc();
-    let report = Shared::from_vec(alloc, b"clear\n\"\xff\x00".to_vec(alloc)?)?;
-    let answer = answer_of(alloc, Role::Developer, &Reply::Text(report))?;
-    assert!(rt; answer.status == 200 && answer.is_text);
-    assert_eq!(rt; answer.body.as_slice(), b"clear\n\"\xff\x00".as_slice());
+    let told = report_told(rt.alloc(), b"clear\n\"\xff\x00")?;
+    assert_eq!(rt; told, (200, true, true));
     Ok(())
 }
 
 fn line(alloc: Global, party: &str, reference: &str, state: State) -> Result<Line, Memory> {
+    let party = name(alloc, party)?;
+    let reference = name(alloc, reference)?;
     Ok(Line {
-        party: name(alloc, party)?,
-        reference: name(alloc, reference)?,
+        party,
+        reference,
         state,
     })
 }
 
 #[test]
 fn an_empty_list_is_told(rt: HostRuntime) -> Result<(), Fail> {
-    expect_both(
-        &rt,
-        rt.alloc(),
-        Reply::Lines(Shared::new()),
-        200,
-        "{\"cases\":[]}",
-    )?;
+    let body = "{\"cases\":[]}";
+    let empty = Reply::Lines(Shared::new());
+    assert_eq!(rt; told(rt.alloc(), empty, 200, body, body)?, AS_WANTED);
     Ok(())
+}
+
+fn two_lines(alloc: Global) -> Result<Shared<Line>, Memory> {
+    let first = line(alloc, "ann", "r1", State::Appealed)?;
+    let second = line(alloc, "bob", "a-2", State::Queued)?;
+    let lines = vec![in alloc; first, second]?;
+    Ok(Shared::from_vec(alloc, lines)?)
 }
 
 #[test]
 fn a_reviewer_sees_whose_cases_are_listed(rt: HostRuntime) -> Result<(), Fail> {
     let alloc = rt.alloc();
-    let mut lines = Vec::new(alloc);
-    lines.push(line(alloc, "ann", "r1", State::Appealed)?)?;
-    lines.push(line(alloc, "bob", "a-2", State::Queued)?)?;
-    let lines = Reply::Lines(Shared::from_vec(alloc, lines)?);
     let own =
         "{\"cases\":[{\"reference\":\"r1\",\"state\":\"appealed\"},{\"reference\":\"a-2\",\"state\":\"queued\"}]}";
     let all =
         "{\"cases\":[{\"developer\":\"ann\",\"reference\":\"r1\",\"state\":\"appealed\"},{\"developer\":\"bob\",\"reference\":\"a-2\",\"state\":\"queued\"}]}";
-    expect_each(&rt, alloc, lines, 200, own, all)?;
+    let lines = Reply::Lines(two_lines(alloc)?);
+    assert_eq!(rt; told(alloc, lines, 200, own, all)?, AS_WANTED);
     Ok(())
 }
 
@@ -286,10 +317,10 @@ fn a_reviewer_sees_whose_cases_are_listed(rt: HostRuntime) -> Result<(), Fail> {
 fn a_byte_of_a_name_is_the_character_of_that_number(rt: HostRuntime) -> Result<(), Fail> {
     let alloc = rt.alloc();
     let developer = Name::from_bytes(alloc, b"\"\\\n\x1f\x7f\x80\xe9\xff")?;
-    let reply = Reply::Decided(developer, name(alloc, "r1")?, OutcomeWord::Clear);
+    let decided = Reply::Decided(developer, name(alloc, "r1")?, OutcomeWord::Clear);
     let body =
         "{\"developer\":\"\\\"\\\\\\n\\u001f\x7f\u{80}\u{e9}\u{ff}\",\"outcome\":\"clear\",\"reference\":\"r1\"}";
-    expect_both(&rt, alloc, reply, 200, body)?;
+    assert_eq!(rt; told(alloc, decided, 200, body, body)?, AS_WANTED);
     Ok(())
 }
 
@@ -348,7 +379,8 @@ static REFUSALS: [(Refusal, u16, &str); 15] = [
 fn each_refusal_has_its_status_and_text(rt: HostRuntime) -> Result<(), Fail> {
     let alloc = rt.alloc();
     for &(refusal, status, body) in REFUSALS.iter() {
-        expect_both(&rt, alloc, Reply::No(refusal), status, body)?;
+        let told = told(alloc, Reply::No(refusal), status, body, body)?;
+        assert_eq!(rt; told, AS_WANTED, "{body}");
     }
     Ok(())
 }
@@ -362,12 +394,24 @@ static FAULTS: [(HttpFault, u16, &str); 5] = [
     (HttpFault::Memory, 507, "{\"error\":\"no memory\"}"),
 ];
 
+/// Whether the answer to a fault has this status and body, where there is an answer.
+fn fault_told(
+    alloc: Global,
+    fault: HttpFault,
+    status: u16,
+    body: &str,
+) -> Result<Option<[bool; 2]>, Memory> {
+    match answer_to_fault(alloc, fault)? {
+        Some(answer) => Ok(Some(is_answer(&answer, status, body))),
+        None => Ok(None),
+    }
+}
+
 #[test]
 fn a_fault_of_a_head_is_told(rt: HostRuntime) -> Result<(), Fail> {
-    let alloc = rt.alloc();
     for &(fault, status, body) in FAULTS.iter() {
-        let answer = answer_to_fault(alloc, fault)?.ok_or("no answer")?;
-        expect(&rt, &answer, status, body);
+        let told = fault_told(rt.alloc(), fault, status, body)?;
+        assert_eq!(rt; told, Some([true; 2]), "{body}");
     }
     Ok(())
 }
@@ -375,22 +419,24 @@ fn a_fault_of_a_head_is_told(rt: HostRuntime) -> Result<(), Fail> {
 #[test]
 fn nothing_is_told_over_a_lost_connection(rt: HostRuntime) -> Result<(), Fail> {
     for fault in [HttpFault::Ended, HttpFault::ReadFault] {
-        assert!(rt; answer_to_fault(rt.alloc(), fault)?.is_none());
+        assert_eq!(rt; fault_told(rt.alloc(), fault, 0, "")?, None);
     }
     Ok(())
+}
+
+fn is_error(alloc: Global, status: u16, text: &[u8], body: &str) -> Result<[bool; 2], Memory> {
+    let answer = error_answer(alloc, status, text)?;
+    Ok(is_answer(&answer, status, body))
 }
 
 #[test]
 fn other_failures_are_told(rt: HostRuntime) -> Result<(), Fail> {
     let alloc = rt.alloc();
-    expect(&rt, &no_memory(alloc)?, 507, "{\"error\":\"no memory\"}");
-    expect(
-        &rt,
-        &store_failed(alloc)?,
-        503,
-        "{\"error\":\"store failed\"}",
-    );
-    let field = error_answer(alloc, 422, b"field dex".as_slice())?;
-    expect(&rt, &field, 422, "{\"error\":\"field dex\"}");
+    let memory = is_answer(&no_memory(alloc)?, 507, "{\"error\":\"no memory\"}");
+    assert_eq!(rt; memory, [true; 2]);
+    let store = is_answer(&store_failed(alloc)?, 503, "{\"error\":\"store failed\"}");
+    assert_eq!(rt; store, [true; 2]);
+    let field = is_error(alloc, 422, b"field dex", "{\"error\":\"field dex\"}")?;
+    assert_eq!(rt; field, [true; 2]);
     Ok(())
 }
