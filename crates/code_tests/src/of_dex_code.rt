@@ -1,8 +1,10 @@
-ghost use Rattle.std.specs.Prelude.{◌≡◌, ◌<◌, ◌^◌, [], length, IfOk};
+ghost use Rattle.std.specs.Prelude.{IfOk};
+ghost use Rattle.dex_code.specs.Find.{Ascend};
 
 use app_machine::Act;
 use dex_code::{
-    CodeFault, Counts, Insn, Named, Naming, act_for, catches_of_lines, decode, next_of_line,
+    CodeFault, Counts, Decoded, Insn, Named, Naming, act_for, catches_of_lines, decode,
+    next_of_line,
 };
 use dex_tables::{RawCode, RawTry};
 use std::alloc::{AllocError, Global};
@@ -16,202 +18,207 @@ const NONE: Counts = Counts {
     methods: 0,
 };
 
-/// The code of these units with two registers, no arguments and no tries.
-fn code_of(alloc: Global, units: &[u16]) -> Result<RawCode, AllocError>
-    ensures { IfOk result (λ c. (c.units ≡ units.now) × (c.tries ≡ [])) }
-{
+/// More units or tries than any test has.
+const TOO_MANY: usize = 1_000_000;
+
+/// The code of these units with two registers, no arguments and these tries.
+fn code_of(alloc: Global, units: &[u16], tries: Shared<RawTry>) -> Result<RawCode, AllocError> {
+    let units = units.to_vec(alloc)?;
     Ok(RawCode {
         registers: 2,
         ins: 0,
         outs: 0,
-        units: Seq::from_vec(units.to_vec(alloc)?),
-        tries: Shared::new(),
+        units: Seq::from_vec(units),
+        tries,
     })
 }
 
-/// The first fault of these units, for a file without ids.
-fn fault_of(alloc: Global, units: &[u16]) -> Result<Option<CodeFault>, AllocError>
-    requires { length units.now < 2 ^ 32 }
+/// Decodes for a file without ids. A `Cut` at the greatest pc stands for code that is too long.
+fn decode_code(alloc: Global, code: &RawCode) -> Result<Decoded, CodeFault>
+    ensures { IfOk result (λ d. Ascend d.lines) }
 {
-    let code = code_of(alloc, units)?;
-    Ok(decode(alloc, &code, &NONE).err())
+    if code.units.len() > TOO_MANY || code.tries.len() > TOO_MANY {
+        return Err(CodeFault::Cut(u32::MAX));
+    }
+    decode(alloc, code, &NONE)
+}
+
+/// What these units and tries decode to.
+fn decode_with(alloc: Global, units: &[u16], tries: Shared<RawTry>) -> Result<Decoded, CodeFault>
+    ensures { IfOk result (λ d. Ascend d.lines) }
+{
+    let Ok(code) = code_of(alloc, units, tries) else {
+        return Err(CodeFault::Memory);
+    };
+    decode_code(alloc, &code)
+}
+
+fn decode_units(alloc: Global, units: &[u16]) -> Result<Decoded, CodeFault>
+    ensures { IfOk result (λ d. Ascend d.lines) }
+{
+    decode_with(alloc, units, Shared::new())
+}
+
+/// The first fault of these units.
+fn fault_of(alloc: Global, units: &[u16]) -> Option<CodeFault> {
+    decode_units(alloc, units).err()
+}
+
+/// How many lines these units have.
+fn count_of(alloc: Global, units: &[u16]) -> Result<usize, CodeFault> {
+    let decoded = decode_units(alloc, units)?;
+    Ok(decoded.lines.len())
+}
+
+/// The opcode of a line, and whether it is a payload.
+type Look = (Option<u8>, bool);
+
+fn look(line: Option<&(u32, Insn)>) -> Option<Look> {
+    let (_, insn) = line?;
+    Some((insn.opcode(), insn.is_payload()))
+}
+
+/// How many lines these units have, and what the first three of them are.
+fn looks(alloc: Global, units: &[u16]) -> Result<(usize, [Option<Look>; 3]), CodeFault> {
+    let decoded = decode_units(alloc, units)?;
+    let lines = &decoded.lines;
+    let first = [look(lines.get(0)), look(lines.get(1)), look(lines.get(2))];
+    Ok((lines.len(), first))
+}
+
+/// Whether these lines come behind the line at the place.
+fn is_next(
+    alloc: Global,
+    lines: &[(u32, Insn)],
+    place: usize,
+    wanted: &[u32],
+) -> Result<bool, Memory>
+    requires { Ascend lines.now }
+{
+    if place >= lines.len() {
+        return Ok(false);
+    }
+    let next = next_of_line(alloc, lines, &lines[place], &lines[place + 1..])?;
+    Ok(next.as_slice() == wanted)
+}
+
+/// The first place behind which other lines come than are wanted.
+fn first_other(
+    alloc: Global,
+    lines: &[(u32, Insn)],
+    wanted: &[&[u32]],
+) -> Result<Option<usize>, Memory>
+    requires { Ascend lines.now }
+{
+    for place in 0..wanted.len() {
+        if !is_next(alloc, lines, place, wanted[place])? {
+            return Ok(Some(place));
+        }
+    }
+    Ok(None)
+}
+
+/// How many lines these units have, and behind which of them other lines come than are wanted.
+fn next_lines(
+    alloc: Global,
+    units: &[u16],
+    wanted: &[&[u32]],
+) -> Result<(usize, Option<usize>), CodeFault> {
+    let decoded = decode_units(alloc, units)?;
+    let lines = decoded.lines.as_slice();
+    match first_other(alloc, lines, wanted) {
+        Ok(other) => Ok((lines.len(), other)),
+        Err(_) => Err(CodeFault::Memory),
+    }
 }
 
 #[test]
 fn goto_32_to_itself_is_one_line(rt: HostRuntime) -> Result<(), Fail> {
-    let alloc = rt.alloc();
-    let code = code_of(alloc, &[0x002A, 0x0000, 0x0000])?;
-    let decoded = decode(alloc, &code, &NONE)?;
-    let lines = decoded.lines.as_slice();
-    assert!(rt; lines.len() == 1);
-    assert!(rt; lines[0].1.opcode() == Some(0x2A));
-    let next = next_of_line(alloc, lines, &lines[0], &lines[1..])?;
-    assert!(rt; next.as_slice() == [0].as_slice());
+    let units = [0x002A, 0x0000, 0x0000];
+    let line = Some((Some(0x2A), false));
+    assert_eq!(rt; looks(rt.alloc(), &units)?, (1, [line, None, None]));
+    assert_eq!(rt; next_lines(rt.alloc(), &units, &[&[0]])?, (1, None));
     Ok(())
 }
 
 #[test]
 fn a_nop_before_a_payload_is_padding(rt: HostRuntime) -> Result<(), Fail> {
     let units = [0x000E, 0x0000, 0x0300, 0x0001, 0x0000, 0x0000];
-    let code = code_of(rt.alloc(), &units)?;
-    let decoded = decode(rt.alloc(), &code, &NONE)?;
-    let lines = decoded.lines.as_slice();
-    assert!(rt; lines.len() == 3);
-    assert!(rt; lines[0].1.opcode() == Some(0x0E));
-    assert!(rt; lines[1].1.opcode() == Some(0x00));
-    assert!(rt; lines[2].1.is_payload());
-    Ok(())
-}
-
-#[test]
-fn first_faults(rt: HostRuntime) -> Result<(), Fail> {
-    let alloc = rt.alloc();
-    assert!(rt; fault_of(alloc, &[0x003E])? == Some(CodeFault::Opcode(0)));
-    assert!(rt; fault_of(alloc, &[0x0013])? == Some(CodeFault::Cut(0)));
-    assert!(rt; fault_of(alloc, &[0x0000])? == Some(CodeFault::FallsOff(0)));
-    assert!(rt; fault_of(alloc, &[])? == Some(CodeFault::FallsOff(0)));
-    let filled = [0x0300, 0x0001, 0x0000, 0x0000];
-    assert!(rt; fault_of(alloc, &filled)? == Some(CodeFault::FallsOff(0)));
-    Ok(())
-}
-
-/// `move-wide v0, v1` with two registers; `const/4 v0` and `goto` into its own payload; a `fill-array-data` of a table.
-#[test]
-fn faults_behind_the_first_line(rt: HostRuntime) -> Result<(), Fail> {
-    let alloc = rt.alloc();
-    let pair = [0x0012, 0x1004, 0x000E];
-    assert!(rt; fault_of(alloc, &pair)? == Some(CodeFault::Register(1)));
-    let into_payload = [0x0012, 0x0228, 0x0000, 0x0100, 0x0000, 0x0000, 0x0000];
-    assert!(rt; fault_of(alloc, &into_payload)? == Some(CodeFault::Target(1)));
-    let other_kind = [
-        0x0026, 0x0004, 0x0000, 0x000E, 0x0100, 0x0000, 0x0000, 0x0000,
+    let wanted = [
+        Some((Some(0x0E), false)),
+        Some((Some(0x00), false)),
+        Some((None, true)),
     ];
-    assert!(rt; fault_of(alloc, &other_kind)? == Some(CodeFault::Payload(0)));
-    let string = [0x001A, 0x0000, 0x000E];
-    assert!(rt; fault_of(alloc, &string)? == Some(CodeFault::Index(0)));
+    assert_eq!(rt; looks(rt.alloc(), &units)?, (3, wanted));
     Ok(())
 }
 
-/// Two `packed-switch` share a table whose one distance is right for the first alone.
+/// Units, and their fault at the first line.
+static FIRST_FAULTS: [(&[u16], CodeFault); 5] = [
+    (&[0x003E], CodeFault::Opcode(0)),
+    (&[0x0013], CodeFault::Cut(0)),
+    (&[0x0000], CodeFault::FallsOff(0)),
+    (&[], CodeFault::FallsOff(0)),
+    (&[0x0300, 0x0001, 0x0000, 0x0000], CodeFault::FallsOff(0)),
+];
+
+#[test]
+fn first_faults(rt: HostRuntime) {
+    for &(units, fault) in FIRST_FAULTS.iter() {
+        assert_eq!(rt; fault_of(rt.alloc(), units), Some(fault), "{units:?}");
+    }
+}
+
+/// `move-wide v0, v1` with two registers; `const/4 v0` and `goto` into its own payload; a `fill-array-data` of a table;
+/// a `const-string`.
+static LATER_FAULTS: [(&[u16], CodeFault); 4] = [
+    (&[0x0012, 0x1004, 0x000E], CodeFault::Register(1)),
+    (
+        &[0x0012, 0x0228, 0x0000, 0x0100, 0x0000, 0x0000, 0x0000],
+        CodeFault::Target(1),
+    ),
+    (
+        &[
+            0x0026, 0x0004, 0x0000, 0x000E, 0x0100, 0x0000, 0x0000, 0x0000,
+        ],
+        CodeFault::Payload(0),
+    ),
+    (&[0x001A, 0x0000, 0x000E], CodeFault::Index(0)),
+];
+
+#[test]
+fn faults_behind_the_first_line(rt: HostRuntime) {
+    for &(units, fault) in LATER_FAULTS.iter() {
+        assert_eq!(rt; fault_of(rt.alloc(), units), Some(fault), "{units:?}");
+    }
+}
+
+/// Two `packed-switch` that share a table of this one distance.
+fn switches(distance: u16) -> [u16; 14] {
+    [
+        0x002B, 0x0008, 0x0000, 0x002B, 0x0005, 0x0000, 0x000E, 0x0000, 0x0100, 0x0001, 0x0000,
+        0x0000, distance, 0x0000,
+    ]
+}
+
+/// The distance 4 is wrong for the first, and 7 is right for it alone.
 #[test]
 fn each_switch_counts_from_itself(rt: HostRuntime) -> Result<(), Fail> {
-    let units = [
-        0x002B, 0x0008, 0x0000, 0x002B, 0x0005, 0x0000, 0x000E, 0x0000, 0x0100, 0x0001, 0x0000,
-        0x0000, 0x0003, 0x0000,
+    let alloc = rt.alloc();
+    assert_eq!(rt; count_of(alloc, &switches(0x0003))?, 5);
+    let wrong = [
+        fault_of(alloc, &switches(0x0004)),
+        fault_of(alloc, &switches(0x0007)),
     ];
-    let code = code_of(rt.alloc(), &units)?;
-    let decoded = decode(rt.alloc(), &code, &NONE)?;
-    assert!(rt; decoded.lines.len() == 5);
-    let mut wrong = units;
-    wrong[12] = 0x0004;
-    assert!(rt; fault_of(rt.alloc(), &wrong)? == Some(CodeFault::Target(0)));
-    wrong[12] = 0x0007;
-    assert!(rt; fault_of(rt.alloc(), &wrong)? == Some(CodeFault::Target(3)));
+    assert_eq!(rt;
+        wrong,
+        [Some(CodeFault::Target(0)), Some(CodeFault::Target(3))]
+    );
     Ok(())
 }
 
-#[test]
-fn a_handler_starts_an_instruction(rt: HostRuntime) -> Result<(), Fail> {
-    let alloc = rt.alloc();
-    let code = RawCode {
-        registers: 2,
-        ins: 0,
-        outs: 0,
-        units: Seq::from_vec(vec![in alloc; 0x0013, 0x0001, 0x000E]?),
-        tries: Shared::from_vec(
-            alloc,
-            vec![in alloc;
-                RawTry {
-                    start: 0,
-                    count: 3,
-                    handlers: Shared::from_vec(alloc, vec![in alloc; (0, 2)]?)?,
-                    catch_all: Some(1),
-                },
-            ]?,
-        )?,
-    };
-    assert!(rt; decode(alloc, &code, &NONE).err() == Some(CodeFault::Tries(0)));
-    Ok(())
-}
-
-/// 60,000 units of `goto`, each to the next and the last one back.
-#[test]
-fn many_branches_are_quick(rt: HostRuntime) -> Result<(), Fail> {
-    let alloc = rt.alloc();
-    let mut units = Vec::new(alloc);
-    for _ in 0..59_999 {
-        units.push(0x0128)?;
-    }
-    units.push(0xFF28)?;
-    let code = code_of(alloc, &units)?;
-    assert!(rt; code.units.len() == 60_000);
-    let decoded = decode(alloc, &code, &NONE)?;
-    assert!(rt; decoded.lines.len() == 60_000);
-    Ok(())
-}
-
-/// Two `packed-switch` that share a table, a `return-void`, padding and the table.
-#[test]
-fn next_lines_of_switches(rt: HostRuntime) -> Result<(), Fail> {
-    let alloc = rt.alloc();
-    let units = [
-        0x002B, 0x0008, 0x0000, 0x002B, 0x0005, 0x0000, 0x000E, 0x0000, 0x0100, 0x0002, 0x0000,
-        0x0000, 0x0003, 0x0000, 0x0003, 0x0000,
-    ];
-    let code = code_of(alloc, &units)?;
-    let decoded = decode(alloc, &code, &NONE)?;
-    let lines = decoded.lines.as_slice();
-    assert!(rt; lines.len() == 5);
-    let first = next_of_line(alloc, lines, &lines[0], &lines[1..])?;
-    assert!(rt; first.as_slice() == [3].as_slice());
-    let second = next_of_line(alloc, lines, &lines[1], &lines[2..])?;
-    assert!(rt; second.as_slice() == [6].as_slice());
-    let returned = next_of_line(alloc, lines, &lines[2], &lines[3..])?;
-    assert!(rt; returned.is_empty());
-    let padding = next_of_line(alloc, lines, &lines[3], &lines[4..])?;
-    assert!(rt; padding.is_empty());
-    Ok(())
-}
-
-/// The units of so many `packed-switch` that share one table of so many entries, a `return-void` behind them and the
-/// table. Each entry goes to the instruction behind the switch.
-fn sharing_switches(alloc: Global, switches: u32, entries: u16) -> Result<Vec<u16>, AllocError>
-    requires { switches < 2 ^ 16 }
-{
-    let end = 3 * switches + 1;
-    let mut units = Vec::new(alloc);
-    for i in 0..switches {
-        let distance = end - 3 * i;
-        units.push(0x002B)?;
-        units.push((distance % 65_536) as u16)?;
-        units.push((distance / 65_536) as u16)?;
-    }
-    units.extend_from_slice(&[0x000E, 0x0100, entries, 0x0000, 0x0000])?;
-    for _ in 0..entries {
-        units.extend_from_slice(&[0x0003, 0x0000])?;
-    }
-    Ok(units)
-}
-
-/// Any table serves eight switches. A ninth is too much for a table of 200 entries, and 45,000 would list 1,440,000,000
-/// targets.
-#[test]
-fn switches_that_share_a_table(rt: HostRuntime) -> Result<(), Fail> {
-    let alloc = rt.alloc();
-    let eight = sharing_switches(alloc, 8, 32_000)?;
-    assert!(rt; eight.len() == 64_029);
-    assert!(rt; fault_of(alloc, &eight)? == None);
-    let nine_short = sharing_switches(alloc, 9, 60)?;
-    assert!(rt; nine_short.len() == 152);
-    assert!(rt; fault_of(alloc, &nine_short)? == None);
-    let nine = sharing_switches(alloc, 9, 200)?;
-    assert!(rt; nine.len() == 432);
-    assert!(rt; fault_of(alloc, &nine)? == Some(CodeFault::Memory));
-    let many = sharing_switches(alloc, 45_000, 32_000)?;
-    assert!(rt; many.len() == 199_005);
-    assert!(rt; fault_of(alloc, &many)? == Some(CodeFault::Memory));
-    Ok(())
-}
+/// From which unit on a try covers how many, at which addresses it has handlers, and where it has one for all types.
+type Covering = (u32, u16, &'static [u32], Option<u32>);
 
 /// A try over `count` units from `start` on.
 fn try_of(
@@ -233,57 +240,171 @@ fn try_of(
     })
 }
 
-/// The code of so many `nop`, a line each, and a `return-void`.
-fn nops(alloc: Global, count: usize) -> Result<RawCode, AllocError>
-    ensures { IfOk result (λ c. c.tries ≡ []) }
-{
+/// One try from the first unit on.
+fn one_try(
+    alloc: Global,
+    count: u16,
+    addresses: &[u32],
+    catch_all: Option<u32>,
+) -> Result<Shared<RawTry>, Memory> {
+    let item = try_of(alloc, 0, count, addresses, catch_all)?;
+    let tries = vec![in alloc; item]?;
+    Ok(Shared::from_vec(alloc, tries)?)
+}
+
+/// The first fault of these units with one try over all of them and the handlers 2, for one type, and 1.
+fn fault_of_handlers(alloc: Global, units: &[u16]) -> Result<Option<CodeFault>, Memory> {
+    let tries = one_try(alloc, 3, &[2], Some(1))?;
+    Ok(decode_with(alloc, units, tries).err())
+}
+
+#[test]
+fn a_handler_starts_an_instruction(rt: HostRuntime) -> Result<(), Fail> {
+    let units = [0x0013, 0x0001, 0x000E];
+    let fault = fault_of_handlers(rt.alloc(), &units)?;
+    assert_eq!(rt; fault, Some(CodeFault::Tries(0)));
+    Ok(())
+}
+
+/// So many units of `goto`, each to the next, and one back.
+fn branches(alloc: Global, count: usize) -> Result<Vec<u16>, AllocError> {
+    let mut units = Vec::new(alloc);
+    for _ in 0..count {
+        units.push(0x0128)?;
+    }
+    units.push(0xFF28)?;
+    Ok(units)
+}
+
+/// How many units such code has, and how many lines.
+fn size_of_branches(alloc: Global, count: usize) -> Result<(usize, usize), CodeFault> {
+    let Ok(units) = branches(alloc, count) else {
+        return Err(CodeFault::Memory);
+    };
+    Ok((units.len(), count_of(alloc, &units)?))
+}
+
+/// 60,000 units of `goto`, each to the next and the last one back.
+#[test]
+fn many_branches_are_quick(rt: HostRuntime) -> Result<(), Fail> {
+    let size = size_of_branches(rt.alloc(), 59_999)?;
+    assert_eq!(rt; size, (60_000, 60_000));
+    Ok(())
+}
+
+/// Two `packed-switch` that share a table, a `return-void`, padding and the table.
+static SHARED_TABLE: [u16; 16] = [
+    0x002B, 0x0008, 0x0000, 0x002B, 0x0005, 0x0000, 0x000E, 0x0000, 0x0100, 0x0002, 0x0000, 0x0000,
+    0x0003, 0x0000, 0x0003, 0x0000,
+];
+
+#[test]
+fn next_lines_of_switches(rt: HostRuntime) -> Result<(), Fail> {
+    let next = next_lines(rt.alloc(), &SHARED_TABLE, &[&[3], &[6], &[], &[]])?;
+    assert_eq!(rt; next, (5, None));
+    Ok(())
+}
+
+/// The units of so many `packed-switch` that share one table of so many entries, a `return-void` behind them and the
+/// table. Each entry goes to the instruction behind the switch.
+fn sharing_switches(alloc: Global, switches: u16, entries: u16) -> Result<Vec<u16>, AllocError> {
+    let switches = u32::from(switches);
+    let end = 3 * switches + 1;
+    let mut units = Vec::new(alloc);
+    for i in 0..switches {
+        let distance = end - 3 * i;
+        units.push(0x002B)?;
+        units.push((distance % 65_536) as u16)?;
+        units.push((distance / 65_536) as u16)?;
+    }
+    units.extend_from_slice(&[0x000E, 0x0100, entries, 0x0000, 0x0000])?;
+    for _ in 0..entries {
+        units.extend_from_slice(&[0x0003, 0x0000])?;
+    }
+    Ok(units)
+}
+
+/// How many units such code has, and its first fault.
+fn fault_of_sharing(
+    alloc: Global,
+    switches: u16,
+    entries: u16,
+) -> Result<(usize, Option<CodeFault>), AllocError> {
+    let units = sharing_switches(alloc, switches, entries)?;
+    Ok((units.len(), fault_of(alloc, &units)))
+}
+
+/// How many switches share a table of how many entries, and how many units and what fault these have. Any table serves
+/// eight switches. A ninth is too much for a table of 200 entries, and 45,000 would list 1,440,000,000 targets.
+static SHARING: [(u16, u16, (usize, Option<CodeFault>)); 4] = [
+    (8, 32_000, (64_029, None)),
+    (9, 60, (152, None)),
+    (9, 200, (432, Some(CodeFault::Memory))),
+    (45_000, 32_000, (199_005, Some(CodeFault::Memory))),
+];
+
+#[test]
+fn switches_that_share_a_table(rt: HostRuntime) -> Result<(), Fail> {
+    for &(switches, entries, wanted) in SHARING.iter() {
+        let found = fault_of_sharing(rt.alloc(), switches, entries)?;
+        assert_eq!(rt; found, wanted, "{switches} switches");
+    }
+    Ok(())
+}
+
+/// The units of so many `nop`, a line each, and a `return-void`.
+fn nops(alloc: Global, count: usize) -> Result<Vec<u16>, AllocError> {
     let mut units = Vec::new(alloc);
     for _ in 0..count {
         units.push(0x0000)?;
     }
     units.push(0x000E)?;
-    code_of(alloc, &units)
+    Ok(units)
 }
 
-/// The code of so many lines of a unit each, and a try over the first of them with so many handlers and maybe one for
-/// all types.
-fn with_try(
-    alloc: Global,
-    lines: usize,
-    covered: u16,
-    handlers: u32,
-    catch_all: Option<u32>,
-) -> Result<RawCode, Memory>
-    requires { 0 < lines }
-    ensures { IfOk result (λ c. length c.tries ≡ 1) }
-{
+/// The numbers below the count.
+fn addresses(alloc: Global, count: u32) -> Result<Vec<u32>, AllocError> {
     let mut addresses = Vec::new(alloc);
-    for address in 0..handlers {
+    for address in 0..count {
         addresses.push(address)?;
     }
-    let mut code = nops(alloc, lines - 1)?;
-    let item = try_of(alloc, 0, covered, &addresses, catch_all)?;
-    code.tries = Shared::from_vec(alloc, vec![in alloc; item]?)?;
-    Ok(code)
+    Ok(addresses)
 }
 
-/// 16 handlers over all lines are as many as are allowed; a few lines may have more. 32,500 over 32,500 lines would
-/// list 1,056,250,000.
+/// How many lines of a unit each there are, how many of them a try covers, how many handlers it has, and where it has
+/// one for all types.
+type Handling = (usize, u16, u32, Option<u32>);
+
+/// How many units such code has, and its first fault.
+fn fault_of_try(alloc: Global, handling: Handling) -> Result<(usize, Option<CodeFault>), Memory> {
+    let (lines, covered, handlers, catch_all) = handling;
+    let units = nops(alloc, lines.saturating_sub(1))?;
+    let addresses = addresses(alloc, handlers)?;
+    let tries = one_try(alloc, covered, &addresses, catch_all)?;
+    Ok((units.len(), decode_with(alloc, &units, tries).err()))
+}
+
+/// Lines and handlers, and how many units and what fault these have. 16 handlers over all lines are as many as are
+/// allowed; a few lines may have more. 32,500 over 32,500 lines would list 1,056,250,000.
+static HANDLING: [(Handling, (usize, Option<CodeFault>)); 4] = [
+    ((1_000, 1_000, 16, None), (1_000, None)),
+    (
+        (1_000, 1_000, 16, Some(16)),
+        (1_000, Some(CodeFault::Memory)),
+    ),
+    ((40, 1, 30, None), (40, None)),
+    (
+        (65_000, 32_500, 32_500, None),
+        (65_000, Some(CodeFault::Memory)),
+    ),
+];
+
 #[test]
 fn handlers_of_all_lines(rt: HostRuntime) -> Result<(), Fail> {
-    let alloc = rt.alloc();
-    let most = with_try(alloc, 1_000, 1_000, 16, None)?;
-    assert!(rt; most.units.len() == 1_000);
-    assert!(rt; decode(alloc, &most, &NONE).err() == None);
-    let more = with_try(alloc, 1_000, 1_000, 16, Some(16))?;
-    assert!(rt; more.units.len() == 1_000);
-    assert!(rt; decode(alloc, &more, &NONE).err() == Some(CodeFault::Memory));
-    let one_line = with_try(alloc, 40, 1, 30, None)?;
-    assert!(rt; one_line.units.len() == 40);
-    assert!(rt; decode(alloc, &one_line, &NONE).err() == None);
-    let many = with_try(alloc, 65_000, 32_500, 32_500, None)?;
-    assert!(rt; many.units.len() == 65_000);
-    assert!(rt; decode(alloc, &many, &NONE).err() == Some(CodeFault::Memory));
+    for &(handling, wanted) in HANDLING.iter() {
+        let found = fault_of_try(rt.alloc(), handling)?;
+        assert_eq!(rt; found, wanted, "{handling:?}");
+    }
     Ok(())
 }
 
@@ -295,37 +416,60 @@ fn are_catches(found: &[Shared<u32>], expected: &[&[u32]]) -> bool {
             .all(|(catches, addresses)| catches.as_slice() == *addresses)
 }
 
+fn tries_of(alloc: Global, coverings: &[Covering]) -> Result<Vec<RawTry>, Memory> {
+    let mut tries = Vec::new(alloc);
+    for &(start, count, addresses, catch_all) in coverings {
+        tries.push(try_of(alloc, start, count, addresses, catch_all)?)?;
+    }
+    Ok(tries)
+}
+
+/// The handlers of each line of so many `nop` and a `return-void` under these tries.
+fn catches(alloc: Global, tries: &[RawTry], count: usize) -> Result<Vec<Shared<u32>>, CodeFault> {
+    let Ok(units) = nops(alloc, count) else {
+        return Err(CodeFault::Memory);
+    };
+    let decoded = decode_units(alloc, &units)?;
+    match catches_of_lines(alloc, tries, decoded.lines.as_slice()) {
+        Ok(found) => Ok(found),
+        Err(_) => Err(CodeFault::Memory),
+    }
+}
+
+/// Whether the lines of so many `nop` and a `return-void` have these handlers under these tries.
+fn has_catches(
+    alloc: Global,
+    coverings: &[Covering],
+    count: usize,
+    expected: &[&[u32]],
+) -> Result<bool, CodeFault> {
+    let Ok(tries) = tries_of(alloc, coverings) else {
+        return Err(CodeFault::Memory);
+    };
+    let found = catches(alloc, &tries, count)?;
+    Ok(are_catches(&found, expected))
+}
+
 #[test]
 fn handlers_of_two_tries(rt: HostRuntime) -> Result<(), Fail> {
-    let alloc = rt.alloc();
-    let tries = [
-        try_of(alloc, 0, 4, &[9, 7], Some(8))?,
-        try_of(alloc, 2, 3, &[7], None)?,
-    ];
-    let code = nops(alloc, 5)?;
-    assert!(rt; code.units.len() == 6);
-    let decoded = decode(alloc, &code, &NONE)?;
-    let found = catches_of_lines(alloc, &tries, decoded.lines.as_slice())?;
+    let tries: [Covering; 2] = [(0, 4, &[9, 7], Some(8)), (2, 3, &[7], None)];
     let both: &[u32] = &[7, 8, 9];
-    assert!(rt; are_catches(&found, &[both, both, both, both, &[7], &[]]));
+    let expected = [both, both, both, both, &[7], &[]];
+    assert!(rt; has_catches(rt.alloc(), &tries, 5, &expected)?);
     Ok(())
 }
 
-/// The first try covers 0 to 5, the second 2 and 3, the third 3 to 7, the fourth nothing and the fifth 7 and 8.
+/// The first covers 0 to 5, the second 2 and 3, the third 3 to 7, the fourth nothing and the fifth 7 and 8.
+static OVERLAPPING: [Covering; 5] = [
+    (0, 6, &[20], Some(10)),
+    (2, 2, &[30], None),
+    (3, 5, &[10, 40], None),
+    (5, 0, &[50], None),
+    (7, 2, &[], Some(20)),
+];
+
 #[test]
 fn handlers_of_overlapping_tries(rt: HostRuntime) -> Result<(), Fail> {
-    let alloc = rt.alloc();
-    let tries = [
-        try_of(alloc, 0, 6, &[20], Some(10))?,
-        try_of(alloc, 2, 2, &[30], None)?,
-        try_of(alloc, 3, 5, &[10, 40], None)?,
-        try_of(alloc, 5, 0, &[50], None)?,
-        try_of(alloc, 7, 2, &[], Some(20))?,
-    ];
-    let code = nops(alloc, 9)?;
-    assert!(rt; code.units.len() == 10);
-    let decoded = decode(alloc, &code, &NONE)?;
-    let found = catches_of_lines(alloc, &tries, decoded.lines.as_slice())?;
     let first: &[u32] = &[10, 20];
     let expected = [
         first,
@@ -339,28 +483,35 @@ fn handlers_of_overlapping_tries(rt: HostRuntime) -> Result<(), Fail> {
         &[20],
         &[],
     ];
-    assert!(rt; are_catches(&found, &expected));
+    assert!(rt; has_catches(rt.alloc(), &OVERLAPPING, 9, &expected)?);
     Ok(())
+}
+
+/// As many tries as two bytes count, each from its own line on.
+fn many_tries(alloc: Global) -> Result<Vec<RawTry>, Memory> {
+    let mut tries = Vec::new(alloc);
+    for start in 0..65_535u32 {
+        tries.push(try_of(alloc, start, 65_535, &[3], None)?)?;
+    }
+    Ok(tries)
+}
+
+/// For how many lines handlers are found under so many tries, and whether each has the one at 3.
+fn many_catches(alloc: Global) -> Result<(usize, bool), CodeFault> {
+    let Ok(tries) = many_tries(alloc) else {
+        return Err(CodeFault::Memory);
+    };
+    let found = catches(alloc, &tries, 65_534)?;
+    let is_alike = found
+        .iter()
+        .all(|catches| catches.as_slice() == [3].as_slice());
+    Ok((found.len(), is_alike))
 }
 
 /// 65,535 tries over 65,535 lines, of which each covers all lines from its own on.
 #[test]
 fn many_tries_are_quick(rt: HostRuntime) -> Result<(), Fail> {
-    let alloc = rt.alloc();
-    let mut tries = Vec::new(alloc);
-    for start in 0..65_535u32 {
-        tries.push(try_of(alloc, start, 65_535, &[3], None)?)?;
-    }
-    let code = nops(alloc, 65_534)?;
-    assert!(rt; code.units.len() == 65_535);
-    let decoded = decode(alloc, &code, &NONE)?;
-    let found = catches_of_lines(alloc, &tries, decoded.lines.as_slice())?;
-    assert!(rt; found.len() == 65_535);
-    assert!(rt;
-        found
-            .iter()
-            .all(|catches| catches.as_slice() == [3].as_slice())
-    );
+    assert_eq!(rt; many_catches(rt.alloc())?, (65_535, true));
     Ok(())
 }
 
@@ -380,18 +531,29 @@ fn is_element_put(act: &Act, array: u32, source: u32) -> bool {
     }
 }
 
-/// `add-long/2addr v0, v2` reads both, and writes a pair; `aput v1, v2, v3` puts v1 into v2.
+/// What `add-long/2addr v0, v2` needs the name of, and whether it reads both and writes a pair.
+fn sum_of_pairs(alloc: Global) -> Result<(Naming, bool), Memory> {
+    let add = Insn::F12x(0xBB, 0, 2);
+    let sum = act_for(alloc, &add, Named::Nothing)?;
+    Ok((add.naming(), is_join(&sum, &[0, 1], &[0, 2])))
+}
+
+/// What `aput v1, v2, v3` needs the name of, and whether it puts v1 into v2.
+fn put_of_element(alloc: Global) -> Result<(Naming, bool), Memory> {
+    let put = Insn::F23x(0x4B, 1, 2, 3);
+    let stored = act_for(alloc, &put, Named::Nothing)?;
+    Ok((put.naming(), is_element_put(&stored, 2, 1)))
+}
+
+fn naming_of_call(alloc: Global) -> Naming {
+    Insn::F35c(0x6E, 7, Seq::new(alloc)).naming()
+}
+
 #[test]
 fn acts_without_names(rt: HostRuntime) -> Result<(), Fail> {
     let alloc = rt.alloc();
-    let add = Insn::F12x(0xBB, 0, 2);
-    assert!(rt; add.naming() == Naming::Nothing);
-    let sum = act_for(alloc, &add, Named::Nothing)?;
-    assert!(rt; is_join(&sum, &[0, 1], &[0, 2]));
-    let put = Insn::F23x(0x4B, 1, 2, 3);
-    assert!(rt; put.naming() == Naming::Nothing);
-    let stored = act_for(alloc, &put, Named::Nothing)?;
-    assert!(rt; is_element_put(&stored, 2, 1));
-    assert!(rt; Insn::F35c(0x6E, 7, Seq::new(alloc)).naming() == Naming::Method(7));
+    assert_eq!(rt; sum_of_pairs(alloc)?, (Naming::Nothing, true));
+    assert_eq!(rt; put_of_element(alloc)?, (Naming::Nothing, true));
+    assert_eq!(rt; naming_of_call(alloc), Naming::Method(7));
     Ok(())
 }
