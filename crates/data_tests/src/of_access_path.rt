@@ -1,5 +1,4 @@
 use access_path::{Path, covers, cut, rest};
-use std::test::Fail;
 use vet_base::KeyId;
 
 /// The keys 1, 2 .. in front of one another, the last one first.
@@ -23,69 +22,88 @@ const SEVEN: [KeyId; 7] = [
     KeyId(6),
 ];
 
+/// Whether a path covers the first four, the first five and all six of the keys, and the seven.
+fn covered(path: &Path) -> [bool; 4] {
+    [
+        covers(path, &SIX[..4]),
+        covers(path, &SIX[..5]),
+        covers(path, &SIX),
+        covers(path, &SEVEN),
+    ]
+}
+
 #[test]
-fn five_keys_are_told_to_the_last(rt: HostRuntime) -> Result<(), Fail> {
+fn five_keys_are_told_to_the_last(rt: HostRuntime) {
     let path = rising(5);
     assert_eq!(rt; Path::from_keys(false, &SIX[..5]), Some(path));
-    assert!(rt; !path.is_open());
-    assert!(rt; covers(&path, &SIX[..5]));
-    assert!(rt; !covers(&path, &SIX[..4]));
-    assert!(rt; !covers(&path, &SIX));
-    Ok(())
+    let looks = (path.is_open(), covered(&path));
+    assert_eq!(rt; looks, (false, [false, true, false, false]));
 }
 
 #[test]
-fn of_six_keys_the_last_is_left_open(rt: HostRuntime) -> Result<(), Fail> {
+fn of_six_keys_the_last_is_left_open(rt: HostRuntime) {
     let path = rising(6);
-    assert_eq!(rt; Path::from_keys(true, &SIX[..5]), Some(path));
-    assert_eq!(rt; Path::from_keys(false, &SIX), None);
-    assert!(rt; path.is_open());
-    assert!(rt; covers(&path, &SIX));
-    assert!(rt; covers(&path, &SEVEN));
-    assert!(rt; covers(&path, &SIX[..5]));
-    assert!(rt; !covers(&path, &SIX[..4]));
-    Ok(())
+    let by_keys = [
+        Path::from_keys(true, &SIX[..5]),
+        Path::from_keys(false, &SIX),
+    ];
+    assert_eq!(rt; by_keys, [Some(path), None]);
+    let looks = (path.is_open(), covered(&path));
+    assert_eq!(rt; looks, (true, [false, true, true, true]));
 }
 
-#[test]
-fn behind_six_keys_the_path_stays_open(rt: HostRuntime) -> Result<(), Fail> {
-    let Some(path) = rest(&rising(6), KeyId(1)) else {
-        return Err(Fail::from("the path begins with the key"));
-    };
-    assert_eq!(rt; Path::from_keys(true, &SIX[1..5]), Some(path));
-    assert!(rt; covers(&path, &SIX[1..]));
-    assert_eq!(rt; rest(&path, KeyId(1)), None);
-    Ok(())
-}
-
-#[test]
-fn what_lies_behind_an_open_path_without_keys_is_open(rt: HostRuntime) -> Result<(), Fail> {
-    let Some(path) = Path::from_keys(true, &[]) else {
-        return Err(Fail::from("no keys are not too many"));
-    };
-    assert_eq!(rt; rest(&path, KeyId(3)), Some(path));
-    assert_eq!(rt; rest(&Path::empty(), KeyId(3)), None);
-    assert!(rt; path.is_empty());
-    Ok(())
-}
-
-#[test]
-fn keys_come_from_the_first_on(rt: HostRuntime) -> Result<(), Fail> {
-    let path = rising(5);
-    let mut next = 1;
-    for key in path.keys() {
-        assert_eq!(rt; key, KeyId(next));
-        next = u32::wrapping_add(next, 1);
+/// What lies behind the first key of six, whether that covers the five others, and what lies behind the first key in it.
+fn behind_six() -> (Option<Path>, bool, Option<Path>) {
+    match rest(&rising(6), KeyId(1)) {
+        Some(path) => (Some(path), covers(&path, &SIX[1..]), rest(&path, KeyId(1))),
+        None => (None, false, None),
     }
-    assert_eq!(rt; next, 6);
-    assert_eq!(rt; path.len(), 5);
-    Ok(())
 }
 
 #[test]
-fn the_number_of_keys_decides_before_the_keys_do(rt: HostRuntime) -> Result<(), Fail> {
-    assert!(rt; cut(KeyId(9), &Path::empty()) < rising(2));
-    assert!(rt; rising(5) < cut(KeyId(2), &rising(4)));
-    assert!(rt; rising(5) < rising(6));
-    Ok(())
+fn behind_six_keys_the_path_stays_open(rt: HostRuntime) {
+    let path = Path::from_keys(true, &SIX[1..5]);
+    assert!(rt; path.is_some());
+    assert_eq!(rt; behind_six(), (path, true, None));
+}
+
+/// Whether an open path without keys is empty, and whether what lies behind a key in it is that path again.
+fn is_left_open() -> Option<(bool, bool)> {
+    let path = Path::from_keys(true, &[])?;
+    Some((path.is_empty(), rest(&path, KeyId(3)) == Some(path)))
+}
+
+#[test]
+fn what_lies_behind_an_open_path_without_keys_is_open(rt: HostRuntime) {
+    assert_eq!(rt; is_left_open(), Some((true, true)));
+    assert_eq!(rt; rest(&Path::empty(), KeyId(3)), None);
+}
+
+/// How many keys a path has, where they are 1, 2 and so on.
+fn rising_count(path: &Path) -> Option<u32> {
+    let mut count: u32 = 0;
+    for key in path.keys() {
+        count = count.wrapping_add(1);
+        if key != KeyId(count) {
+            return None;
+        }
+    }
+    Some(count)
+}
+
+#[test]
+fn keys_come_from_the_first_on(rt: HostRuntime) {
+    let path = rising(5);
+    assert_eq!(rt; (rising_count(&path), path.len()), (Some(5), 5));
+}
+
+#[test]
+fn the_number_of_keys_decides_before_the_keys_do(rt: HostRuntime) {
+    let five = rising(5);
+    let below = [
+        cut(KeyId(9), &Path::empty()) < rising(2),
+        five < cut(KeyId(2), &rising(4)),
+        five < rising(6),
+    ];
+    assert_eq!(rt; below, [true; 3]);
 }
