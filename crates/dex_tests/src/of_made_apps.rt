@@ -1,63 +1,101 @@
 use dex_reader::read_dex;
-use dex_tables::Dex;
+use dex_tables::{ClassDef, Dex};
 use made_apps::{Draws, made_dex};
 use std::alloc::Global;
 use std::test::Fail;
 
-fn read(alloc: Global, seed: u32, size: u32) -> Result<Dex, Fail> {
+/// Why there is no such app, or no such part of it.
+type Lack = &'static str;
+
+fn made(alloc: Global, seed: u32, size: u32) -> Result<Vec<u8>, Lack> {
     if seed >= 2147483648 || size < 1 || size > 2000 {
-        return Err(Fail::from("a seed and a size within the limits"));
+        return Err("the seed and the size are not within the limits");
     }
-    let bytes = made_dex(alloc, seed, size).ok().ok_or("memory")?;
-    Ok(
-        read_dex(alloc, &bytes)
-            .ok()
-            .ok_or("the bytes are a DEX file")?,
-    )
+    made_dex(alloc, seed, size).ok().ok_or("no memory")
+}
+
+fn read(alloc: Global, seed: u32, size: u32) -> Result<Dex, Lack> {
+    let bytes = made(alloc, seed, size)?;
+    read_dex(alloc, &bytes)
+        .ok()
+        .ok_or("the bytes are no DEX file")
+}
+
+/// The first five draws below 32,768.
+fn five_draws(seed: u16) -> [u32; 5] {
+    let mut draws = Draws::from_seed(u32::from(seed));
+    let first = draws.draw(32768);
+    let second = draws.draw(32768);
+    let third = draws.draw(32768);
+    let fourth = draws.draw(32768);
+    let fifth = draws.draw(32768);
+    [first, second, third, fourth, fifth]
 }
 
 /// The sample generator of the C standard, whose numbers are below 32,768, gives these after `srand(1)`.
 #[test]
-fn draws_are_those_of_the_sample_generator(rt: HostRuntime) -> Result<(), Fail> {
-    let mut draws = Draws::from_seed(1);
-    for wanted in [16838, 5758, 10113, 17515, 31051] {
-        assert_eq!(rt; draws.draw(32768), wanted);
+fn draws_are_those_of_the_sample_generator(rt: HostRuntime) {
+    assert_eq!(rt; five_draws(1), [16838, 5758, 10113, 17515, 31051]);
+}
+
+/// How many static fields, direct methods and virtual methods a class has.
+fn sizes(class: &ClassDef) -> [usize; 3] {
+    [
+        class.statics.len(),
+        class.directs.len(),
+        class.virtuals.len(),
+    ]
+}
+
+/// How many classes an app has, and the sizes of the first and the last.
+fn look_of_app(
+    alloc: Global,
+    seed: u32,
+    size: u32,
+) -> Result<(usize, [usize; 3], [usize; 3]), Lack> {
+    let dex = read(alloc, seed, size)?;
+    let classes = dex.classes.as_slice();
+    match (classes.first(), classes.last()) {
+        (Some(main), Some(work)) => Ok((classes.len(), sizes(main), sizes(work))),
+        _ => Err("no class"),
     }
-    Ok(())
 }
 
 #[test]
 fn an_app_of_fifty_methods_is_read(rt: HostRuntime) -> Result<(), Fail> {
-    let dex = read(rt.alloc(), 7, 50)?;
-    assert_eq!(rt; dex.classes.len(), 2);
-    let classes = dex.classes.as_slice();
-    let main = classes.first().ok_or("the activity")?;
-    assert_eq!(rt; main.directs.len(), 0);
-    assert_eq!(rt; main.virtuals.len(), 1);
-    let work = classes.last().ok_or("the other class")?;
-    assert_eq!(rt; work.statics.len(), 1);
-    assert_eq!(rt; work.directs.len(), 50);
-    assert_eq!(rt; work.virtuals.len(), 0);
+    let look = look_of_app(rt.alloc(), 7, 50)?;
+    assert_eq!(rt; look, (2, [0, 0, 1], [1, 50, 0]));
     Ok(())
+}
+
+/// Whether the type of this number is called so.
+fn is_type(dex: &Dex, kind: u16, name: &[u8]) -> Option<bool> {
+    let text = dex.types.get(usize::from(kind))?;
+    Some(dex.strings.get(*text as usize)?.as_bytes() == name)
+}
+
+/// The registers and the arguments of the first direct method of the last class, whether its units are those of a
+/// method that takes its argument through an array, and whether that is an array of objects.
+fn look_of_method(dex: &Dex) -> Option<(u16, u16, bool, bool)> {
+    let class = dex.classes.as_slice().last()?;
+    let code = class.directs.get(0)?.code.as_ref()?;
+    let array = *code.units.get(2)?;
+    let wanted = [
+        0x1012, 0x0123, array, 0x0012, 0x024D, 0x0001, 0x0046, 0x0001, 0x0011,
+    ];
+    let is_through_array = code.units.as_slice() == wanted.as_slice();
+    let is_of_objects = is_type(dex, array, b"[Ljava/lang/Object;")?;
+    Some((code.registers, code.ins, is_through_array, is_of_objects))
+}
+
+fn look_of_one(alloc: Global) -> Result<(u16, u16, bool, bool), Lack> {
+    let dex = read(alloc, 1, 1)?;
+    look_of_method(&dex).ok_or("no such method")
 }
 
 /// The first draw of the seed 1 is 2, so that the one method takes its argument through an array.
 #[test]
 fn one_method_takes_its_argument_through_an_array(rt: HostRuntime) -> Result<(), Fail> {
-    let dex = read(rt.alloc(), 1, 1)?;
-    let work = dex.classes.as_slice().last().ok_or("a class")?;
-    let method = work.directs.as_slice().first().ok_or("a method")?;
-    let code = method.code.as_ref().ok_or("the method has code")?;
-    assert_eq!(rt; code.registers, 3);
-    assert_eq!(rt; code.ins, 1);
-    let units = code.units.as_slice();
-    let array = *units.get(2).ok_or("a unit")?;
-    let wanted = [
-        0x1012, 0x0123, array, 0x0012, 0x024D, 0x0001, 0x0046, 0x0001, 0x0011,
-    ];
-    assert_eq!(rt; units, wanted.as_slice());
-    let kind = dex.types.as_slice().get(array as usize).ok_or("a type")?;
-    let name = dex.strings.as_slice().get(*kind as usize).ok_or("a name")?;
-    assert_eq!(rt; name.as_bytes(), b"[Ljava/lang/Object;".as_slice());
+    assert_eq!(rt; look_of_one(rt.alloc())?, (3, 1, true, true));
     Ok(())
 }
