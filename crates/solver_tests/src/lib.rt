@@ -1,8 +1,7 @@
-//! Tests of the solver, the checker and the workers by a rule set of one rule.
+//! Tests of the solver and the checker by a rule set of one rule. They stand apart from the crates that they test, which
+//! would be proved once more with them.
 #![tactic(auto)]
 
-#[cfg(test)]
-mod climb;
 #[cfg(test)]
 mod of_cert_checker;
 #[cfg(test)]
