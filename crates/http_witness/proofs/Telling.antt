@@ -1,0 +1,36 @@
+-- The facts hold by what the definitions say.
+use Rattle.std.proofs.Common.{refl}
+use Rattle.base64.proofs.OnLiterals.{base64_on_literals}
+use Rattle.desk_answers.specs.Bodies.{error_body}
+use Rattle.desk_answers.specs.Json.{latin1}
+use Rattle.desk_routes.specs.Bodies.{json_of, text_at, name_at, list_at, decoded, dex_at, uphold, overturn, word_at, submission, appeal, review, ruling}
+use Rattle.desk_routes.specs.Faults.{key_of, text_of}
+use Rattle.desk_routes.specs.Routes.{cases, decisions, reviews, rulings, case_front, report_end, appeal_end}
+use Rattle.desk_routes.specs.Turns.{command_for, run_of}
+use Rattle.json.specs.Print.{escape_byte}
+use Rattle.serde_json.proofs.OnLiterals.{serde_json_on_literals}
+use Rattle.std.specs.Char.{encode_utf8}
+use Rattle.std.specs.Str.{is_utf8, chars}
+use Rattle.http_witness.specs.Turns.{TurnsTell}
+
+pub turns_tell : TurnsTell
+unfolding encode_utf8 is_utf8 chars escape_byte error_body latin1 serde_json_on_literals base64_on_literals json_of text_at name_at list_at decoded dex_at uphold overturn word_at submission appeal review ruling key_of text_of cases decisions reviews rulings case_front report_end appeal_end command_for run_of
+turns_tell = record {
+  decides = refl;
+  decides_not = refl;
+  no_method = refl;
+  own_token = refl;
+  no_longer_token = refl;
+  no_token = refl;
+  slash_behind = refl;
+  empty_reference = refl;
+  reviews = refl;
+  no_name = refl;
+  upholds = refl;
+  overturns = refl;
+  submitted = refl;
+  too_many = refl;
+  no_base64 = refl;
+  manifest_first = refl;
+  layouts_missing = refl;
+}
