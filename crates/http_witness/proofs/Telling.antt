@@ -1,8 +1,12 @@
 -- The facts hold by what the definitions say.
-use Rattle.std.proofs.Common.{refl}
+use Rattle.std.proofs.Common.{◌≡◌, ℕ, List, [], ◌∷◌, Option, Some, None, refl, ap, arith}
+use Rattle.desk_links.specs.Links.{Told}
+use Rattle.std.specs.Fmt.{digits}
 use Rattle.base64.proofs.OnLiterals.{base64_on_literals}
 use Rattle.desk_answers.specs.Bodies.{error_body}
 use Rattle.desk_answers.specs.Json.{latin1}
+use Rattle.desk_http.specs.Fields.{content_length, transfer_encoding, has_name, is_length}
+use Rattle.desk_http.specs.Replies.{type_of, version, content_type, connection, close, colon, space, crlf, status_line, field, reply_head}
 use Rattle.desk_routes.specs.Bodies.{json_of, text_at, name_at, list_at, decoded, dex_at, uphold, overturn, word_at, submission, appeal, review, ruling}
 use Rattle.desk_routes.specs.Faults.{key_of, text_of}
 use Rattle.desk_routes.specs.Routes.{cases, decisions, reviews, rulings, case_front, report_end, appeal_end}
@@ -11,6 +15,8 @@ use Rattle.json.specs.Print.{escape_byte}
 use Rattle.serde_json.proofs.OnLiterals.{serde_json_on_literals}
 use Rattle.std.specs.Char.{encode_utf8}
 use Rattle.std.specs.Str.{is_utf8, chars}
+use Rattle.http_witness.specs.Fields.{FieldsTell}
+use Rattle.http_witness.specs.Replies.{RepliesTell}
 use Rattle.http_witness.specs.Turns.{TurnsTell}
 
 pub turns_tell : TurnsTell
@@ -33,4 +39,23 @@ turns_tell = record {
   no_base64 = refl;
   manifest_first = refl;
   layouts_missing = refl;
+}
+
+pub fields_tell : FieldsTell
+unfolding content_length transfer_encoding has_name is_length
+fields_tell = record { coded = refl; one = refl; two = refl; signed = refl; longest = refl; too_long = refl }
+
+-- what was written, where it is told
+abbrev written_by : Option Told → List ℕ
+written_by None = []
+written_by (Some t) = t.written
+
+pub replies_tell : RepliesTell
+unfolding content_length type_of version content_type connection close colon space crlf status_line field reply_head digits
+replies_tell = record {
+  text = refl;
+  json = refl;
+  whole_body = refl;
+  nothing_written = λ h. let clash : 72 ∷ [] ≡ [] = ap written_by h in cc;
+  not_risen = λ h. omega (arith, h);
 }

@@ -1,1 +1,4 @@
+pub mod Fields
+pub mod Replies
+pub mod Requests
 pub mod Turns

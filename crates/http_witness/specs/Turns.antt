@@ -4,7 +4,6 @@ use Rattle.case_rules.specs.declared.case.Content.{Content}
 use Rattle.case_rules.specs.declared.case.RulingWord.TheVariants.{Uphold, Overturn}
 use Rattle.case_rules.specs.declared.command.Command.{Command}
 use Rattle.case_rules.specs.declared.command.Command.TheVariants.{Submit, List as ListCases, Decide, Review, Rule}
-use Rattle.desk_http.specs.declared.reply.Answer.{Answer}
 use Rattle.desk_routes.specs.declared.command.Turn.{Turn}
 use Rattle.desk_routes.specs.declared.command.Turn.TheVariants as turns
 use Rattle.desk_routes.specs.Turns.{turn_of}
