@@ -133,7 +133,7 @@ class Loud(ToolCase):
 
     def test_a_certificate_of_other_files_is_refused(self) -> None:
         done = self.run_tool("coverage", str(EXAMPLES / "lifecycle"), str(certificate("declared")))
-        self.assertEqual((done.returncode, done.stdout), (1, ""))
+        self.assertEqual((done.returncode, done.stdout), (70, ""))
         self.assertIn("The certificate is about other files: its digest is ", done.stderr)
 
     def test_a_row_that_names_what_the_app_has_not_is_refused(self) -> None:
@@ -142,7 +142,7 @@ class Loud(ToolCase):
                     b"\x0e" + u4(7) + b"\x01", b"\x14\x00" + u4(0, 1, 0, 0) + b"\x00" + u4(9999),
                     b"\x12\x63\x00\x00" + u4(0, 1, 0, 0)):
             done = self.run_tool("coverage", str(app), self.table(app, row))
-            self.assertEqual((done.returncode, done.stdout), (1, ""), row.hex())
+            self.assertEqual((done.returncode, done.stdout), (70, ""), row.hex())
             self.assertIn("The certificate names what the app or the lists do not have", done.stderr)
 
     def test_damaged_and_absent_certificates_are_refused_in_the_words_of_the_program(self) -> None:
@@ -152,7 +152,7 @@ class Loud(ToolCase):
         for name, due in ((str(path), "certificate refused: cut at 8"), (str(app / "Main.smali"), "refused: magic"),
                           (str(self.folder / "no.cert"), "could not be read (No such file or directory)")):
             done = self.run_tool("coverage", str(app), name)
-            self.assertEqual((done.returncode, done.stdout, done.stderr.count("\n")), (1, "", 1))
+            self.assertEqual((done.returncode, done.stdout, done.stderr.count("\n")), (70, "", 1))
             self.assertIn(due, done.stderr)
 
 

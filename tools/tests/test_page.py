@@ -150,7 +150,7 @@ class Written(ToolCase):
         self.assertEqual(self.run_tool("page", *words).returncode, 0)
         self.assertIn("Not known: no certificate was given with the report", path.read_text())
         done = self.run_tool("page", str(EXAMPLES / "other_box"), "--report", str(report), "-o", str(report))
-        self.assertEqual((done.returncode, report.read_text()), (1, "clear\n"))
+        self.assertEqual((done.returncode, report.read_text()), (70, "clear\n"))
         self.assertIn("is a file that is read; name another file after -o.", done.stderr)
 
     def test_where_there_is_no_report_the_old_page_stays(self) -> None:
@@ -167,7 +167,7 @@ class Written(ToolCase):
                             (self.folder / "no" / "app.html", "No such file or directory")):
             before = sorted(app.iterdir())
             done = self.run_tool("page", str(app), "-o", str(target))
-            self.assertEqual((done.returncode, done.stderr.count("\n")), (1, 1))
+            self.assertEqual((done.returncode, done.stderr.count("\n")), (70, 1))
             self.assertIn(due, done.stderr)
             self.assertEqual(sorted(app.iterdir()), before)
         self.assertEqual((app / "manifest.toml").read_bytes(), (EXAMPLES / "declared" / "manifest.toml").read_bytes())

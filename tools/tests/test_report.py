@@ -1,9 +1,11 @@
 """Reports are read exactly as docs/FORMATS.md says."""
 from __future__ import annotations
 
+import os
+import subprocess
 import unittest
 
-from tests.support import ToolCase, expected
+from tests.support import TOOLS, ToolCase, expected
 from vet_tools.report import Cause, CauseKind, Finding, Outcome, Place, ReportFault, parse, unprinted
 from vet_tools.shown import printed
 
@@ -58,7 +60,7 @@ class Asking(ToolCase):
         for words, due in ((str(apk), "is an APK: tools/unpack makes its folder"),
                            (str(self.vet), "is a file and no folder"), (str(self.folder / "no"), "There is no folder")):
             done = self.run_tool("explain", words)
-            self.assertEqual((done.returncode, done.stdout), (1, ""))
+            self.assertEqual((done.returncode, done.stdout), (70, ""))
             self.assertIn(due, done.stderr)
             self.assertEqual(done.stderr.count("\n"), 1)
 
@@ -72,13 +74,38 @@ class Asking(ToolCase):
         app = self.copied("declared", "crossed")
         self.answer("crossed", 2, "clear\n")
         done = self.run_tool("explain", str(app))
-        self.assertEqual((done.returncode, done.stdout), (1, ""))
+        self.assertEqual((done.returncode, done.stdout), (70, ""))
         self.assertIn("these do not go together", done.stderr)
 
     def test_a_program_that_is_not_there_is_said(self) -> None:
         done = self.run_tool("explain", str(self.copied("declared", "app")), vet="/nowhere/vet")
-        self.assertEqual((done.returncode, done.stdout), (1, ""))
+        self.assertEqual((done.returncode, done.stdout), (70, ""))
         self.assertIn("'/nowhere/vet' could not be started (No such file or directory)", done.stderr)
+
+    def test_a_program_that_is_killed_gave_no_report(self) -> None:
+        killed = self.folder / "killed"
+        killed.write_text("#!/bin/sh\nkill -9 $$\n")
+        killed.chmod(0o755)
+        done = self.run_tool("explain", str(self.copied("declared", "app")), vet=str(killed))
+        self.assertEqual((done.returncode, done.stdout), (70, ""))
+        self.assertIn("vet was ended by the signal 9 and gave no report", done.stderr)
+
+    def test_words_that_are_no_command_end_with_none_of_the_answers(self) -> None:
+        for tool, *words in (("explain",), ("page", "app"), ("sarif", "app", "--workers", "17"), ("coverage", "app")):
+            done = self.run_tool(tool, *words)
+            self.assertEqual((done.returncode, done.stdout), (4, ""), tool)
+            self.assertIn(f"tools/{tool}: error: ", done.stderr)
+
+    def test_where_androguard_is_missing_the_package_setup_is_named(self) -> None:
+        # With -S Python does not look where Debian's packages of Python are.
+        app = self.copied("declared", "app")
+        self.answer("app", 1, "flagged 1\na -> b at La/Main;->onCreate(Landroid/os/Bundle;)V @4\n")
+        for tool, words, due in (("unpack", ("x.apk", str(self.folder / "made")), 1), ("explain", (str(app),), 70)):
+            done = subprocess.run(["/usr/bin/python3", "-S", str(TOOLS / tool), *words], capture_output=True, text=True,
+                                  check=False, env={**os.environ, "VET": str(self.vet)})
+            self.assertEqual((done.returncode, done.stdout, done.stderr),
+                             (due, "", f"tools/{tool}: Python's androguard is not there; tools/setup installs what the "
+                              "tools stand on.\n"))
 
 
 if __name__ == "__main__":

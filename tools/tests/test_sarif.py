@@ -128,7 +128,7 @@ class Results(ToolCase):
         app = self.copied("declared", "kept")
         self.answer("kept", 0, "clear\n")
         done = self.run_tool("sarif", str(app), "-o", str(app / "lists.toml"))
-        self.assertEqual((done.returncode, done.stdout), (1, ""))
+        self.assertEqual((done.returncode, done.stdout), (70, ""))
         self.assertIn("is a file of the app; name another file after -o.", done.stderr)
         self.assertEqual((app / "lists.toml").read_bytes(), (EXAMPLES / "declared" / "lists.toml").read_bytes())
 

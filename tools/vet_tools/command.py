@@ -6,12 +6,27 @@ import os
 import re
 import sys
 from pathlib import Path
-from typing import Callable
+from typing import Callable, NoReturn
 
 from vet_tools import forms, report
-from vet_tools.report import NoReport, Report, ReportFault
+from vet_tools.report import NO_ANSWER, NoReport, Report, ReportFault
 from vet_tools.shown import in_quotes
 from vet_tools.whole_file import write_whole
+
+
+NO_COMMAND = 4  # as vet has it for words that are none of its commands
+STATUSES = (f"The exit status is that of vet: 0 clear, 1 flagged, 2 undecided, 3 refused, and 4 to 9 where vet gave no "
+            f"report; {NO_COMMAND} also where these words are no command, and {NO_ANSWER} where the tool could not do "
+            "what it was asked for: then nothing is said of the app.")
+
+
+class Words(argparse.ArgumentParser):
+    """A parser of words which are refused with a status that is none of vet's answers."""
+
+    def error(self, message: str) -> NoReturn:
+        """Says what is wrong with the words, and ends."""
+        self.print_usage(sys.stderr)
+        self.exit(NO_COMMAND, f"{self.prog}: error: {message}\n")
 
 
 def workers(word: str) -> int:
@@ -41,7 +56,7 @@ def report_of(words: argparse.Namespace) -> tuple[Report, Path]:
 def refuse(tool: str, fault: Exception) -> int:
     """Says on stderr, in one sentence, why the tool gives nothing; the exit status."""
     print(f"{tool}: {fault}", file=sys.stderr)
-    return fault.status if isinstance(fault, NoReport) else 1
+    return fault.status if isinstance(fault, NoReport) else NO_ANSWER
 
 
 def write(target: Path, text: str, folder: Path, given: tuple[str | None, ...] = ()) -> None:
@@ -74,14 +89,18 @@ def call(tool: str, main: Callable[[], int]) -> int:
         return status
     except BrokenPipeError:
         os.dup2(os.open(os.devnull, os.O_WRONLY), sys.stdout.fileno())
-        return 1
+        return NO_ANSWER
     except KeyboardInterrupt:
         print(f"{tool}: stopped", file=sys.stderr)
         return 130
     except MemoryError:
         print(f"{tool}: out of memory; run it again with more, or on a smaller app.", file=sys.stderr)
         return 7
+    except ModuleNotFoundError as fault:
+        print(f"{tool}: Python's {fault.name} is not there; tools/setup installs what the tools stand on.",
+              file=sys.stderr)
+        return NO_ANSWER
     except Exception as fault:  # the last resort, so that the person gets a sentence
         print(f"{tool}: a fault of the tool itself ({type(fault).__name__}); vet's own report is not touched by it, "
               "so run ./vet and tell the office.", file=sys.stderr)
-        return 1
+        return NO_ANSWER

@@ -5,17 +5,16 @@ The certificate must be of these very files (its digest says so). That its table
 """
 from __future__ import annotations
 
-import argparse
 import sys
 from dataclasses import dataclass, field
 from pathlib import Path
 
 from vet_tools import forms, report
 from vet_tools.certificate import Certificate, CertificateFault, ContextKind, Flat, Kind, Node, node_of
-from vet_tools.command import refuse
+from vet_tools.command import NO_COMMAND, Words, refuse
 from vet_tools.dex_code import DexCode, DexFault, Method
 from vet_tools.forms import Component, FormFault, Lists, Manifest
-from vet_tools.report import ReportFault
+from vet_tools.report import NO_ANSWER, ReportFault
 from vet_tools.shown import counted
 
 # The methods of the life of each kind of component, in the order in which certificates number them (docs/MACHINE.md).
@@ -232,13 +231,14 @@ def text(found: Coverage) -> str:
 
 
 def main(arguments: list[str] | None = None) -> int:
-    """The command; 0 where the coverage was printed, else 1."""
-    parser = argparse.ArgumentParser(
+    """The command; 0 where the coverage was printed, else 70."""
+    parser = Words(
         prog="tools/coverage", description="Says what of an app the analysis came to, by the certificate that vet "
         "certify makes: the components that come to life, the methods reached of all with code, the sources and sinks "
         "that were met. Where nothing was reached it says so loudly.",
         epilog="Example: ./vet certify examples/other_box other_box.cert; tools/coverage examples/other_box "
-        "other_box.cert. The exit status is 0, or 1 where there is nothing to count.")
+        f"other_box.cert. The exit status is 0, {NO_COMMAND} where these words are no command, and {NO_ANSWER} where "
+        "there is nothing to count.")
     parser.add_argument("folder", metavar="DIR", help="the folder of an unpacked app")
     parser.add_argument("certificate", metavar="CERT", help="the certificate of that app")
     parser.add_argument("--unreached", action="store_true", help="print the methods with code that were not reached, "

@@ -1,12 +1,11 @@
 """`tools/explain`: a report of vet with the code behind each line, and what to do."""
 from __future__ import annotations
 
-import argparse
 import sys
 import textwrap
 
 from vet_tools import advice
-from vet_tools.command import add_folder, refuse, report_of
+from vet_tools.command import STATUSES, Words, add_folder, refuse, report_of
 from vet_tools.explanation import Explained, Explanation, MissingClass, explain, java_method, java_place
 from vet_tools.list_rows import rows
 from vet_tools.report import CauseKind, NoReport, Outcome, Report, ReportFault
@@ -117,12 +116,11 @@ def text(found: Explanation) -> str:
 
 def main(arguments: list[str] | None = None) -> int:
     """The command; the exit status is that of vet."""
-    parser = argparse.ArgumentParser(
+    parser = Words(
         prog="tools/explain", description="Runs vet check and puts behind each line of its report the instruction, the "
         "method that is called, the source line where the DEX file has one, and what to do. Calls without a summary "
         "are put together by class and method, with rows for lists.toml.",
-        epilog="Example: tools/explain examples/unlisted_call. The exit status is that of vet: 0 clear, 1 flagged, "
-        "2 undecided, 3 refused; 1 also where there is no report.")
+        epilog=f"Example: tools/explain examples/unlisted_call. {STATUSES}")
     add_folder(parser)
     parser.add_argument("--rows", action="store_true", help="print the rows for lists.toml and nothing else")
     words = parser.parse_args(arguments)

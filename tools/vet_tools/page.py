@@ -17,7 +17,7 @@ from pathlib import Path
 from vet_tools import advice, forms, report
 from vet_tools.advice import Advice
 from vet_tools.certificate import Certificate, CertificateFault
-from vet_tools.command import add_folder, refuse, report_of, write
+from vet_tools.command import STATUSES, Words, add_folder, refuse, report_of, write
 from vet_tools.coverage import CAUSES, Coverage, CoverageFault, Places, coverage, percent
 from vet_tools.dex_code import DexFault
 from vet_tools.explain import HEADS, KEPT, missing_title, summary_title
@@ -296,11 +296,10 @@ def _certified(folder: Path, workers: int) -> tuple[Report, Coverage | None, str
 
 def main(arguments: list[str] | None = None) -> int:
     """The command; the exit status is that of vet."""
-    parser = argparse.ArgumentParser(
+    parser = Words(
         prog="tools/page", description="Writes one HTML page about an app: the answer of vet, what was reached, each "
         "finding and cause with its code, and rows for lists.toml. The page needs nothing else and asks for nothing.",
-        epilog="Example: tools/page examples/device_id_posted -o app.html. The exit status is that of vet: 0 clear, "
-        "1 flagged, 2 undecided, 3 refused; 1 also where there is no page.")
+        epilog=f"Example: tools/page examples/device_id_posted -o app.html. {STATUSES}")
     add_folder(parser)
     parser.add_argument("-o", "--output", metavar="FILE", required=True, help="the page")
     parser.add_argument("--certificate", metavar="CERT", help="count what was reached by this certificate; without it "

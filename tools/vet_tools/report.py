@@ -18,6 +18,9 @@ from pathlib import Path
 from vet_tools.shown import in_quotes
 
 ROOT = Path(__file__).resolve().parents[2]
+# The exit status of a tool that could not give what it was asked for: none of those of vet's answers, the one with
+# which ./vet says that nothing is said of the app, and EX_SOFTWARE of sysexits.h.
+NO_ANSWER = 70
 
 
 class ReportFault(Exception):
@@ -230,7 +233,7 @@ def run(words: list[str]) -> tuple[int, str]:
         clock.start()
         done = subprocess.run([program(), *words], stdin=subprocess.DEVNULL, stdout=subprocess.PIPE, check=False)
     except OSError as fault:
-        raise NoReport(1, f"{in_quotes(program())} could not be started ({fault.strerror}); "
+        raise NoReport(NO_ANSWER, f"{in_quotes(program())} could not be started ({fault.strerror}); "
                           "set VET to the vet program.") from None
     finally:
         tells.set()
@@ -253,6 +256,9 @@ def _tell_time(what: str, ended: threading.Event) -> None:
 
 def _of(words: list[str]) -> Report:
     status, text = run(words)
+    if status < 0:
+        raise NoReport(NO_ANSWER, f"vet was ended by the signal {-status} and gave no report; run it again when the "
+                                  "cause is gone.")
     if status > 3:
         said = text.splitlines()[0] if text.strip() else "nothing"
         raise NoReport(status, f"vet gave no report (status {status}); it said {in_quotes(said)}. "

@@ -5,7 +5,6 @@ stands at the source line where the DEX file has one, and else at the bytes of i
 """
 from __future__ import annotations
 
-import argparse
 import hashlib
 import json
 import sys
@@ -15,7 +14,7 @@ from urllib.parse import quote
 
 from vet_tools import advice
 from vet_tools.advice import Advice
-from vet_tools.command import add_folder, refuse, report_of, write
+from vet_tools.command import STATUSES, Words, add_folder, refuse, report_of, write
 from vet_tools.explanation import Explained, Explanation, explain, java_method
 from vet_tools.report import Cause, CauseKind, Finding, NoReport, Outcome, Place, ReportFault
 
@@ -148,11 +147,10 @@ def document(found: Explanation) -> Json:
 
 def main(arguments: list[str] | None = None) -> int:
     """The command; the exit status is that of vet."""
-    parser = argparse.ArgumentParser(
+    parser = Words(
         prog="tools/sarif", description="Writes the report of vet as SARIF 2.1.0, for editors and code hosts: findings "
         "with the kind fail, causes with the kind open.",
-        epilog="Example: tools/sarif examples/device_id_posted -o report.sarif. The exit status is that of vet: "
-        "0 clear, 1 flagged, 2 undecided, 3 refused; 1 also where there is no report.")
+        epilog=f"Example: tools/sarif examples/device_id_posted -o report.sarif. {STATUSES}")
     add_folder(parser)
     parser.add_argument("-o", "--output", metavar="FILE", help="the file; without it the standard output")
     words = parser.parse_args(arguments)
