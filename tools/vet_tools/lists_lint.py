@@ -10,20 +10,20 @@ from vet_tools.lists_model import OBJECT, Default, Kind, MethodRow, Place, Resul
 from vet_tools.lists_names import dotted_of, is_reference, parameters
 
 MOST_TABLES, MOST_ABOVE, MOST_ROWS, MOST_CATEGORIES, LONGEST = 65_536, 64, 4_000_000, 200, 255
-CATEGORY = re.compile(r'[a-z0-9_]{1,255}')
-HEAD = Place('head.txt', 0)
+CATEGORY = re.compile(r"[a-z0-9_]{1,255}")
+HEAD = Place("head.txt", 0)
 MADE = (Kind.CLASS, Kind.FINAL)
-OBJECT_METHODS = frozenset({('clone', ()), ('toString', ()), ('hashCode', ()), ('equals', (OBJECT,)),
-                            ('getClass', ()), ('finalize', ())})
+OBJECT_METHODS = frozenset({("clone", ()), ("toString", ()), ("hashCode", ()), ("equals", (OBJECT,)),
+                            ("getClass", ()), ("finalize", ())})
 # What the machine has as events of a component's life (docs/MACHINE.md), so that the library does not call it besides.
 # A receiver may also be made and handed over by the app, so its onReceive is a callback too.
 LIFE = {
-    'Landroid/app/Activity;': {'onCreate(Landroid/os/Bundle;)V', 'onStart()V', 'onResume()V', 'onPause()V',
-                               'onStop()V', 'onRestart()V', 'onDestroy()V'},
-    'Landroid/app/Service;': {'onCreate()V', 'onStartCommand(Landroid/content/Intent;II)I', 'onDestroy()V',
-                              'onBind(Landroid/content/Intent;)Landroid/os/IBinder;',
-                              'onUnbind(Landroid/content/Intent;)Z', 'onRebind(Landroid/content/Intent;)V'},
-    'Landroid/app/Application;': {'onCreate()V'},
+    "Landroid/app/Activity;": {"onCreate(Landroid/os/Bundle;)V", "onStart()V", "onResume()V", "onPause()V",
+                               "onStop()V", "onRestart()V", "onDestroy()V"},
+    "Landroid/app/Service;": {"onCreate()V", "onStartCommand(Landroid/content/Intent;II)I", "onDestroy()V",
+                              "onBind(Landroid/content/Intent;)Landroid/os/IBinder;",
+                              "onUnbind(Landroid/content/Intent;)Z", "onRebind(Landroid/content/Intent;)V"},
+    "Landroid/app/Application;": {"onCreate()V"},
 }
 Declared = Callable[[str], frozenset[tuple[str, tuple[str, ...]]]]
 
@@ -36,29 +36,29 @@ class Fault:
     text: str
 
     def __str__(self) -> str:
-        return f'{self.place}: {self.text}'
+        return f"{self.place}: {self.text}"
 
 
 def head_faults(tables: Tables) -> Iterator[Fault]:
     """Limits of the form, and names of the head that nothing has."""
     head = tables.head
     if not 1 <= head.rows <= MOST_ROWS:
-        yield Fault('limits', HEAD, f'rows is {head.rows}, and may be 1 to {MOST_ROWS}')
+        yield Fault("limits", HEAD, f"rows is {head.rows}, and may be 1 to {MOST_ROWS}")
     if not 1 <= len(head.categories) <= MOST_CATEGORIES:
-        yield Fault('limits', HEAD, f'there are {len(head.categories)} categories, and may be 1 to {MOST_CATEGORIES}')
+        yield Fault("limits", HEAD, f"there are {len(head.categories)} categories, and may be 1 to {MOST_CATEGORIES}")
     for name in head.categories:
         if not CATEGORY.fullmatch(name):
-            yield Fault('limits', HEAD, f'the category {name} has other signs than a-z, 0-9 and _')
-    for what, count in (('classes', len(tables.classes)), ('shared objects', len(head.shared)),
-                        ('methods', len(tables.methods)), ('callbacks', len(tables.callbacks)),
-                        ('statics', len(tables.statics))):
+            yield Fault("limits", HEAD, f"the category {name} has other signs than a-z, 0-9 and _")
+    for what, count in (("classes", len(tables.classes)), ("shared objects", len(head.shared)),
+                        ("methods", len(tables.methods)), ("callbacks", len(tables.callbacks)),
+                        ("statics", len(tables.statics))):
         if count > MOST_TABLES:
-            yield Fault('limits', HEAD, f'there are {count} {what}, and may be {MOST_TABLES}')
+            yield Fault("limits", HEAD, f"there are {count} {what}, and may be {MOST_TABLES}")
     for name, owner in head.shared.items():
         if owner not in tables.classes:
-            yield Fault('listed', HEAD, f'the class {dotted_of(owner)} of the shared object {name} is not listed')
+            yield Fault("listed", HEAD, f"the class {dotted_of(owner)} of the shared object {name} is not listed")
     for name in set(head.platform) & set(head.bundled):
-        yield Fault('twice', HEAD, f'the prefix {name} is both platform and bundled')
+        yield Fault("twice", HEAD, f"the prefix {name} is both platform and bundled")
 
 
 def class_faults(tables: Tables) -> Iterator[Fault]:
@@ -66,16 +66,16 @@ def class_faults(tables: Tables) -> Iterator[Fault]:
     for name, entry in tables.classes.items():
         for parent in entry.parents:
             if parent not in tables.classes:
-                yield Fault('parents', entry.place,
-                            f'{dotted_of(parent)}, a parent of {dotted_of(name)}, is not listed')
+                yield Fault("parents", entry.place,
+                            f"{dotted_of(parent)}, a parent of {dotted_of(name)}, is not listed")
             elif name in tables.above(parent):
-                yield Fault('circle', entry.place, f'{dotted_of(name)} stands above itself')
+                yield Fault("circle", entry.place, f"{dotted_of(name)} stands above itself")
         if len(tables.above(name)) > MOST_ABOVE:
-            yield Fault('limits', entry.place, f'more than {MOST_ABOVE} classes stand above {dotted_of(name)}')
+            yield Fault("limits", entry.place, f"more than {MOST_ABOVE} classes stand above {dotted_of(name)}")
         if len(name) > LONGEST:
-            yield Fault('limits', entry.place, f'a name has more than {LONGEST} bytes')
+            yield Fault("limits", entry.place, f"a name has more than {LONGEST} bytes")
         if tables.default_of(name) is None:
-            yield Fault('default', entry.place, f'no class above {dotted_of(name)} has a default')
+            yield Fault("default", entry.place, f"no class above {dotted_of(name)} has a default")
 
 
 def twice_faults(tables: Tables) -> Iterator[Fault]:
@@ -83,17 +83,17 @@ def twice_faults(tables: Tables) -> Iterator[Fault]:
     seen: dict[tuple[object, ...], Place] = {}
     for row in tables.methods:
         if row.key in seen:
-            yield Fault('twice', row.place, f'{row} stands twice, first at {seen[row.key]}')
+            yield Fault("twice", row.place, f"{row} stands twice, first at {seen[row.key]}")
         seen.setdefault(row.key, row.place)
     for call in tables.callbacks:
-        key = ('callback', call.owner, call.name, call.proto)
+        key = ("callback", call.owner, call.name, call.proto)
         if key in seen:
-            yield Fault('twice', call.place, f'{call} stands twice, first at {seen[key]}')
+            yield Fault("twice", call.place, f"{call} stands twice, first at {seen[key]}")
         seen.setdefault(key, call.place)
     for entry in tables.statics:
-        key = ('static', entry.owner, entry.name, entry.type)
+        key = ("static", entry.owner, entry.name, entry.type)
         if key in seen:
-            yield Fault('twice', entry.place, f'{entry.owner}->{entry.name} stands twice, first at {seen[key]}')
+            yield Fault("twice", entry.place, f"{entry.owner}->{entry.name} stands twice, first at {seen[key]}")
         seen.setdefault(key, entry.place)
 
 
@@ -101,13 +101,13 @@ def reason_faults(tables: Tables) -> Iterator[Fault]:
     """Sources, sinks and reflective rows that do not say why."""
     for row in tables.methods:
         if row.effects.wants_reason and not row.reason:
-            yield Fault('reason', row.place, f'{row} is a source, a sink or reflective and has no reason')
+            yield Fault("reason", row.place, f"{row} is a source, a sink or reflective and has no reason")
     for call in tables.callbacks:
         if call.sources and not call.reason:
-            yield Fault('reason', call.place, f'{call} has a source and no reason')
+            yield Fault("reason", call.place, f"{call} has a source and no reason")
     for entry in tables.statics:
         if entry.source and not entry.reason:
-            yield Fault('reason', entry.place, f'{entry.owner}->{entry.name} has a source and no reason')
+            yield Fault("reason", entry.place, f"{entry.owner}->{entry.name} has a source and no reason")
 
 
 def name_faults(tables: Tables) -> Iterator[Fault]:
@@ -115,19 +115,19 @@ def name_faults(tables: Tables) -> Iterator[Fault]:
     owners = [*tables.methods, *tables.callbacks, *tables.statics]
     for row in owners:
         if row.owner not in tables.classes:
-            yield Fault('listed', row.place, f'the class {dotted_of(row.owner)} is not listed')
+            yield Fault("listed", row.place, f"the class {dotted_of(row.owner)} is not listed")
     for row in tables.methods:
         for category in filter(None, (row.effects.source, row.effects.sink)):
             if category not in tables.head.categories:
-                yield Fault('listed', row.place, f'{row}: {category} is no category')
+                yield Fault("listed", row.place, f"{row}: {category} is no category")
         for shared in (*filter(None, [row.effects.shared]), *(name for _, name in row.effects.stores)):
             if shared not in tables.head.shared:
-                yield Fault('listed', row.place, f'{row}: {shared} is no shared object')
+                yield Fault("listed", row.place, f"{row}: {shared} is no shared object")
     told = [(c.place, str(c), s) for c in tables.callbacks for _, s in c.sources]
-    told += [(s.place, f'{s.owner}->{s.name}', s.source) for s in tables.statics if s.source]
+    told += [(s.place, f"{s.owner}->{s.name}", s.source) for s in tables.statics if s.source]
     for place, what, category in told:
         if category not in tables.head.categories:
-            yield Fault('listed', place, f'{what}: {category} is no category')
+            yield Fault("listed", place, f"{what}: {category} is no category")
 
 
 def position_faults(tables: Tables) -> Iterator[Fault]:
@@ -137,17 +137,17 @@ def position_faults(tables: Tables) -> Iterator[Fault]:
         named = {*effects.positions, *effects.sink_positions, *(i for i, _ in effects.stores),
                  *(i for pair in (*effects.puts, *effects.copies) for i in pair)}
         if named - set(every):
-            yield Fault('position', row.place, f'{row} has no position {max(named - set(every))}')
-        result = row.proto[row.proto.index(')') + 1:]
-        if result == 'V' and effects.result is not Result.BLANK:
-            yield Fault('position', row.place, f'{row} gives nothing back, so it has no result')
+            yield Fault("position", row.place, f"{row} has no position {max(named - set(every))}")
+        result = row.proto[row.proto.index(")") + 1:]
+        if result == "V" and effects.result is not Result.BLANK:
+            yield Fault("position", row.place, f"{row} gives nothing back, so it has no result")
         if effects.result in (Result.HANDED, Result.SHARED) and not is_reference(result):
-            yield Fault('position', row.place, f'{row} gives back a number, so it can give no object')
-        if row.static and row.name == '<init>':
-            yield Fault('position', row.place, f'{row}: a constructor is not static')
+            yield Fault("position", row.place, f"{row} gives back a number, so it can give no object")
+        if row.static and row.name == "<init>":
+            yield Fault("position", row.place, f"{row}: a constructor is not static")
     for call in tables.callbacks:
         if any(i not in positions_of(call.proto, False) for i, _ in call.sources):
-            yield Fault('position', call.place, f'{call} does not have a position of its sources')
+            yield Fault("position", call.place, f"{call} does not have a position of its sources")
 
 
 def weaker_faults(tables: Tables, declared: Declared) -> Iterator[Fault]:
@@ -155,7 +155,7 @@ def weaker_faults(tables: Tables, declared: Declared) -> Iterator[Fault]:
     the rows tell is known of the methods of a class."""
     lookup = Lookup(tables)
     for row in tables.methods:
-        if row.static or row.name == '<init>' or row.owner not in tables.classes:
+        if row.static or row.name == "<init>" or row.owner not in tables.classes:
             continue
         for above in lookup.walks[row.owner][1:]:
             fault = weaker_above(lookup, row, above, declared)
@@ -170,19 +170,19 @@ def weaker_above(lookup: Lookup, row: MethodRow, above: str, declared: Declared)
     if key in declared(above) or above == OBJECT and key in OBJECT_METHODS:
         protos = protos or {row.proto}
     for proto in protos:
-        if weaker(lookup.effects(above, row.name, proto, False), row.effects, proto.endswith('V')):
-            return Fault('weaker', row.place, f'{row} does more than the same method of {dotted_of(above)}, which a '
-                                              f'call may name: give that one a row as strong')
+        if weaker(lookup.effects(above, row.name, proto, False), row.effects, proto.endswith("V")):
+            return Fault("weaker", row.place, f"{row} does more than the same method of {dotted_of(above)}, which a "
+                                              f"call may name: give that one a row as strong")
     return None
 
 
 def constructor_faults(tables: Tables) -> Iterator[Fault]:
     """Classes whose default is joined, so that a constructor keeps nothing, without a row for any constructor."""
-    made = {row.owner for row in tables.methods if row.name == '<init>'}
+    made = {row.owner for row in tables.methods if row.name == "<init>"}
     for name, entry in tables.classes.items():
         if entry.kind in MADE and tables.default_of(name) is Default.JOINED and name not in made:
-            yield Fault('constructor', entry.place, f'{dotted_of(name)} is joined, which gives a constructor nothing, '
-                                                    'and has no row for one')
+            yield Fault("constructor", entry.place, f"{dotted_of(name)} is joined, which gives a constructor nothing, "
+                                                    "and has no row for one")
 
 
 def callback_faults(tables: Tables) -> Iterator[Fault]:
@@ -192,11 +192,11 @@ def callback_faults(tables: Tables) -> Iterator[Fault]:
         entry = tables.classes.get(row.owner)
         if entry and entry.kind is Kind.INTERFACE and not row.static:
             if not any((above, row.name, row.proto) in called for above in tables.above(row.owner)):
-                yield Fault('callback', row.place, f'{row} is of an interface, so an app may implement it and the '
-                                                   'library may call it: it has no callback row')
+                yield Fault("callback", row.place, f"{row} is of an interface, so an app may implement it and the "
+                                                   "library may call it: it has no callback row")
     for call in tables.callbacks:
         if call.owner in tables.classes and tables.classes[call.owner].kind in (Kind.FINAL, Kind.CLOSED):
-            yield Fault('closed', call.place, f'{call}: no class of an app can stand below {dotted_of(call.owner)}')
+            yield Fault("closed", call.place, f"{call}: no class of an app can stand below {dotted_of(call.owner)}")
 
 
 def life_faults(tables: Tables) -> Iterator[Fault]:
@@ -204,8 +204,8 @@ def life_faults(tables: Tables) -> Iterator[Fault]:
     for call in tables.callbacks:
         for owner in tables.above(call.owner):
             if call.name + call.proto in LIFE.get(owner, ()):
-                yield Fault('life', call.place, f'{call} is an event in the life of a component, so it has its time '
-                                                'there: as a callback it would come at any')
+                yield Fault("life", call.place, f"{call} is an event in the life of a component, so it has its time "
+                                                "there: as a callback it would come at any")
 
 
 def nothing_more(_: str) -> frozenset[tuple[str, tuple[str, ...]]]:

@@ -4,7 +4,7 @@ from __future__ import annotations
 from dataclasses import dataclass, field
 from enum import Enum
 
-OBJECT = 'Ljava/lang/Object;'
+OBJECT = "Ljava/lang/Object;"
 
 
 @dataclass(frozen=True)
@@ -14,40 +14,40 @@ class Place:
     line: int
 
     def __str__(self) -> str:
-        return f'{self.file}:{self.line}' if self.line else self.file
+        return f"{self.file}:{self.line}" if self.line else self.file
 
 
 class TableFault(Exception):
     """A line of a table that is not of its form; the text says where and what is wrong."""
 
     def __init__(self, place: Place, text: str) -> None:
-        super().__init__(f'{place}: {text}')
+        super().__init__(f"{place}: {text}")
 
 
 class Kind(Enum):
     """Whether an app can have a class below this one, and whether it can call a constructor: interfaces have none, a
     final class has no class below, and of a closed one the library alone makes objects."""
-    INTERFACE = 'interface'
-    CLASS = 'class'
-    FINAL = 'final'
-    CLOSED = 'closed'
+    INTERFACE = "interface"
+    CLASS = "class"
+    FINAL = "final"
+    CLOSED = "closed"
 
 
 class Default(Enum):
     """What a method without a row does."""
-    BLANK = 'blank'
-    JOINED = 'joined'
-    MIXED = 'mixed'
+    BLANK = "blank"
+    JOINED = "joined"
+    MIXED = "mixed"
 
 
 class Result(Enum):
     """What a library call gives back."""
-    BLANK = 'blank'
-    SAME = 'same'
-    TAKEN = 'taken'
-    JOINED = 'joined'
-    SHARED = 'shared'
-    HANDED = 'handed'
+    BLANK = "blank"
+    SAME = "same"
+    TAKEN = "taken"
+    JOINED = "joined"
+    SHARED = "shared"
+    HANDED = "handed"
 
 
 @dataclass(frozen=True)
@@ -65,12 +65,12 @@ class Effects:
     """What one call does. Positions count the receiver as 0; in a static method the first argument is 0."""
     result: Result = Result.BLANK
     positions: tuple[int, ...] = ()
-    shared: str = ''
+    shared: str = ""
     puts: tuple[tuple[int, int], ...] = ()
     stores: tuple[tuple[int, str], ...] = ()
     copies: tuple[tuple[int, int], ...] = ()
-    source: str = ''
-    sink: str = ''
+    source: str = ""
+    sink: str = ""
     sink_positions: tuple[int, ...] = ()
     reflective: bool = False
 
@@ -97,7 +97,7 @@ class MethodRow:
         return self.owner, self.name, self.proto, self.static
 
     def __str__(self) -> str:
-        return f'{self.owner}->{self.name}{self.proto}'
+        return f"{self.owner}->{self.name}{self.proto}"
 
 
 @dataclass(frozen=True)
@@ -111,7 +111,7 @@ class CallbackRow:
     place: Place
 
     def __str__(self) -> str:
-        return f'{self.owner}->{self.name}{self.proto}'
+        return f"{self.owner}->{self.name}{self.proto}"
 
 
 @dataclass(frozen=True)

@@ -10,7 +10,7 @@ from vet_tools.lists_lookup import Lookup
 from vet_tools.lists_model import OBJECT, Default, Kind, Tables
 from vet_tools.lists_names import descriptor_of, dotted_of, parameters
 
-IN_THE_JDK = ('java.', 'javax.', 'org.w3c.dom.', 'org.xml.sax.')
+IN_THE_JDK = ("java.", "javax.", "org.w3c.dom.", "org.xml.sax.")
 
 
 def known_shapes(tables: Tables, jar: Path | None) -> dict[str, Shape]:
@@ -26,14 +26,14 @@ def known_shapes(tables: Tables, jar: Path | None) -> dict[str, Shape]:
 def declared_by(known: dict[str, Shape]) -> Declared:
     """What the class files declare, as the lint of weaker rows asks for it."""
     by_class = {descriptor_of(name): frozenset((m.name, tuple(parameters(m.proto))) for m in shape.members
-                                               if {'public', 'protected'} & m.words and 'static' not in m.words)
+                                               if {"public", "protected"} & m.words and "static" not in m.words)
                 for name, shape in known.items()}
     return lambda name: by_class.get(name, frozenset())
 
 
 def kind_of(shape: Shape) -> Kind:
     """The kind that a class file shows."""
-    if shape.kind == 'interface':
+    if shape.kind == "interface":
         return Kind.INTERFACE
     if shape.extensible:
         return Kind.CLASS
@@ -56,11 +56,11 @@ def class_faults(tables: Tables, known: dict[str, Shape]) -> Iterator[Fault]:
         if shape is None:
             continue
         if too_narrow(entry.kind, kind_of(shape)):
-            yield Fault('kind', entry.place, f'{shape.name} is {kind_of(shape).value} in its class file')
+            yield Fault("kind", entry.place, f"{shape.name} is {kind_of(shape).value} in its class file")
         above = set(tables.above(name))
         for parent in shape.parents:
             if descriptor_of(parent) in tables.classes and descriptor_of(parent) not in above:
-                yield Fault('hierarchy', entry.place, f'{parent} stands above {shape.name} in its class file')
+                yield Fault("hierarchy", entry.place, f"{parent} stands above {shape.name} in its class file")
 
 
 def constructor_faults(tables: Tables, known: dict[str, Shape], lookup: Lookup) -> Iterator[Fault]:
@@ -70,15 +70,15 @@ def constructor_faults(tables: Tables, known: dict[str, Shape], lookup: Lookup) 
         if shape is None or tables.default_of(name) is not Default.JOINED:
             continue
         for made in shape.members:
-            if made.name == '<init>' and {'public', 'protected'} & made.words and parameters(made.proto):
-                if (name, '<init>', made.proto, False) not in lookup.rows:
-                    yield Fault('constructor', entry.place, f'{shape.name} is joined, which gives a constructor '
-                                                            f'nothing: {made.proto} has no row')
+            if made.name == "<init>" and {"public", "protected"} & made.words and parameters(made.proto):
+                if (name, "<init>", made.proto, False) not in lookup.rows:
+                    yield Fault("constructor", entry.place, f"{shape.name} is joined, which gives a constructor "
+                                                            f"nothing: {made.proto} has no row")
 
 
 def must_be_called(shape: Shape, method: Member) -> bool:
     """Whether an app class below this one has to implement the method, so that the library may call it there."""
-    return method.open_to_apps and ('abstract' in method.words or shape.name == 'java.lang.Object')
+    return method.open_to_apps and ("abstract" in method.words or shape.name == "java.lang.Object")
 
 
 def callback_faults(tables: Tables, known: dict[str, Shape]) -> Iterator[Fault]:
@@ -94,8 +94,8 @@ def callback_faults(tables: Tables, known: dict[str, Shape]) -> Iterator[Fault]:
             if not must_be_called(shape, method) or any(method.name + method.proto in LIFE.get(it, ()) for it in above):
                 continue
             if not any((it, method.name, method.proto) in called for it in above):
-                yield Fault('callback', entry.place, f'an app may implement {shape.name}.{method.name}{method.proto}, '
-                                                     'and it has no callback row')
+                yield Fault("callback", entry.place, f"an app may implement {shape.name}.{method.name}{method.proto}, "
+                                                     "and it has no callback row")
 
 
 def shape_faults(tables: Tables, known: dict[str, Shape]) -> list[Fault]:

@@ -7,10 +7,10 @@ from collections.abc import Iterable, Iterator
 from vet_tools.device_keys import READS_DEVICE_KEYS
 from vet_tools.lists_model import CallbackRow, Effects, LibraryClass, MethodRow, Result, StaticRow, Tables
 
-TITLE = '''\
+TITLE = """\
 # What the store says of Android's library: which values are personal data, where they must not go undeclared, and
 # what a library call does with its arguments. Made by tools/make-lists from the tables beside it: edit those.
-'''
+"""
 
 
 def text(value: str) -> str:
@@ -40,12 +40,12 @@ def upward(classes: dict[str, LibraryClass]) -> list[LibraryClass]:
 
 def class_lines(entry: LibraryClass) -> Iterator[str]:
     """The lines of a class."""
-    yield '[[class]]'
-    yield f'name = {text(entry.name)}'
+    yield "[[class]]"
+    yield f"name = {text(entry.name)}"
     if entry.parents:
-        yield f'parents = {json.dumps(list(entry.parents))}'
+        yield f"parents = {json.dumps(list(entry.parents))}"
     if entry.default:
-        yield f'default = {text(entry.default.value)}'
+        yield f"default = {text(entry.default.value)}"
 
 
 def result_lines(effects: Effects, device_keys: bool) -> Iterator[str]:
@@ -53,83 +53,83 @@ def result_lines(effects: Effects, device_keys: bool) -> Iterator[str]:
     if effects.result is Result.HANDED and not device_keys:
         return
     if effects.result is not Result.BLANK and not (effects.source and not effects.positions):
-        yield f'result = {text(effects.result.value)}'
+        yield f"result = {text(effects.result.value)}"
     if effects.positions:
-        yield f'from = {json.dumps(list(effects.positions))}'
+        yield f"from = {json.dumps(list(effects.positions))}"
     if effects.result is Result.SHARED:
-        yield f'shared = {text(effects.shared)}'
+        yield f"shared = {text(effects.shared)}"
 
 
 def method_lines(row: MethodRow, device_keys: bool) -> Iterator[str]:
     """The lines of a row of a method, with its reason in front."""
     effects = row.effects
     if row.reason:
-        yield f'# {row.reason}'
-    yield '[[method]]'
-    yield f'class = {text(row.owner)}'
-    yield f'name = {text(row.name)}'
-    yield f'proto = {text(row.proto)}'
+        yield f"# {row.reason}"
+    yield "[[method]]"
+    yield f"class = {text(row.owner)}"
+    yield f"name = {text(row.name)}"
+    yield f"proto = {text(row.proto)}"
     if row.static:
-        yield 'static = true'
+        yield "static = true"
     yield from result_lines(effects, device_keys)
-    for key, values in (('puts', effects.puts), ('stores', effects.stores), ('copies', effects.copies)):
+    for key, values in (("puts", effects.puts), ("stores", effects.stores), ("copies", effects.copies)):
         if values:
-            yield f'{key} = {pairs(values)}'
+            yield f"{key} = {pairs(values)}"
     if effects.source:
-        yield f'source = {text(effects.source)}'
+        yield f"source = {text(effects.source)}"
     if effects.sink:
-        yield f'sink = {text(effects.sink)}'
-        yield f'positions = {json.dumps(list(effects.sink_positions))}'
+        yield f"sink = {text(effects.sink)}"
+        yield f"positions = {json.dumps(list(effects.sink_positions))}"
     if effects.reflective:
-        yield 'reflective = true'
+        yield "reflective = true"
 
 
 def callback_lines(row: CallbackRow) -> Iterator[str]:
     """The lines of a row of a callback."""
     if row.reason:
-        yield f'# {row.reason}'
-    yield '[[callback]]'
-    yield f'class = {text(row.owner)}'
-    yield f'name = {text(row.name)}'
-    yield f'proto = {text(row.proto)}'
+        yield f"# {row.reason}"
+    yield "[[callback]]"
+    yield f"class = {text(row.owner)}"
+    yield f"name = {text(row.name)}"
+    yield f"proto = {text(row.proto)}"
     if row.sources:
-        yield f'sources = {pairs(row.sources)}'
+        yield f"sources = {pairs(row.sources)}"
 
 
 def static_lines(row: StaticRow) -> Iterator[str]:
     """The lines of a static field."""
     if row.reason:
-        yield f'# {row.reason}'
-    yield '[[static]]'
-    yield f'class = {text(row.owner)}'
-    yield f'name = {text(row.name)}'
-    yield f'type = {text(row.type)}'
+        yield f"# {row.reason}"
+    yield "[[static]]"
+    yield f"class = {text(row.owner)}"
+    yield f"name = {text(row.name)}"
+    yield f"type = {text(row.type)}"
     if row.source:
-        yield f'source = {text(row.source)}'
+        yield f"source = {text(row.source)}"
 
 
 def head_lines(tables: Tables, device_keys: bool) -> Iterator[str]:
     """The keys of the top table."""
     head = tables.head
-    yield f'rows = {head.rows}'
-    yield f'categories = {json.dumps(list(head.categories))}'
+    yield f"rows = {head.rows}"
+    yield f"categories = {json.dumps(list(head.categories))}"
     if device_keys:
         if head.strict:
-            yield 'strict = true'
-        yield f'platform = {json.dumps(head.platform)}'
-        yield f'bundled = {json.dumps(head.bundled)}'
+            yield "strict = true"
+        yield f"platform = {json.dumps(head.platform)}"
+        yield f"bundled = {json.dumps(head.bundled)}"
 
 
 def lists_text(tables: Tables, device_keys: bool = READS_DEVICE_KEYS) -> str:
     """The whole form. Without `device_keys` nothing of those keys is written."""
     blocks = [head_lines(tables, device_keys)]
     blocks += [class_lines(entry) for entry in upward(tables.classes)]
-    blocks += [iter(['[[shared]]', f'name = {text(name)}', f'class = {text(owner)}'])
+    blocks += [iter(["[[shared]]", f"name = {text(name)}", f"class = {text(owner)}"])
                for name, owner in tables.head.shared.items()]
     blocks += [method_lines(row, device_keys) for row in tables.methods]
     blocks += [callback_lines(row) for row in tables.callbacks]
     blocks += [static_lines(row) for row in tables.statics] if device_keys else []
-    return TITLE + '\n'.join('\n'.join(block) + '\n' for block in blocks)
+    return TITLE + "\n".join("\n".join(block) + "\n" for block in blocks)
 
 
 def not_carried(tables: Tables) -> list[str]:
@@ -137,7 +137,7 @@ def not_carried(tables: Tables) -> list[str]:
     if READS_DEVICE_KEYS:
         return []
     handed = sum(row.effects.result is Result.HANDED for row in tables.methods)
-    told = [(tables.head.strict, 'strict'), (len(tables.statics), f'{len(tables.statics)} static fields'),
-            (handed, f'{handed} results that were handed (they are blank)'),
-            (len(tables.head.platform) + len(tables.head.bundled), 'the prefixes of platform and bundled')]
+    told = [(tables.head.strict, "strict"), (len(tables.statics), f"{len(tables.statics)} static fields"),
+            (handed, f"{handed} results that were handed (they are blank)"),
+            (len(tables.head.platform) + len(tables.head.bundled), "the prefixes of platform and bundled")]
     return [words for count, words in told if count]
