@@ -5,7 +5,7 @@ import unittest
 from pathlib import Path
 from typing import Iterator
 
-from vet_tools.certificate import Certificate, CertificateFault, Kind, Node, node_of
+from vet_tools.certificate import Certificate, CertificateFault, Kind, NoCertificate, Node, node_of
 
 CASES = Path(__file__).resolve().parents[2] / "crates" / "cert_cases" / "data"
 
@@ -64,9 +64,9 @@ class Reading(unittest.TestCase):
         self.assertEqual(rest, (1,))
 
     def test_a_file_that_is_not_there_is_said_in_one_sentence(self) -> None:
-        with self.assertRaises(CertificateFault) as told:
+        with self.assertRaises(NoCertificate) as told:
             Certificate.read("/nowhere/at/all.cert")
-        self.assertIn("could not be read (No such file or directory)", told.exception.reason)
+        self.assertIn("could not be read (No such file or directory)", str(told.exception))
 
 
 if __name__ == "__main__":

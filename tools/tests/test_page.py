@@ -153,6 +153,14 @@ class Written(ToolCase):
         self.assertEqual((done.returncode, report.read_text()), (70, "clear\n"))
         self.assertIn("is a file that is read; name another file after -o.", done.stderr)
 
+    def test_a_certificate_that_cannot_be_read_is_not_called_refused(self) -> None:
+        self.answer("declared", 0, "clear\n")
+        path = self.folder / "app.html"
+        done = self.run_tool("page", str(EXAMPLES / "declared"), "-o", str(path), "--certificate", "no.cert")
+        self.assertEqual((done.returncode, path.exists()), (70, False))
+        self.assertEqual(done.stderr, "tools/page: The certificate 'no.cert' could not be read (No such file or "
+                         "directory); ./vet certify makes one.\n")
+
     def test_where_there_is_no_report_the_old_page_stays(self) -> None:
         path = self.folder / "app.html"
         path.write_text("old")

@@ -100,7 +100,7 @@ _REFUSALS: list[tuple[str, Mend]] = [
                     "See the key's limits in FORMATS.md.")),
     ("twice ", Mend("The name stands a second time.", "Remove one.")),
     ("magic", Mend("The file does not begin as a DEX file of version 035.",
-                   "Build with a min-api that gives version 035.")),
+                   "Build with a min-api below 24, which gives version 035.")),
     ("header ", Mend("The header's FIELD is not what the file's format asks for; file_size often means that the file "
                      "was cut.", "Build or copy the file anew.")),
     ("outside at ", Mend("The item at byte N goes beyond the file.", "Build anew.")),

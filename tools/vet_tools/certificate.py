@@ -26,6 +26,10 @@ class CertificateFault(Exception):
         self.reason = reason
 
 
+class NoCertificate(Exception):
+    """The file could not be read, so that nothing is said of a certificate; the text is one sentence."""
+
+
 class Kind(IntEnum):
     """The kinds of rows."""
     REACHED = 1
@@ -177,14 +181,15 @@ class Certificate:
 
     @staticmethod
     def read(path: str) -> Certificate:
-        """A certificate from a file. Raises `CertificateFault`; a file that can't be read has the reason `absent`."""
+        """A certificate from a file. Raises `CertificateFault`, and `NoCertificate` where the file can't be read."""
         file = Path(path)
         try:
             if file.stat().st_size > LONGEST:
                 raise CertificateFault(f"longer than {LONGEST}")
             return Certificate(file.read_bytes())
         except OSError as fault:
-            raise CertificateFault(f"the file {in_quotes(path)} could not be read ({fault.strerror})") from None
+            raise NoCertificate(f"The certificate {in_quotes(path)} could not be read ({fault.strerror}); "
+                                "./vet certify makes one.") from None
 
     def rows(self) -> Iterator[Flat]:
         """All rows in their order, each as its kind and the numbers of its fields. Raises `CertificateFault`."""

@@ -10,7 +10,8 @@ from dataclasses import dataclass, field
 from pathlib import Path
 
 from vet_tools import forms, report
-from vet_tools.certificate import Certificate, CertificateFault, ContextKind, Flat, Kind, Node, node_of
+from vet_tools.certificate import (Certificate, CertificateFault, ContextKind, Flat, Kind, NoCertificate, Node,
+                                   node_of)
 from vet_tools.command import NO_COMMAND, Words, refuse
 from vet_tools.dex_code import DexCode, DexFault, Method
 from vet_tools.forms import Component, FormFault, Lists, Manifest
@@ -249,7 +250,7 @@ def main(arguments: list[str] | None = None) -> int:
     except CertificateFault as fault:
         return refuse("tools/coverage", ReportFault(f"certificate refused: {fault.reason}; docs/REPORT.md says what "
                                                     "to do (\"A refused certificate\")."))
-    except (ReportFault, CoverageFault, DexFault, FormFault) as fault:
+    except (ReportFault, NoCertificate, CoverageFault, DexFault, FormFault) as fault:
         return refuse("tools/coverage", fault)
     sys.stdout.write("".join(f"{method}\n" for method in found.unreached) if words.unreached else text(found))
     return 0

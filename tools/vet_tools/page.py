@@ -16,7 +16,7 @@ from pathlib import Path
 
 from vet_tools import advice, forms, report
 from vet_tools.advice import Advice
-from vet_tools.certificate import Certificate, CertificateFault
+from vet_tools.certificate import Certificate, CertificateFault, NoCertificate
 from vet_tools.command import STATUSES, Words, add_folder, refuse, report_of, write
 from vet_tools.coverage import CAUSES, Coverage, CoverageFault, Places, coverage, percent
 from vet_tools.dex_code import DexFault
@@ -30,6 +30,7 @@ from vet_tools.shown import counted, in_quotes
 STYLE = Path(__file__).with_name("page.css")
 BEFORE, AFTER = 5, 2
 NAME = ' class="name"'
+SHORT = ("kind", "category")  # columns of single words, which are not broken
 SIGNS = {Outcome.CLEAR: "\u2713", Outcome.FLAGGED: "\u2691", Outcome.UNDECIDED: "?", Outcome.REFUSED: "\u2715"}
 
 
@@ -156,6 +157,8 @@ def _rows(found: Explanation) -> str:
 def _table(caption: str, heads: list[str], lines: list[list[str]], numbers: int = 0) -> str:
     """A table; the last `numbers` columns are numbers. Cells are texts."""
     def kind(at: int, plain: str) -> str:
+        if heads[at] in SHORT:
+            return ' class="short"'
         return ' class="number"' if at >= len(heads) - numbers else plain
     head = "".join(f'<th scope="col"{kind(at, "")}>{escape(one)}</th>' for at, one in enumerate(heads))
     body = "".join("<tr>" + "".join(f'<td{kind(at, NAME)} data-head="{escape(heads[at])}">{escape(cell)}</td>'
@@ -252,7 +255,10 @@ base-uri 'none'; form-action 'none'">
 
 
 def subject_of(words: argparse.Namespace) -> Subject:
-    """Asks vet, and counts what was reached by a certificate that is given or made. Raises as `report_of` does."""
+    """Asks vet, and counts what was reached by a certificate that is given or made.
+
+    Raises as `report_of` does, and `NoCertificate` where the one that is given can't be read.
+    """
     if words.report or words.certificate:
         one, folder = report_of(words)
         reached, why = _reached(folder, words.certificate) if words.certificate else (
@@ -270,7 +276,7 @@ def subject_of(words: argparse.Namespace) -> Subject:
 
 
 def _reached(folder: Path, path: str) -> tuple[Coverage | None, str]:
-    """What was reached by the certificate at this path, or why that is not known."""
+    """What was reached by the certificate at this path, or why that is not known. Raises `NoCertificate`."""
     try:
         return coverage(folder, Certificate.read(path)), ""
     except CertificateFault as fault:
@@ -308,7 +314,7 @@ def main(arguments: list[str] | None = None) -> int:
     try:
         subject = subject_of(words)
         write(Path(words.output), html(subject), Path(words.folder), (words.certificate, words.report))
-    except (ReportFault, NoReport) as fault:
+    except (ReportFault, NoReport, NoCertificate) as fault:
         return refuse("tools/page", fault)
     print(f"{subject.found.report.first_line}; the page is in {in_quotes(words.output)}", file=sys.stderr)
     return subject.found.report.outcome.status

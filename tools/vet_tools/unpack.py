@@ -98,7 +98,7 @@ def not_carried(app: App) -> list[str]:
         found = apk_archive.version(raw)
         if found != apk_archive.READ:
             said.append(f"{name} has version {found}, and the program reads {apk_archive.READ} alone: it will refuse "
-                        "this app; build it with a lower min-api")
+                        "this app; build it with a min-api below 24")
     if not device_keys.READS_DEVICE_KEYS:
         said += _some([f"the class {shown(name)}, which is named by {shown_place(where)}"
                        for name, where in app.named.items()])
