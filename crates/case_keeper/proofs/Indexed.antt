@@ -16,7 +16,7 @@ use Rattle.case_rules.specs.declared.case.Case.{Case}
 use Rattle.case_rules.specs.Cases.{same, name_cmp, is_named, is_of, has_open_appeal, amended, queued_of}
 use Rattle.std.specs.BTreeSet.{contains}
 use Rattle.case_keeper.specs.declared.placing.CaseIndex.{CaseIndex}
-use Rattle.case_keeper.specs.MemoryKeeper.{Places, Owned, owned_by, waiting_for, places_from, IsIndex, NotesChange, SameNotes, is_open_case}
+use Rattle.case_keeper.specs.MemoryKeeper.{Places, Owned, owned_by, waiting_for, places_from, IsIndex, Notes, Adds, NotesChange, SameNotes, is_open_case}
 use Rattle.case_keeper.proofs.Placed.{index_added, index_amended, places_added, places_amended, amended_at}
 use Rattle.case_keeper.proofs.Leaving.{Leaves}
 use Rattle.case_keeper.proofs.Counting.{queued_added, queued_amended, waits_new}
@@ -46,24 +46,6 @@ missing cases case party reference none named =
     index_missed (is_named party reference) cases
     (subst (λ (r : List ℕ). find (is_named party r) cases ≡ None) (same_equal case.reference reference parts.1)
     (subst (λ (p : List ℕ). find (is_named p case.reference) cases ≡ None) (same_equal case.party party parts.0) none))
-
-abbrev pub Notes : Places → Places → Case → Option ℕ → Type 0
-Notes old new case place = (party reference : List ℕ)
-    → get name_cmp new (party, reference)
-    ≡ cond (is_at (name_cmp (case.party, case.reference)) (party, reference)) place
-    (get name_cmp old (party, reference))
-
-abbrev pub Owns : Owned → Owned → Case → ℕ → Type 0
-Owns old new case place = (party : List ℕ)
-    → owned_by new party ≡ cond (same case.party party) (owned_by old party ++ place ∷ []) (owned_by old party)
-
--- a case is added: its name is noted, its place and that it waits
-pub record Adds (before after : CaseIndex) (case : Case) (place : ℕ) : Type 0 where
-  pub notes : Notes before.places after.places case (Some place)
-  pub owns : Owns before.owned after.owned case place
-  pub waiting : (party : List ℕ) → waiting_for after.waiting party
-      ≡ cond (same case.party party) (waiting_for before.waiting case.party + 1) (waiting_for before.waiting party)
-  pub appealed : (place : ℕ) → contains nat_cmp after.appealed place ≡ contains nat_cmp before.appealed place
 
 pub index_grows : (cases : List Case) (before after : CaseIndex) (case : Case) (place : ℕ) → IsIndex cases before
     → find (is_named case.party case.reference) cases ≡ None → case.entries ≡ [] → place ≡ length cases
@@ -115,42 +97,41 @@ index_grows cases before after case place index none new end adds = record {
         ∙ ap (λ (n : ℕ). n + 1) (index.waiting party)
     by_count party false is = omega (arith, index.waiting party)
 
--- the name was noted and taken out again
-pub index_returns : (cases : List Case) (before after : CaseIndex) (noted : Places) (case : Case) (place : ℕ)
-    → IsIndex cases before → find (is_named case.party case.reference) cases ≡ None
-    → Notes before.places noted case (Some place) → Notes noted after.places case None
-    → ((party : List ℕ) → owned_by after.owned party ≡ owned_by before.owned party)
-    → ((party : List ℕ) → waiting_for after.waiting party ≡ waiting_for before.waiting party)
-    → ((place : ℕ) → contains nat_cmp after.appealed place ≡ contains nat_cmp before.appealed place)
-    → IsIndex cases after
-index_returns cases before after noted case place index none notes forgets same_owned same_waiting same_appealed =
-    record {
-      named = λ party reference. forgets party reference ∙ by_name party reference (is_named party reference case) refl;
-      own = λ party. same_owned party ∙ index.own party;
-      waiting = λ party. same_waiting party ∙ index.waiting party;
-      open_places = λ place. same_appealed place ∙ index.open_places place;
-    }
+-- the new name was noted and taken out again
+pub forgotten : (old noted new : Places) (case : Case) (place : ℕ)
+    → get name_cmp old (case.party, case.reference) ≡ None
+    → Notes old noted case (Some place) → Notes noted new case None
+    → (name : List ℕ × List ℕ) → get name_cmp new name ≡ get name_cmp old name
+forgotten old noted new case place none notes forgets name =
+    forgets name.0 name.1 ∙ by_name (is_named name.0 name.1 case) refl
   where
-    by_name : (party reference : List ℕ) (t : Bool) → t ≡ is_named party reference case
-        → cond (is_at (name_cmp (case.party, case.reference)) (party, reference)) None
-        (get name_cmp noted (party, reference))
-        ≡ first_index (is_named party reference) cases
-    by_name party reference true is =
-        ap (λ (b : Bool). cond b None (get name_cmp noted (party, reference))) (tie case party reference ∙ sym is)
-        ∙ sym (missing cases case party reference none (sym is))
-    by_name party reference false is =
-        ap (λ (b : Bool). cond b None (get name_cmp noted (party, reference))) (tie case party reference ∙ sym is)
-        ∙ notes party reference
-        ∙ ap (λ (b : Bool). cond b (Some place) (get name_cmp before.places (party, reference)))
-        (tie case party reference ∙ sym is)
-        ∙ index.named party reference
+    by_name : (t : Bool) → t ≡ is_named name.0 name.1 case
+        → cond (is_at (name_cmp (case.party, case.reference)) name) None (get name_cmp noted name)
+        ≡ get name_cmp old name
+    by_name true is =
+        let parts = and_parts (same case.party name.0) (same case.reference name.1) (sym is) in
+        ap (λ (b : Bool). cond b None (get name_cmp noted name)) (tie case name.0 name.1 ∙ sym is)
+        ∙ sym (subst (λ (r : List ℕ). get name_cmp old (name.0, r) ≡ None)
+        (same_equal case.reference name.1 parts.1)
+        (subst (λ (p : List ℕ). get name_cmp old (p, case.reference) ≡ None) (same_equal case.party name.0 parts.0)
+        none))
+    by_name false is =
+        ap (λ (b : Bool). cond b None (get name_cmp noted name)) (tie case name.0 name.1 ∙ sym is)
+        ∙ notes name.0 name.1
+        ∙ ap (λ (b : Bool). cond b (Some place) (get name_cmp old name)) (tie case name.0 name.1 ∙ sym is)
+
+-- no place is noted for a new name
+pub unnoted_name : (cases : List Case) (index : CaseIndex) (case : Case) → IsIndex cases index
+    → find (is_named case.party case.reference) cases ≡ None
+    → get name_cmp index.places (case.party, case.reference) ≡ None
+unnoted_name cases index case held none =
+    held.named case.party case.reference ∙ index_missed (is_named case.party case.reference) cases none
 
 pub index_stays : (cases : List Case) (before after : CaseIndex) → IsIndex cases before → SameNotes before after
     → IsIndex cases after
 index_stays cases before after index same_notes = record {
-  named = λ party reference. ap (λ (m : Places). get name_cmp m (party, reference)) same_notes.places
-      ∙ index.named party reference;
-  own = λ party. ap (λ (m : Owned). owned_by m party) same_notes.owned ∙ index.own party;
+  named = λ party reference. same_notes.places (party, reference) ∙ index.named party reference;
+  own = λ party. same_notes.owned party ∙ index.own party;
   waiting = λ party. same_notes.waiting party ∙ index.waiting party;
   open_places = λ place. same_notes.open_places place ∙ index.open_places place;
 }
@@ -178,11 +159,11 @@ index_changes test f cases before after place old leaves index first found read 
       ∙ ap (λ (xs : List Case). is_open_case (slice_get xs other)) (amended_at test f cases place old first read);
 }
 
-pub notes_name : (old new : Places) (case : Case) (place : Option ℕ) (party reference : List ℕ) → party ≡ case.party
-    → reference ≡ case.reference
-    → ((name : List ℕ × List ℕ) → get name_cmp new name
-    ≡ cond (is_at (name_cmp (party, reference)) name) place (get name_cmp old name)) → Notes old new case place
-notes_name old new case place party reference p r writes = λ q s.
-    writes (q, s)
-    ∙ ap (λ (x : List ℕ). cond (is_at (name_cmp (x, reference)) (q, s)) place (get name_cmp old (q, s))) p
-    ∙ ap (λ (x : List ℕ). cond (is_at (name_cmp (case.party, x)) (q, s)) place (get name_cmp old (q, s))) r
+pub notes_name : (old new : Places) (case : Case) (place : Option ℕ) (name : List ℕ × List ℕ)
+    → name ≡ (case.party, case.reference)
+    → ((other : List ℕ × List ℕ) → get name_cmp new other
+    ≡ cond (is_at (name_cmp name) other) place (get name_cmp old other)) → Notes old new case place
+notes_name old new case place name is writes = λ party reference.
+    writes (party, reference)
+    ∙ ap (λ (n : List ℕ × List ℕ). cond (is_at (name_cmp n) (party, reference)) place
+    (get name_cmp old (party, reference))) is

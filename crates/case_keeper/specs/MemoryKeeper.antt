@@ -1,16 +1,16 @@
 -- A keeper in memory: what it keeps, how it finds it, and at which calls it fails.
-use Rattle.std.specs.Prelude.{◌≡◌, ℕ, ◌+◌, ◌==◌, ◌≤◌, length, min, Bool, true, false, List, [], ◌∷◌, Option, Some, None, Result, Ok, Err, Vec, unwrap_or, ◌&&◌, if◌then◌else◌}
+use Rattle.std.specs.Prelude.{◌≡◌, ℕ, ◌+◌, ◌==◌, ◌≤◌, length, min, Bool, true, false, List, [], ◌∷◌, ◌++◌, Option, Some, None, Result, Ok, Err, Vec, unwrap_or, ◌&&◌, if◌then◌else◌}
 use Rattle.std.specs.List.{list_any, filter_map, slice_get, AllWithin}
 use Rattle.std.specs.Ordering.{nat_cmp}
 use Rattle.std.specs.Cmp.Lexicographic.{slice_cmp}
-use Rattle.std.specs.BTreeMap.{BTreeMap, get}
+use Rattle.std.specs.BTreeMap.{BTreeMap, get, is_at}
 use Rattle.std.specs.BTreeSet.{contains}
 use Rattle.std.specs.declared.alloc.Global.{Global}
 use Rattle.vet_base.specs.Members.{first_index}
 use Rattle.case_rules.specs.declared.case.Case.{Case}
 use Rattle.case_rules.specs.declared.reply.Change.{Change}
 use Rattle.case_rules.specs.declared.reply.Change.TheVariants as changes
-use Rattle.case_rules.specs.Cases.{name_cmp, is_named, is_of, is_queued, queued_of, has_open_appeal, with_entry, with_appeal, with_ruling}
+use Rattle.case_rules.specs.Cases.{name_cmp, same, is_named, is_of, is_queued, queued_of, has_open_appeal, with_entry, with_appeal, with_ruling}
 use Rattle.case_keeper.specs.declared.placing.CaseIndex.{CaseIndex}
 use Rattle.case_keeper.specs.declared.keeper.KeepFault.{KeepFault}
 use Rattle.case_keeper.specs.declared.keeper.KeepFault.TheVariants.{Failed, Memory}
@@ -82,6 +82,26 @@ pub record IsIndex (cases : List Case) (index : CaseIndex) : Type 0 where
   pub waiting : (party : List ℕ) → waiting_for index.waiting party ≡ queued_of party cases
   pub open_places : (place : ℕ) → contains nat_cmp index.appealed place ≡ is_open_case (slice_get cases place)
 
+-- the name of the case leads to the place, or to none, and any other name where it led before
+abbrev pub Notes : Places → Places → Case → Option ℕ → Type 0
+Notes old new case place = (party reference : List ℕ)
+    → get name_cmp new (party, reference)
+    ≡ (if is_at (name_cmp (case.party, case.reference)) (party, reference) then place
+    else get name_cmp old (party, reference))
+
+-- the developer of the case has the place behind the others
+abbrev pub Owns : Owned → Owned → Case → ℕ → Type 0
+Owns old new case place = (party : List ℕ)
+    → owned_by new party ≡ (if same case.party party then owned_by old party ++ place ∷ [] else owned_by old party)
+
+-- a case is added: its name is noted, its place and that it waits
+pub record Adds (before after : CaseIndex) (case : Case) (place : ℕ) : Type 0 where
+  pub notes : Notes before.places after.places case (Some place)
+  pub owns : Owns before.owned after.owned case place
+  pub waiting : (party : List ℕ) → waiting_for after.waiting party
+      ≡ (if same case.party party then waiting_for before.waiting case.party + 1 else waiting_for before.waiting party)
+  pub appealed : (place : ℕ) → contains nat_cmp after.appealed place ≡ contains nat_cmp before.appealed place
+
 -- 1 where the developer has the case and it is queued, else 0
 abbrev pub waits : List ℕ → Case → ℕ
 waits party case = if is_of party case && is_queued case then 1 else 0
@@ -97,8 +117,8 @@ pub record NotesChange (before after : CaseIndex) (place : ℕ) (old new : Case)
 
 -- the same is noted
 pub record SameNotes (before after : CaseIndex) : Type 0 where
-  pub places : after.places ≡ before.places
-  pub owned : after.owned ≡ before.owned
+  pub places : (name : List ℕ × List ℕ) → get name_cmp after.places name ≡ get name_cmp before.places name
+  pub owned : (party : List ℕ) → owned_by after.owned party ≡ owned_by before.owned party
   pub waiting : (party : List ℕ) → waiting_for after.waiting party ≡ waiting_for before.waiting party
   pub open_places : (other : ℕ) → contains nat_cmp after.appealed other ≡ contains nat_cmp before.appealed other
 

@@ -17,15 +17,14 @@ fn entries_of(alloc: Global, entries: &[Entry]) -> Result<Vec<Entry>, Memory>
     Ok(copies)
 }
 
+/// The case with these entries in place of its own.
 fn case_with(alloc: Global, case: &Case, entries: Vec<Entry>) -> Result<Case, Memory>
     ensures { IfOk result (λ new. new ≡ record case.now { entries = entries.items }) }
 {
-    Ok(Case {
-        party: case.party.copy()?,
-        reference: case.reference.copy()?,
-        content: case.content.copy()?,
-        entries: Shared::from_vec(alloc, entries)?,
-    })
+    let entries = Shared::from_vec(alloc, entries)?;
+    let mut new = case.copy()?;
+    new.entries = entries;
+    Ok(new)
 }
 
 /// The case with the decision as one entry more.
@@ -44,10 +43,11 @@ fn decided(alloc: Global, case: &Case, decision: &Decision) -> Result<Case, Memo
 fn appeal_last(entries: &mut Vec<Entry>, appeal: &Appeal) -> Result<(), Memory>
     ensures { OnOk result (entries.new.items ≡ change_last (appeal_entry appeal.now) entries.old.items) }
 {
+    let appeal = appeal.copy()?;
     match entries.pop() {
         None => Ok(()),
         Some(mut entry) => {
-            entry.appeal = Some(appeal.copy()?);
+            entry.appeal = Some(appeal);
             entries.push(entry)?;
             Ok(())
         }
@@ -66,10 +66,11 @@ fn appealed(alloc: Global, case: &Case, appeal: &Appeal) -> Result<Case, Memory>
 fn rule_last(entries: &mut Vec<Entry>, ruling: &Ruling) -> Result<(), Memory>
     ensures { OnOk result (entries.new.items ≡ change_last (rule_entry ruling.now) entries.old.items) }
 {
+    let ruling = ruling.copy()?;
     match entries.pop() {
         None => Ok(()),
         Some(mut entry) => {
-            entry.ruling = Some(ruling.copy()?);
+            entry.ruling = Some(ruling);
             entries.push(entry)?;
             Ok(())
         }

@@ -1,14 +1,16 @@
-ghost use Rattle.std.specs.Prelude.{◌≡◌, ◌≤◌, ◌<◌, ◌+◌, ◌==◌, ℕ, List, ◌++◌, ◌∷◌, [], None, true, false, Bool, find, is_some, length, vec_len, IfOk, OnOk, OnErr, slice_index_or, if◌then◌else◌, ◌&&◌};
+ghost use Rattle.std.specs.Prelude.{◌≡◌, ◌≤◌, ◌<◌, ◌+◌, ◌==◌, ℕ, List, ◌++◌, ◌∷◌, [], None, Some, true, false, Bool, find, is_some, length, vec_len, IfOk, OnOk, OnErr, slice_index_or, if◌then◌else◌, ◌&&◌};
 ghost use Rattle.std.specs.Ordering.{nat_cmp};
 ghost use Rattle.std.specs.List.{slice_get, AllWithin};
 ghost use Rattle.std.specs.Option.{option_copied, option_and_then};
 ghost use Rattle.std.specs.BTreeMap.{get};
 ghost use Rattle.std.specs.BTreeSet.{contains};
 ghost use Rattle.case_rules.specs.Cases.{name_cmp, is_named, is_of, is_queued, has_open_appeal, amended};
-ghost use Rattle.case_keeper.specs.MemoryKeeper.{IsIndex, IsPast, NotesChange, SameNotes, amended_by, waiting_for};
+ghost use Rattle.case_keeper.specs.MemoryKeeper.{IsIndex, IsPast, Adds, Notes, NotesChange, Owns, SameNotes, amended_by, owned_by, waiting_for};
 
 use crate::amending::amended;
-use crate::placing::{Appealed, CaseIndex, Places, note_waiting, own, place_of, waiting_of};
+use crate::placing::{
+    Appealed, CaseIndex, Owned, Places, name_of, note_waiting, own, place_of, waiting_of,
+};
 use case_rules::{Case, Change};
 use std::alloc::Global;
 use vet_base::{Memory, Name};
@@ -52,6 +54,47 @@ pub fn first_queued_from(cases: &[Case], from: usize) -> usize
     cases.len()
 }
 
+/// Notes the place of a case of a new name, for the name and for the developer. After want of memory all is noted as
+/// before.
+fn note_place(
+    alloc: Global,
+    places: &mut Places,
+    owned: &mut Owned,
+    case: &Case,
+    place: usize,
+) -> Result<(), Memory>
+    requires { get name_cmp places.old (case.now.party, case.now.reference) ≡ None }
+    ensures named { OnOk result (Notes places.old places.new case.now (Some place)) }
+    ensures owned { OnOk result (Owns owned.old owned.new case.now place) }
+    ensures forgotten { OnErr result ((name : List ℕ × List ℕ)
+        → get name_cmp places.new name ≡ get name_cmp places.old name) }
+    ensures left { OnErr result ((party : List ℕ) → owned_by owned.new party ≡ owned_by owned.old party) }
+{
+    let name = name_of(&case.party, &case.reference)?;
+    let again = name_of(&case.party, &case.reference)?;
+    places.insert(name, place)?;
+    if let Err(memory) = own(alloc, owned, &case.party, place) {
+        places.remove(&again);
+        return Err(memory);
+    }
+    Ok(())
+}
+
+/// Notes a case of a new name that waits. After want of memory all is noted as before.
+fn note_added(alloc: Global, index: &mut CaseIndex, case: &Case, place: usize) -> Result<(), Memory>
+    requires new { get name_cmp index.old.places (case.now.party, case.now.reference) ≡ None }
+    requires countable { waiting_for index.old.waiting case.now.party < 18446744073709551615 }
+    ensures ok { OnOk result (Adds index.old index.new case.now place) }
+    ensures err { OnErr result (SameNotes index.old index.new) }
+{
+    let waiting = waiting_of(&index.waiting, &case.party);
+    let owner = case.party.copy()?;
+    note_waiting(&mut index.waiting, case.party.copy()?, waiting)?;
+    note_place(alloc, &mut index.places, &mut index.owned, case, place)?;
+    note_waiting(&mut index.waiting, owner, waiting + 1).unwrap();
+    Ok(())
+}
+
 /// Adds a case without entries whose name is new. After want of memory the cases are as before.
 pub fn add(
     alloc: Global,
@@ -67,19 +110,9 @@ pub fn add(
     ensures index { IsIndex cases.new.items index.new }
 {
     let place = cases.len();
-    let name = (case.party.copy()?, case.reference.copy()?);
-    let again = (case.party.copy()?, case.reference.copy()?);
-    let owner = case.party.copy()?;
     let added = case.copy()?;
     cases.reserve(1)?;
-    let waiting = waiting_of(&index.waiting, &case.party);
-    note_waiting(&mut index.waiting, case.party.copy()?, waiting)?;
-    index.places.insert(name, place)?;
-    if let Err(memory) = own(alloc, &mut index.owned, &case.party, place) {
-        index.places.remove(&again);
-        return Err(memory);
-    }
-    note_waiting(&mut index.waiting, owner, waiting + 1).unwrap();
+    note_added(alloc, index, case, place)?;
     cases.push(added).unwrap();
     Ok(())
 }

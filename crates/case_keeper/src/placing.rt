@@ -30,11 +30,18 @@ pub struct CaseIndex {
     pub appealed: Appealed,
 }
 
+/// A key of the places, which owns its names.
+pub fn name_of(party: &Name, reference: &Name) -> Result<(Name, Name), Memory>
+    ensures { IfOk result (λ name. name ≡ (party.now, reference.now)) }
+{
+    Ok((party.copy()?, reference.copy()?))
+}
+
 /// The place of the case of this name.
 pub fn place_of(places: &Places, party: &Name, reference: &Name) -> Result<Option<usize>, Memory>
     ensures { IfOk result (λ place. place ≡ get name_cmp places.now (party.now, reference.now)) }
 {
-    let name = (party.copy()?, reference.copy()?);
+    let name = name_of(party, reference)?;
     Ok(places.get(&name).copied())
 }
 

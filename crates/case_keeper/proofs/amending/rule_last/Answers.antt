@@ -8,6 +8,6 @@ pub returns-in_ok-push-in-Some : goal.returns-in_ok-push-in-Some
 returns-in_ok-push-in-Some c =
     let front = c.pop.new.self.items in
     c.in_ok-push-in-Some.ensures.items
-    ∙ ap (λ (x : Ruling). front ++ rule_entry x c.in-Some.entry ∷ []) c.in_ok-copy-in-Some.ensures
+    ∙ ap (λ (x : Ruling). front ++ rule_entry x c.in-Some.entry ∷ []) c.in_ok-ruling.ensures
     ∙ changed_at_end
     (rule_entry c.args.ruling.now) front c.args.entries.now.items c.in-Some.entry c.in-Some.ensures.items
