@@ -16,6 +16,7 @@ use Rattle.serde_json.proofs.OnLiterals.{serde_json_on_literals}
 use Rattle.std.specs.Char.{encode_utf8}
 use Rattle.std.specs.Str.{is_utf8, chars}
 use Rattle.http_witness.specs.Fields.{FieldsTell}
+use Rattle.http_witness.specs.Links.{LinksTell}
 use Rattle.http_witness.specs.Replies.{RepliesTell}
 use Rattle.http_witness.specs.Turns.{TurnsTell}
 
@@ -58,4 +59,18 @@ replies_tell = record {
   whole_body = refl;
   nothing_written = λ h. let clash : 72 ∷ [] ≡ [] = ap written_by h in cc;
   not_risen = λ h. omega (arith, h);
+}
+
+pub links_tell : LinksTell
+links_tell = record {
+  kept = refl;
+  begun = refl;
+  missed = refl;
+  failure = refl;
+  succeeds = refl;
+  piece = refl;
+  read = refl;
+  written = refl;
+  second = refl;
+  day = λ h. let clash : 0 ≡ 5 = h in cc;
 }

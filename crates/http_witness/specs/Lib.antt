@@ -1,4 +1,5 @@
 pub mod Fields
+pub mod Links
 pub mod Replies
 pub mod Requests
 pub mod Turns

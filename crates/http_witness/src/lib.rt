@@ -1,11 +1,17 @@
-//! Small facts that show that the definitions of requests and replies mean what they should. Each is a
+//! Small facts that show that the definitions of links, requests and replies mean what they should. Each is a
 //! theorem over the definitions alone, so that a slip in a definition shows.
 #![tactic(auto)]
 
 ghost use Rattle.http_witness.specs.Fields.{FieldsTell};
+ghost use Rattle.http_witness.specs.Links.{LinksTell};
 ghost use Rattle.http_witness.specs.Replies.{RepliesTell};
 ghost use Rattle.http_witness.specs.Requests.{RequestsTell};
 ghost use Rattle.http_witness.specs.Turns.{TurnsTell};
+
+/// What links, doors and clocks tell of calls.
+pub fn the_links_tell()
+    ensures { LinksTell }
+{}
 
 /// Which length the fields of a head announce.
 pub fn the_fields_tell()
