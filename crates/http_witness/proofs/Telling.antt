@@ -1,5 +1,5 @@
 -- The facts hold by what the definitions say.
-use Rattle.std.proofs.Common.{◌≡◌, ℕ, List, [], ◌∷◌, Option, Some, None, refl, ap, arith}
+use Rattle.std.proofs.Common.{◌≡◌, ℕ, List, [], ◌∷◌, Option, Some, None, refl, ap, arith, lit<}
 use Rattle.desk_links.specs.Links.{Told}
 use Rattle.std.specs.Fmt.{digits}
 use Rattle.base64.proofs.OnLiterals.{base64_on_literals}
@@ -15,6 +15,7 @@ use Rattle.json.specs.Print.{escape_byte}
 use Rattle.serde_json.proofs.OnLiterals.{serde_json_on_literals}
 use Rattle.std.specs.Char.{encode_utf8}
 use Rattle.std.specs.Str.{is_utf8, chars}
+use Rattle.http_witness.specs.Calls.{CallsOwe}
 use Rattle.http_witness.specs.Fields.{FieldsTell}
 use Rattle.http_witness.specs.Links.{LinksTell}
 use Rattle.http_witness.specs.Replies.{RepliesTell}
@@ -73,4 +74,10 @@ links_tell = record {
   written = refl;
   second = refl;
   day = λ h. let clash : 0 ≡ 5 = h in cc;
+}
+
+pub calls_owe : CallsOwe
+calls_owe = record {
+  one_at_least = λ h. let some = h.some (lit< tt) in omega (arith, some);
+  no_more = λ h. omega (arith, h);
 }

@@ -2,6 +2,7 @@
 //! theorem over the definitions alone, so that a slip in a definition shows.
 #![tactic(auto)]
 
+ghost use Rattle.http_witness.specs.Calls.{CallsOwe};
 ghost use Rattle.http_witness.specs.Fields.{FieldsTell};
 ghost use Rattle.http_witness.specs.Links.{LinksTell};
 ghost use Rattle.http_witness.specs.Replies.{RepliesTell};
@@ -11,6 +12,11 @@ ghost use Rattle.http_witness.specs.Turns.{TurnsTell};
 /// What links, doors and clocks tell of calls.
 pub fn the_links_tell()
     ensures { LinksTell }
+{}
+
+/// What a call of a link owes, whatever it tells.
+pub fn the_calls_owe()
+    ensures { CallsOwe }
 {}
 
 /// Which length the fields of a head announce.
