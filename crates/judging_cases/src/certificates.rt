@@ -159,8 +159,8 @@ fn is_due<R: Files + Print + AllocGlobal + Threads + Wait + Sync>(
 ) -> io::Result<bool> {
     let alloc = rt.alloc();
     let (change, want) = case.split_once(": ").unwrap_or((case, ""));
-    let mut files = folder(rt, Some(changed(alloc, whole, other, change)?), 0)?;
-    let found = answer_to(rt, "recheck", &mut files)?;
+    let certificate = changed(alloc, whole, other, change)?;
+    let found = rechecked_with(rt, Some(certificate), 0)?;
     if found.as_str() == want {
         return Ok(true);
     }
@@ -185,26 +185,50 @@ fn rechecked<R: Files + Print + AllocGlobal + Threads + Wait + Sync>(
     println!(rt; "certificate_cases.txt: {due} answers that are due")
 }
 
+/// What `certify` answers where this call of the files fails, and whether it leaves a certificate.
+fn certified_failing<R: Files + AllocGlobal + Threads + Wait + Sync>(
+    rt: &R,
+    call: u64,
+) -> io::Result<String> {
+    let mut files = folder(rt, None, call)?;
+    let answer = answer_to(rt, "certify", &mut files)?;
+    let left = if certificate_in(&files).is_some() {
+        "a"
+    } else {
+        "no"
+    };
+    Ok(format!(in rt.alloc(); "{answer} with {left} certificate")?)
+}
+
+/// What `recheck` answers with this certificate where this call of the files fails.
+fn rechecked_with<R: Files + AllocGlobal + Threads + Wait + Sync>(
+    rt: &R,
+    certificate: Option<Vec<u8>>,
+    call: u64,
+) -> io::Result<String> {
+    let mut files = folder(rt, certificate, call)?;
+    Ok(answer_to(rt, "recheck", &mut files)?)
+}
+
+fn failing_at<R: Files + Print + AllocGlobal + Threads + Wait + Sync>(
+    rt: &R,
+    whole: &[u8],
+    call: u64,
+) -> io::Result<()> {
+    let certified = certified_failing(rt, call)?;
+    let rechecked = rechecked_with(rt, Some(whole.to_vec(rt.alloc())?), call)?;
+    println!(rt; "call {call} fails: {certified}, {rechecked}")
+}
+
 /// Prints what is answered where each call of the files fails in turn, and where a certificate is absent.
 fn failing<R: Files + Print + AllocGlobal + Threads + Wait + Sync>(
     rt: &R,
     whole: &[u8],
 ) -> io::Result<()> {
-    let alloc = rt.alloc();
     for call in 1..7 {
-        let mut files = folder(rt, None, call)?;
-        let certified = answer_to(rt, "certify", &mut files)?;
-        let left = if certificate_in(&files).is_some() {
-            "a"
-        } else {
-            "no"
-        };
-        let mut files = folder(rt, Some(whole.to_vec(alloc)?), call)?;
-        let rechecked = answer_to(rt, "recheck", &mut files)?;
-        println!(rt; "call {call} fails: {certified} with {left} certificate, {rechecked}")?;
+        failing_at(rt, whole, call)?;
     }
-    let mut files = folder(rt, None, 0)?;
-    let absent = answer_to(rt, "recheck", &mut files)?;
+    let absent = rechecked_with(rt, None, 0)?;
     println!(rt; "recheck without a certificate: {absent}")
 }
 

@@ -8,7 +8,7 @@ use app_index::{LibraryIndex, StaticReaders};
 use app_model::{App, Lists};
 use app_rules::AppRules;
 use cert_checker::{TableDefect, check};
-use fact_rows::{Row, Table};
+use fact_rows::{Kind, Row, Table};
 use hashed_rows::HashedRows;
 use rule_ground::Conclusion;
 use std::alloc::{AllocError, Global};
@@ -50,7 +50,7 @@ fn table_of(
 }
 
 /// Whether the checker says that a row which no table starts with is missing.
-fn is_missing(said: Result<(), TableDefect<Conclusion>>, row: &Row) -> bool {
+fn is_missing(said: &Result<(), TableDefect<Conclusion>>, row: &Row) -> bool {
     match said {
         Err(TableDefect::NotClosed(found)) => found.row == *row,
         _ => false,
@@ -64,7 +64,7 @@ fn missing(alloc: Global, rules: &AppRules, rows: &[Row]) -> Result<u64, AllocEr
     let mut missing = 0u64;
     for (place, row) in rows.iter().enumerate() {
         let table = table_of(alloc, rows, place, &[])?;
-        if is_missing(check(rules, &table), row) {
+        if is_missing(&check(rules, &table), row) {
             missing = missing.saturating_add(1);
         }
     }
@@ -83,7 +83,7 @@ fn say_of(
     requires { RulesReady rules.now.app.now rules.now.lists.now rules.now.starts }
 {
     let table = table_of(rt.alloc(), rows, without, more)?;
-    say(rt, what, check(rules, &table))
+    say(rt, what, &check(rules, &table))
 }
 
 /// The place of the start row, or the number of rows.
@@ -96,7 +96,7 @@ fn place_of_start(rows: &[Row]) -> usize {
 /// The place of the row that a node is reached, or the number of rows.
 fn place_of_reached(rows: &[Row]) -> usize {
     rows.iter()
-        .position(|row| matches!(row, Row::Reached(_)))
+        .position(|row| row.parts().kind == Kind::Reached)
         .unwrap_or(rows.len())
 }
 
@@ -154,11 +154,7 @@ pub fn say_tables(rt: &HostRuntime, app: &App, lists: &Lists) -> io::Result<()>
     requires app { SoundApp app.now }
     requires lists { SoundLists lists.now }
 {
-    let Ok(readers) = StaticReaders::of(rt.alloc(), app) else {
-        return println!(rt; "no memory");
-    };
-    let Ok(index) = LibraryIndex::of(rt.alloc(), lists) else {
-        return println!(rt; "no memory");
-    };
+    let readers = StaticReaders::of(rt.alloc(), app).map_err(want)?;
+    let index = LibraryIndex::of(rt.alloc(), lists).map_err(want)?;
     tables_by(rt, &readers, &index)
 }

@@ -108,11 +108,7 @@ pub fn say_times<R: Print + AllocGlobal + Clock + Threads + Wait + Sync>(
     requires app { SoundApp app.now }
     requires lists { SoundLists lists.now }
 {
-    let Ok(readers) = StaticReaders::of(rt.alloc(), app) else {
-        return println!(rt; "no memory");
-    };
-    let Ok(index) = LibraryIndex::of(rt.alloc(), lists) else {
-        return println!(rt; "no memory");
-    };
+    let readers = StaticReaders::of(rt.alloc(), app).map_err(want)?;
+    let index = LibraryIndex::of(rt.alloc(), lists).map_err(want)?;
     times_by(rt, &readers, &index, lists.rows)
 }
