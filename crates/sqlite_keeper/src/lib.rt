@@ -2,6 +2,7 @@
 #![tactic(auto)]
 
 mod changing;
+mod columns;
 mod counting;
 mod database;
 mod late_keeper;

@@ -1,44 +1,11 @@
 use crate::changing::text;
+use crate::columns::{Heading, InRow};
 use crate::refusal::Refusal;
-use crate::words::{outcome_of, ruling_of, state_of};
-use case_rules::{Appeal, Case, Content, Decision, Entry, Line, Ruling};
+use case_rules::{Case, Content, Entry, Line};
 use sqlite::types::ValueRef;
-use sqlite::{Alter, Connection, Row};
+use sqlite::{Alter, Connection, Rows};
 use std::alloc::Global;
 use vet_base::{Name, Shared};
-
-fn text_at(row: &Row, at: usize) -> Result<&[u8], Refusal> {
-    match row.get_ref(at)? {
-        ValueRef::Text(bytes) => Ok(bytes),
-        _ => Err(Refusal::Database),
-    }
-}
-
-fn name_at(alloc: Global, row: &Row, at: usize) -> Result<Name, Refusal> {
-    Ok(Name::from_bytes(alloc, text_at(row, at)?)?)
-}
-
-fn bytes_at(alloc: Global, row: &Row, at: usize) -> Result<Shared<u8>, Refusal> {
-    let bytes: Vec<u8> = row.get(at)?;
-    Ok(Shared::from_vec(alloc, bytes)?)
-}
-
-fn is_null(row: &Row, at: usize) -> Result<bool, Refusal> {
-    Ok(matches!(row.get_ref(at)?, ValueRef::Null))
-}
-
-/// The 32 bytes of an edition.
-fn lists_at(row: &Row, at: usize) -> Result<[u8; 32], Refusal> {
-    let ValueRef::Blob(bytes) = row.get_ref(at)? else {
-        return Err(Refusal::Database);
-    };
-    if bytes.len() != 32 {
-        return Err(Refusal::Database);
-    }
-    let mut lists = [0; 32];
-    lists.copy_from_slice(bytes);
-    Ok(lists)
-}
 
 /// The number of the case of this developer and reference, where there is one.
 pub fn number_named<S: Alter>(
@@ -87,33 +54,56 @@ pub fn count_queued<S: Alter>(
     Ok(row.get(0)?)
 }
 
-fn line_in(alloc: Global, row: &Row) -> Result<Line, Refusal> {
-    let Some(state) = state_of(text_at(row, 2)?) else {
-        return Err(Refusal::Database);
-    };
-    Ok(Line {
-        party: name_at(alloc, row, 0)?,
-        reference: name_at(alloc, row, 1)?,
-        state,
-    })
+/// Puts what the next row holds behind the others; whether there was one.
+fn push_next<S: Alter, T: InRow>(
+    alloc: Global,
+    rows: &mut Rows<'_, S>,
+    all: &mut Vec<T>,
+) -> Result<bool, Refusal> {
+    match rows.next()? {
+        None => Ok(false),
+        Some(row) => {
+            all.push(T::in_row(alloc, row)?)?;
+            Ok(true)
+        }
+    }
 }
 
-/// A line for each row of an answer of developers, references and states.
-fn lines_in<S: Alter>(
+fn push_rows<S: Alter, T: InRow>(
+    alloc: Global,
+    rows: &mut Rows<'_, S>,
+    all: &mut Vec<T>,
+) -> Result<(), Refusal> {
+    for _ in 0..u64::MAX {
+        if !push_next(alloc, rows, all)? {
+            break;
+        }
+    }
+    Ok(())
+}
+
+/// Puts what each row of an answer holds behind the others.
+fn push_answer<S: Alter, T: InRow>(
     alloc: Global,
     connection: &mut Connection<S>,
     query: &str,
     values: &[ValueRef<'_>],
-) -> Result<Shared<Line>, Refusal> {
-    let mut lines = Vec::new(alloc);
+    all: &mut Vec<T>,
+) -> Result<(), Refusal> {
     let mut rows = connection.query(query, values)?;
-    for _ in 0..u64::MAX {
-        let Some(row) = rows.next()? else {
-            break;
-        };
-        lines.push(line_in(alloc, row)?)?;
-    }
-    Ok(Shared::from_vec(alloc, lines)?)
+    push_rows(alloc, &mut rows, all)
+}
+
+/// What the rows of an answer hold, in their order.
+fn all_in<S: Alter, T: InRow>(
+    alloc: Global,
+    connection: &mut Connection<S>,
+    query: &str,
+    values: &[ValueRef<'_>],
+) -> Result<Shared<T>, Refusal> {
+    let mut all = Vec::new(alloc);
+    push_answer(alloc, connection, query, values, &mut all)?;
+    Ok(Shared::from_vec(alloc, all)?)
 }
 
 /// The cases of the developer, by reference.
@@ -122,7 +112,7 @@ pub fn lines_of<S: Alter>(
     connection: &mut Connection<S>,
     party: &Name,
 ) -> Result<Shared<Line>, Refusal> {
-    lines_in(
+    all_in(
         alloc,
         connection,
         "SELECT party, reference, state FROM states WHERE party = ?1 ORDER BY reference",
@@ -135,7 +125,7 @@ pub fn open_lines<S: Alter>(
     alloc: Global,
     connection: &mut Connection<S>,
 ) -> Result<Shared<Line>, Refusal> {
-    lines_in(
+    all_in(
         alloc,
         connection,
         "SELECT party, reference, state FROM states WHERE state = 'appealed' ORDER BY party, reference",
@@ -149,58 +139,12 @@ fn files_of<S: Alter>(
     connection: &mut Connection<S>,
     number: i64,
 ) -> Result<Shared<Shared<u8>>, Refusal> {
-    let mut files = Vec::new(alloc);
-    let mut rows = connection.query(
+    all_in(
+        alloc,
+        connection,
         "SELECT bytes FROM dex WHERE number = ?1 ORDER BY place",
         &[ValueRef::Int(number)],
-    )?;
-    for _ in 0..u64::MAX {
-        let Some(row) = rows.next()? else {
-            break;
-        };
-        files.push(bytes_at(alloc, row, 0)?)?;
-    }
-    Ok(Shared::from_vec(alloc, files)?)
-}
-
-/// The decision in columns 0 to 4.
-fn decision_in(alloc: Global, row: &Row) -> Result<Decision, Refusal> {
-    let Some(outcome) = outcome_of(text_at(row, 0)?) else {
-        return Err(Refusal::Database);
-    };
-    Ok(Decision {
-        outcome,
-        report: bytes_at(alloc, row, 1)?,
-        lists: lists_at(row, 2)?,
-        reviewer: name_at(alloc, row, 3)?,
-        day: row.get(4)?,
-    })
-}
-
-/// The appeal in columns 5 and 6, where there is one.
-fn appeal_in(alloc: Global, row: &Row) -> Result<Option<Appeal>, Refusal> {
-    if is_null(row, 5)? {
-        return Ok(None);
-    }
-    Ok(Some(Appeal {
-        day: row.get(5)?,
-        text: bytes_at(alloc, row, 6)?,
-    }))
-}
-
-/// The ruling in columns 7 to 9, where there is one.
-fn ruling_in(alloc: Global, row: &Row) -> Result<Option<Ruling>, Refusal> {
-    if is_null(row, 7)? {
-        return Ok(None);
-    }
-    let Some(word) = ruling_of(text_at(row, 9)?) else {
-        return Err(Refusal::Database);
-    };
-    Ok(Some(Ruling {
-        reviewer: name_at(alloc, row, 7)?,
-        day: row.get(8)?,
-        word,
-    }))
+    )
 }
 
 /// The entries of a case, oldest first.
@@ -209,8 +153,9 @@ fn entries_of<S: Alter>(
     connection: &mut Connection<S>,
     number: i64,
 ) -> Result<Shared<Entry>, Refusal> {
-    let mut entries = Vec::new(alloc);
-    let mut rows = connection.query(
+    all_in(
+        alloc,
+        connection,
         "SELECT entries.outcome, entries.report, entries.lists, entries.reviewer, entries.day,
             entry_appeals.day, entry_appeals.body, entry_rulings.reviewer, entry_rulings.day, entry_rulings.word
         FROM entries
@@ -220,25 +165,33 @@ fn entries_of<S: Alter>(
             ON entry_rulings.number = entries.number AND entry_rulings.place = entries.place
         WHERE entries.number = ?1 ORDER BY entries.place",
         &[ValueRef::Int(number)],
-    )?;
-    for _ in 0..u64::MAX {
-        let Some(row) = rows.next()? else {
-            break;
-        };
-        entries.push(Entry {
-            decision: decision_in(alloc, row)?,
-            appeal: appeal_in(alloc, row)?,
-            ruling: ruling_in(alloc, row)?,
-        })?;
-    }
-    Ok(Shared::from_vec(alloc, entries)?)
+    )
 }
 
-fn row_of<S: Alter>(connection: &mut Connection<S>, number: i64) -> Result<Row, Refusal> {
-    Ok(connection.query_row(
+fn heading_of<S: Alter>(
+    alloc: Global,
+    connection: &mut Connection<S>,
+    number: i64,
+) -> Result<Heading, Refusal> {
+    let row = connection.query_row(
         "SELECT party, reference, manifest, layouts, declaration FROM cases WHERE number = ?1",
         &[ValueRef::Int(number)],
-    )?)
+    )?;
+    Heading::in_row(alloc, &row)
+}
+
+fn case_of(heading: Heading, dex: Shared<Shared<u8>>, entries: Shared<Entry>) -> Case {
+    Case {
+        party: heading.party,
+        reference: heading.reference,
+        content: Content {
+            manifest: heading.manifest,
+            layouts: heading.layouts,
+            declaration: heading.declaration,
+            dex,
+        },
+        entries,
+    }
 }
 
 /// The case of a number that `states` has.
@@ -247,18 +200,8 @@ pub fn case_numbered<S: Alter>(
     connection: &mut Connection<S>,
     number: i64,
 ) -> Result<Case, Refusal> {
-    let row = row_of(connection, number)?;
     let dex = files_of(alloc, connection, number)?;
     let entries = entries_of(alloc, connection, number)?;
-    Ok(Case {
-        party: name_at(alloc, &row, 0)?,
-        reference: name_at(alloc, &row, 1)?,
-        content: Content {
-            manifest: bytes_at(alloc, &row, 2)?,
-            layouts: bytes_at(alloc, &row, 3)?,
-            declaration: bytes_at(alloc, &row, 4)?,
-            dex,
-        },
-        entries,
-    })
+    let heading = heading_of(alloc, connection, number)?;
+    Ok(case_of(heading, dex, entries))
 }
