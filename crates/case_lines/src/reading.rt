@@ -24,16 +24,24 @@ fn text_of(alloc: Global, word: &str) -> Result<Shared<u8>, Memory> {
     Shared::from_vec(alloc, bytes_of(alloc, word)?)
 }
 
+/// Two files, of which the second holds the word.
+fn files_of(alloc: Global, word: &str) -> Result<Shared<Shared<u8>>, Memory> {
+    let mut files = Vec::new(alloc);
+    files.push(text_of(alloc, "dex")?)?;
+    files.push(text_of(alloc, word)?)?;
+    Shared::from_vec(alloc, files)
+}
+
 /// Files of which one holds the word.
 fn content_of(alloc: Global, word: &str) -> Result<Content, Memory> {
-    let mut dex = Vec::new(alloc);
-    dex.push(text_of(alloc, "dex")?)?;
-    dex.push(text_of(alloc, word)?)?;
+    let manifest = text_of(alloc, "manifest")?;
+    let declaration = text_of(alloc, "declaration")?;
+    let dex = files_of(alloc, word)?;
     Ok(Content {
-        manifest: text_of(alloc, "manifest")?,
+        manifest,
         layouts: Shared::new(),
-        declaration: text_of(alloc, "declaration")?,
-        dex: Shared::from_vec(alloc, dex)?,
+        declaration,
+        dex,
     })
 }
 
@@ -75,34 +83,60 @@ fn word<'a>(words: &[&'a str], place: usize) -> &'a str {
     words.get(place).copied().unwrap_or("")
 }
 
-/// The command of a developer, of a reference and a word.
-fn own_command(
-    alloc: Global,
-    what: &str,
-    reference: Name,
-    second: &str,
-) -> Result<Command, Memory> {
-    Ok(match what {
-        "submit" => Command::Submit(reference, content_of(alloc, second)?),
-        "show" => Command::Show(reference),
-        "report" => Command::Report(reference),
-        "appeal" => Command::Appeal(reference, text_of(alloc, second)?),
-        _ => Command::List,
-    })
+/// The name at place 4.
+fn first_name(alloc: Global, words: &[&str]) -> Result<Name, Memory> {
+    name_of(alloc, word(words, 4))
+}
+
+/// The names at places 4 and 5.
+fn both_names(alloc: Global, words: &[&str]) -> Result<(Name, Name), Memory> {
+    let first = first_name(alloc, words)?;
+    Ok((first, name_of(alloc, word(words, 5))?))
+}
+
+fn submit_of(alloc: Global, words: &[&str]) -> Result<Command, Memory> {
+    let reference = first_name(alloc, words)?;
+    let content = content_of(alloc, word(words, 5))?;
+    Ok(Command::Submit(reference, content))
+}
+
+fn appeal_of(alloc: Global, words: &[&str]) -> Result<Command, Memory> {
+    let reference = first_name(alloc, words)?;
+    let text = text_of(alloc, word(words, 5))?;
+    Ok(Command::Appeal(reference, text))
+}
+
+fn review_of(alloc: Global, words: &[&str]) -> Result<Command, Memory> {
+    let (developer, reference) = both_names(alloc, words)?;
+    Ok(Command::Review(developer, reference))
+}
+
+fn rule_of(alloc: Global, words: &[&str]) -> Result<Command, Memory> {
+    let (developer, reference) = both_names(alloc, words)?;
+    Ok(Command::Rule(developer, reference, ruling_of(word(words, 6))))
 }
 
 fn command_of(alloc: Global, words: &[&str]) -> Result<Command, Memory> {
-    let first = name_of(alloc, word(words, 4))?;
-    let second = word(words, 5);
     match word(words, 3) {
+        "submit" => submit_of(alloc, words),
         "decide" => Ok(Command::Decide),
-        "review" => Ok(Command::Review(first, name_of(alloc, second)?)),
-        "rule" => {
-            let ruling = ruling_of(word(words, 6));
-            Ok(Command::Rule(first, name_of(alloc, second)?, ruling))
-        }
-        what => own_command(alloc, what, first, second),
+        "show" => Ok(Command::Show(first_name(alloc, words)?)),
+        "report" => Ok(Command::Report(first_name(alloc, words)?)),
+        "appeal" => appeal_of(alloc, words),
+        "review" => review_of(alloc, words),
+        "rule" => rule_of(alloc, words),
+        _ => Ok(Command::List),
     }
+}
+
+fn party_of(alloc: Global, word: &str) -> Result<Party, Memory> {
+    let name = name_of(alloc, word)?;
+    let token = name_of(alloc, "token")?;
+    Ok(Party {
+        name,
+        role: role_of(word),
+        token,
+    })
 }
 
 /// A desk that takes appeals for 30 days, without parties: who asks stands in the turn.
@@ -118,24 +152,25 @@ fn desk_of(edition: [u8; 32], outcome: OutcomeWord) -> Desk<ToldJudge> {
     }
 }
 
+fn turn_in(alloc: Global, words: &[&str]) -> Result<Turn, Memory> {
+    let party = party_of(alloc, word(words, 2))?;
+    let command = command_of(alloc, words)?;
+    Ok(Turn {
+        party,
+        day: word(words, 0).parse::<u32>().unwrap_or(0),
+        desk: desk_of(
+            edition_of(word(words, 1)),
+            outcome_of(words.last().copied().unwrap_or("")),
+        ),
+        command,
+    })
+}
+
 /// The turn that a line says: the day, the number of the edition, the party, the command and its words. The last word
 /// of a decision or review is the outcome.
 pub fn turn_of(alloc: Global, line: &str) -> Result<Turn, Memory> {
     let words: Vec<&str> = line.split_whitespace().collect(alloc)?;
-    let party = Party {
-        name: name_of(alloc, word(&words, 2))?,
-        role: role_of(word(&words, 2)),
-        token: name_of(alloc, "token")?,
-    };
-    Ok(Turn {
-        party,
-        day: word(&words, 0).parse::<u32>().unwrap_or(0),
-        desk: desk_of(
-            edition_of(word(&words, 1)),
-            outcome_of(words.last().copied().unwrap_or("")),
-        ),
-        command: command_of(alloc, &words)?,
-    })
+    turn_in(alloc, words.as_slice())
 }
 
 /// The numbers in a text.

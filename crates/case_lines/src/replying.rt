@@ -108,12 +108,17 @@ fn shown(alloc: Global, case: &Case) -> Result<String, AllocError> {
     )
 }
 
+/// Puts the words of a line behind the others.
+fn push_line(alloc: Global, all: &mut String, line: &Line) -> Result<(), AllocError> {
+    let (party, reference) = (text(&line.party), text(&line.reference));
+    let words = phrase(alloc, party, reference, state(line.state), "")?;
+    push_word(all, words.as_str())
+}
+
 fn lines(alloc: Global, lines: &[Line]) -> Result<String, AllocError> {
     let mut all = String::from_str(alloc, "lines")?;
     for line in lines {
-        let (party, reference) = (text(&line.party), text(&line.reference));
-        let one = phrase(alloc, party, reference, state(line.state), "")?;
-        push_word(&mut all, one.as_str())?;
+        push_line(alloc, &mut all, line)?;
     }
     Ok(all)
 }

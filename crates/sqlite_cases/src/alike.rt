@@ -2,6 +2,7 @@
 
 use crate::comparing::{answer_alike, same_case};
 use crate::fitting::make;
+use crate::late::fails_twice;
 use crate::lines::{after_statements, new_keeper, reopened};
 use crate::making::{added, appealed, case, decided, name, ruled};
 use crate::shelf::{Filed, Shelf};
@@ -25,39 +26,77 @@ fn put(all: &mut Vec<Change>, change: Result<Change, Memory>) -> Result<(), Memo
     Ok(())
 }
 
+/// Puts three cases behind the others, and a decision on two of them.
+fn put_decided(alloc: Global, all: &mut Vec<Change>) -> Result<(), Memory> {
+    put(all, added(alloc, "ann", "r1", "app"))?;
+    put(all, added(alloc, "ann", "a2", "other"))?;
+    put(all, added(alloc, "bob", "r1", "third"))?;
+    put(all, decided(alloc, "ann", "r1", 1, OutcomeWord::Flagged))?;
+    put(all, decided(alloc, "bob", "r1", 1, OutcomeWord::Undecided))?;
+    Ok(())
+}
+
+/// Puts an appeal on both decisions behind the others, a ruling on one, and a decision on it under other lists.
+fn put_appealed(alloc: Global, all: &mut Vec<Change>) -> Result<(), Memory> {
+    put(all, appealed(alloc, "ann", "r1"))?;
+    put(all, appealed(alloc, "bob", "r1"))?;
+    put(all, ruled(alloc, "ann", "r1", RulingWord::Overturn))?;
+    put(all, decided(alloc, "ann", "r1", 2, OutcomeWord::Clear))?;
+    Ok(())
+}
+
 /// Three cases, a decision on two of them, an appeal on both, a ruling on one, and a decision on it under other lists.
 pub fn changes(alloc: Global) -> Result<Vec<Change>, Memory> {
     let mut all = Vec::new(alloc);
-    put(&mut all, added(alloc, "ann", "r1", "app"))?;
-    put(&mut all, added(alloc, "ann", "a2", "other"))?;
-    put(&mut all, added(alloc, "bob", "r1", "third"))?;
-    put(
-        &mut all,
-        decided(alloc, "ann", "r1", 1, OutcomeWord::Flagged),
-    )?;
-    put(
-        &mut all,
-        decided(alloc, "bob", "r1", 1, OutcomeWord::Undecided),
-    )?;
-    put(&mut all, appealed(alloc, "ann", "r1"))?;
-    put(&mut all, appealed(alloc, "bob", "r1"))?;
-    put(&mut all, ruled(alloc, "ann", "r1", RulingWord::Overturn))?;
-    put(&mut all, decided(alloc, "ann", "r1", 2, OutcomeWord::Clear))?;
+    put_decided(alloc, &mut all)?;
+    put_appealed(alloc, &mut all)?;
     Ok(all)
 }
 
-/// The changes that do not fit behind those: the name is taken, an appeal is open or not there, or there is no case, or
-/// an entry under these lists.
+/// Puts the changes that do not fit behind those: the name is taken, an appeal is open or not there, or there is no
+/// case, or an entry under these lists.
+fn put_unfit(alloc: Global, all: &mut Vec<Change>) -> Result<(), Memory> {
+    put(all, added(alloc, "ann", "r1", "app"))?;
+    put(all, decided(alloc, "bob", "r1", 2, OutcomeWord::Clear))?;
+    put(all, decided(alloc, "ann", "r1", 2, OutcomeWord::Clear))?;
+    put(all, decided(alloc, "eve", "r1", 2, OutcomeWord::Clear))?;
+    put(all, appealed(alloc, "ann", "a2"))?;
+    put(all, appealed(alloc, "bob", "r1"))?;
+    put(all, ruled(alloc, "ann", "r1", RulingWord::Uphold))?;
+    Ok(())
+}
+
+/// The changes that do not fit behind those.
 fn unfit_changes(alloc: Global) -> Result<Vec<Change>, Memory> {
     let mut all = Vec::new(alloc);
-    put(&mut all, added(alloc, "ann", "r1", "app"))?;
-    put(&mut all, decided(alloc, "bob", "r1", 2, OutcomeWord::Clear))?;
-    put(&mut all, decided(alloc, "ann", "r1", 2, OutcomeWord::Clear))?;
-    put(&mut all, decided(alloc, "eve", "r1", 2, OutcomeWord::Clear))?;
-    put(&mut all, appealed(alloc, "ann", "a2"))?;
-    put(&mut all, appealed(alloc, "bob", "r1"))?;
-    put(&mut all, ruled(alloc, "ann", "r1", RulingWord::Uphold))?;
+    put_unfit(alloc, &mut all)?;
     Ok(all)
+}
+
+/// Whether both keepers make a change, and answer alike after it.
+fn alike_after<A: Keeper, B: Keeper>(
+    alloc: Global,
+    one: &mut A,
+    other: &mut B,
+    change: &Change,
+) -> Result<bool, KeepFault> {
+    let are_made = make(alloc, one, change)? && make(alloc, other, change)?;
+    Ok(are_made && answer_alike(alloc, one, other)?)
+}
+
+fn alike_after_each<A: Keeper, B: Keeper>(
+    alloc: Global,
+    one: &mut A,
+    other: &mut B,
+    changes: &[Change],
+) -> Result<bool, KeepFault> {
+    let mut are_alike = true;
+    for change in changes {
+        if !alike_after(alloc, one, other, change)? {
+            are_alike = false;
+        }
+    }
+    Ok(are_alike)
 }
 
 /// Whether both keepers make each of the changes, and answer alike after each.
@@ -66,29 +105,33 @@ pub fn alike_through<A: Keeper, B: Keeper>(
     one: &mut A,
     other: &mut B,
 ) -> Result<bool, KeepFault> {
-    let mut are_alike = true;
-    for change in &changes(alloc)? {
-        let are_made = make(alloc, one, change)? && make(alloc, other, change)?;
-        if !are_made || !answer_alike(alloc, one, other)? {
-            are_alike = false;
-        }
-    }
-    Ok(are_alike)
+    let changes = changes(alloc)?;
+    alike_after_each(alloc, one, other, changes.as_slice())
 }
 
 /// Whether the database answers as memory does after each change, and once the files were closed and opened again.
-pub fn answers_as_memory<F: Shelf>(alloc: Global, shelf: &F) -> io::Result<bool> {
-    let mut memory = MemKeeper::new(alloc);
-    let mut keeper = new_keeper(alloc, shelf)?;
-    let are_alike = alike_through(alloc, &mut memory, &mut keeper).map_err(no_answer)?;
-    let (_, again) = opened_anew(alloc, &mut memory, keeper)?;
+fn answers_as<M: Keeper, S: Filed>(
+    alloc: Global,
+    memory: &mut M,
+    keeper: OpenKeeper<S>,
+) -> io::Result<bool> {
+    let mut keeper = keeper;
+    let are_alike = alike_through(alloc, memory, &mut keeper).map_err(no_answer)?;
+    let (_, again) = opened_anew(alloc, memory, keeper)?;
     Ok(are_alike && again)
 }
 
+/// Whether an empty database answers as memory does, also once the files were closed and opened again.
+pub fn answers_as_memory<F: Shelf>(alloc: Global, shelf: &F) -> io::Result<bool> {
+    let keeper = new_keeper(alloc, shelf)?;
+    let mut memory = MemKeeper::new(alloc);
+    answers_as(alloc, &mut memory, keeper)
+}
+
 /// Whether the database refuses a change, with one fault more, and answers as before.
-fn refuses<S: Alter + Drop>(
+fn refuses<S: Alter + Drop, M: Keeper>(
     alloc: Global,
-    memory: &mut MemKeeper,
+    memory: &mut M,
     keeper: &mut OpenKeeper<S>,
     change: &Change,
 ) -> Result<bool, KeepFault> {
@@ -99,13 +142,14 @@ fn refuses<S: Alter + Drop>(
     Ok(is_refused && is_counted && answer_alike(alloc, memory, keeper)?)
 }
 
-fn refuses_all<S: Alter + Drop>(
+fn refuses_each<S: Alter + Drop, M: Keeper>(
     alloc: Global,
-    memory: &mut MemKeeper,
+    memory: &mut M,
     keeper: &mut OpenKeeper<S>,
+    changes: &[Change],
 ) -> Result<bool, KeepFault> {
-    let mut are_refused = alike_through(alloc, memory, keeper)?;
-    for change in &unfit_changes(alloc)? {
+    let mut are_refused = true;
+    for change in changes {
         if !refuses(alloc, memory, keeper, change)? {
             are_refused = false;
         }
@@ -113,36 +157,48 @@ fn refuses_all<S: Alter + Drop>(
     Ok(are_refused)
 }
 
+fn refuses_all<S: Alter + Drop, M: Keeper>(
+    alloc: Global,
+    memory: &mut M,
+    keeper: &mut OpenKeeper<S>,
+) -> Result<bool, KeepFault> {
+    let are_alike = alike_through(alloc, memory, keeper)?;
+    let unfit = unfit_changes(alloc)?;
+    Ok(refuses_each(alloc, memory, keeper, unfit.as_slice())? && are_alike)
+}
+
 /// Whether the database refuses each change that does not fit, and keeps what it had.
 pub fn refuses_what_does_not_fit<F: Shelf>(alloc: Global, shelf: &F) -> io::Result<bool> {
-    let mut memory = MemKeeper::new(alloc);
     let mut keeper = new_keeper(alloc, shelf)?;
+    let mut memory = MemKeeper::new(alloc);
     refuses_all(alloc, &mut memory, &mut keeper).map_err(no_answer)
 }
 
-/// The changes that make the cases of the file of version 1.
+/// Puts the changes that make the cases of the file of version 1.
+fn put_version_1(alloc: Global, all: &mut Vec<Change>) -> Result<(), Memory> {
+    put(all, added(alloc, "ann", "r1", "app"))?;
+    put(all, added(alloc, "ann", "a2", "other"))?;
+    put(all, added(alloc, "bob", "r1", "third"))?;
+    put(all, decided(alloc, "ann", "r1", 1, OutcomeWord::Flagged))?;
+    put(all, decided(alloc, "bob", "r1", 1, OutcomeWord::Undecided))?;
+    put(all, appealed(alloc, "bob", "r1"))?;
+    put(all, ruled(alloc, "bob", "r1", RulingWord::Uphold))?;
+    Ok(())
+}
+
 fn changes_of_version_1(alloc: Global) -> Result<Vec<Change>, Memory> {
     let mut all = Vec::new(alloc);
-    put(&mut all, added(alloc, "ann", "r1", "app"))?;
-    put(&mut all, added(alloc, "ann", "a2", "other"))?;
-    put(&mut all, added(alloc, "bob", "r1", "third"))?;
-    put(
-        &mut all,
-        decided(alloc, "ann", "r1", 1, OutcomeWord::Flagged),
-    )?;
-    put(
-        &mut all,
-        decided(alloc, "bob", "r1", 1, OutcomeWord::Undecided),
-    )?;
-    put(&mut all, appealed(alloc, "bob", "r1"))?;
-    put(&mut all, ruled(alloc, "bob", "r1", RulingWord::Uphold))?;
+    put_version_1(alloc, &mut all)?;
     Ok(all)
 }
 
-/// The cases of the file of version 1, by changes: whether each was made.
-pub fn of_version_1<K: Keeper>(alloc: Global, keeper: &mut K) -> Result<bool, KeepFault> {
+fn makes_each<K: Keeper>(
+    alloc: Global,
+    keeper: &mut K,
+    changes: &[Change],
+) -> Result<bool, KeepFault> {
     let mut are_made = true;
-    for change in &changes_of_version_1(alloc)? {
+    for change in changes {
         if !make(alloc, keeper, change)? {
             are_made = false;
         }
@@ -150,10 +206,16 @@ pub fn of_version_1<K: Keeper>(alloc: Global, keeper: &mut K) -> Result<bool, Ke
     Ok(are_made)
 }
 
+/// The cases of the file of version 1, by changes: whether each was made.
+pub fn of_version_1<K: Keeper>(alloc: Global, keeper: &mut K) -> Result<bool, KeepFault> {
+    let changes = changes_of_version_1(alloc)?;
+    makes_each(alloc, keeper, changes.as_slice())
+}
+
 /// The keeper over the same files, opened anew, and whether it answers as memory does with no fault.
-fn opened_anew<S: Filed>(
+fn opened_anew<S: Filed, M: Keeper>(
     alloc: Global,
-    memory: &mut MemKeeper,
+    memory: &mut M,
     keeper: OpenKeeper<S>,
 ) -> io::Result<(OpenKeeper<S>, bool)> {
     let mut keeper = reopened(alloc, keeper)?;
@@ -163,9 +225,9 @@ fn opened_anew<S: Filed>(
 }
 
 /// Whether the database answers as memory does once its files were closed and opened again, and once more.
-fn alike_twice<S: Filed>(
+fn alike_twice<S: Filed, M: Keeper>(
     alloc: Global,
-    memory: &mut MemKeeper,
+    memory: &mut M,
     keeper: OpenKeeper<S>,
 ) -> io::Result<bool> {
     let (keeper, first) = opened_anew(alloc, memory, keeper)?;
@@ -173,15 +235,23 @@ fn alike_twice<S: Filed>(
     Ok(first && again)
 }
 
+/// Whether the database has the cases of version 1 as they are by changes, in a memory that is empty.
+fn has_version_1<S: Filed, M: Keeper>(
+    alloc: Global,
+    memory: &mut M,
+    keeper: OpenKeeper<S>,
+) -> io::Result<bool> {
+    let are_made = of_version_1(alloc, memory).map_err(no_answer)?;
+    Ok(alike_twice(alloc, memory, keeper)? && are_made)
+}
+
 /// Whether the cases of a database of version 1 are those that memory has by changes, byte for byte, also once the
 /// files were closed and opened again.
 pub fn raises_version_1<R: Files + AllocGlobal, F: Shelf>(rt: &R, shelf: &F) -> io::Result<bool> {
     let alloc = rt.alloc();
-    let mut memory = MemKeeper::new(alloc);
-    let are_made = of_version_1(alloc, &mut memory).map_err(no_answer)?;
     let keeper = after_statements(rt, new_keeper(alloc, shelf)?, "version_1.sql")?;
-    let are_alike = alike_twice(alloc, &mut memory, keeper)?;
-    Ok(are_made && are_alike)
+    let mut memory = MemKeeper::new(alloc);
+    has_version_1(alloc, &mut memory, keeper)
 }
 
 /// How many tables and indexes a database has.
@@ -199,13 +269,11 @@ pub fn leaves_another_version<R: Files + AllocGlobal, F: Shelf>(
     shelf: &F,
 ) -> io::Result<bool> {
     let alloc = rt.alloc();
-    let ann = name(alloc, "ann").map_err(|_| no_answer(KeepFault::Memory))?;
     let mut keeper = after_statements(rt, new_keeper(alloc, shelf)?, "version_3.sql")?;
-    let first = matches!(keeper.queued(alloc, &ann), Err(KeepFault::Failed));
-    let second = matches!(keeper.appeals(alloc), Err(KeepFault::Failed));
+    let are_refused = fails_twice(alloc, &mut keeper).map_err(no_answer)?;
     let are_counted = keeper.faults() == 2;
     let mut connection = keeper.give_back();
-    Ok(first && second && are_counted && size_of(&mut connection)? == 1)
+    Ok(are_refused && are_counted && size_of(&mut connection)? == 1)
 }
 
 /// A case of odd bytes: a name that is no text, three files, one of them empty.
@@ -242,14 +310,15 @@ fn lists<K: Keeper>(alloc: Global, keeper: &mut K, given: &Case) -> Result<bool,
     }
 }
 
+/// Whether a case comes back as it was given.
+fn keeps<K: Keeper>(alloc: Global, keeper: &mut K, given: &Case) -> Result<bool, KeepFault> {
+    Ok(adds(alloc, keeper, given)? && finds(alloc, keeper, given)? && lists(alloc, keeper, given)?)
+}
+
 /// Whether a case of odd bytes comes back as it was.
 fn keeps_odd_bytes_in<K: Keeper>(alloc: Global, keeper: &mut K) -> Result<bool, KeepFault> {
     let given = odd_case(alloc)?;
-    Ok(
-        adds(alloc, keeper, &given)?
-            && finds(alloc, keeper, &given)?
-            && lists(alloc, keeper, &given)?,
-    )
+    keeps(alloc, keeper, &given)
 }
 
 /// Whether the database gives a case of odd bytes back as it was.

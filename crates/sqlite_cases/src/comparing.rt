@@ -4,6 +4,7 @@ use crate::making::name;
 use case_keeper::{KeepFault, Keeper};
 use case_rules::{Appeal, Case, Decision, Entry, Line, Ruling};
 use std::alloc::Global;
+use vet_base::Name;
 
 fn same_decision(one: &Decision, other: &Decision) -> bool {
     one.outcome == other.outcome
@@ -81,6 +82,19 @@ fn same_lines(one: &[Line], other: &[Line]) -> bool {
     true
 }
 
+/// Whether they find the same case of this developer and reference.
+fn case_alike<A: Keeper, B: Keeper>(
+    alloc: Global,
+    one: &mut A,
+    other: &mut B,
+    party: &Name,
+    reference: &Name,
+) -> Result<bool, KeepFault> {
+    let mine = one.find(alloc, party, reference)?;
+    let theirs = other.find(alloc, party, reference)?;
+    Ok(same_found(&mine, &theirs))
+}
+
 /// Whether they find the same case of a name.
 pub fn find_alike<A: Keeper, B: Keeper>(
     alloc: Global,
@@ -91,9 +105,7 @@ pub fn find_alike<A: Keeper, B: Keeper>(
 ) -> Result<bool, KeepFault> {
     let party = name(alloc, party)?;
     let reference = name(alloc, reference)?;
-    let mine = one.find(alloc, &party, &reference)?;
-    let theirs = other.find(alloc, &party, &reference)?;
-    Ok(same_found(&mine, &theirs))
+    case_alike(alloc, one, other, &party, &reference)
 }
 
 /// Whether they have the same first case without an entry.
@@ -107,6 +119,28 @@ pub fn first_alike<A: Keeper, B: Keeper>(
     Ok(same_found(&mine, &theirs))
 }
 
+fn count_alike<A: Keeper, B: Keeper>(
+    alloc: Global,
+    one: &mut A,
+    other: &mut B,
+    party: &Name,
+) -> Result<bool, KeepFault> {
+    let mine = one.queued(alloc, party)?;
+    let theirs = other.queued(alloc, party)?;
+    Ok(mine == theirs)
+}
+
+fn list_alike<A: Keeper, B: Keeper>(
+    alloc: Global,
+    one: &mut A,
+    other: &mut B,
+    party: &Name,
+) -> Result<bool, KeepFault> {
+    let mine = one.list(alloc, party)?;
+    let theirs = other.list(alloc, party)?;
+    Ok(same_lines(mine.as_slice(), theirs.as_slice()))
+}
+
 /// Whether they tell the same of a developer's cases.
 pub fn own_alike<A: Keeper, B: Keeper>(
     alloc: Global,
@@ -115,13 +149,7 @@ pub fn own_alike<A: Keeper, B: Keeper>(
     party: &str,
 ) -> Result<bool, KeepFault> {
     let party = name(alloc, party)?;
-    let mine = one.queued(alloc, &party)?;
-    if mine != other.queued(alloc, &party)? {
-        return Ok(false);
-    }
-    let mine = one.list(alloc, &party)?;
-    let theirs = other.list(alloc, &party)?;
-    Ok(same_lines(mine.as_slice(), theirs.as_slice()))
+    Ok(count_alike(alloc, one, other, &party)? && list_alike(alloc, one, other, &party)?)
 }
 
 /// Whether they have the same open appeals.

@@ -14,9 +14,9 @@ use std::io;
 use std::rt::Files;
 
 /// Makes the changes up to the first that is not told as kept, and the same in memory: the place of that one.
-fn kept_up_to<S: Alter + Drop>(
+fn kept_up_to<S: Alter + Drop, M: Keeper>(
     alloc: Global,
-    memory: &mut MemKeeper,
+    memory: &mut M,
     keeper: &mut OpenKeeper<S>,
     changes: &[Change],
 ) -> Result<usize, KeepFault> {
@@ -69,38 +69,47 @@ fn ending_of(has_all: bool, is_whole: bool) -> Ending {
 }
 
 /// Makes the changes, as far as they are told as kept, in a database and in memory; how many they are.
-fn changed<S: Alter + Drop>(
+fn changed<S: Alter + Drop, M: Keeper>(
     alloc: Global,
-    memory: &mut MemKeeper,
+    memory: &mut M,
     connection: Connection<S>,
+    changes: &[Change],
 ) -> io::Result<(Connection<S>, usize)> {
-    let changes = changes(alloc).map_err(|_| no_answer(KeepFault::Memory))?;
     let mut keeper = OpenKeeper::adopt(connection);
-    let place = kept_up_to(alloc, memory, &mut keeper, &changes).map_err(no_answer)?;
+    let place = kept_up_to(alloc, memory, &mut keeper, changes).map_err(no_answer)?;
     Ok((keeper.give_back(), place))
 }
 
-/// How that ended, by what the database has afterwards.
-fn ended<S: Alter + Drop>(
+/// How that ended, by what the database has afterwards; the next change is the first that was not told as kept.
+fn ended<S: Alter + Drop, M: Keeper>(
     alloc: Global,
-    memory: &mut MemKeeper,
+    memory: &mut M,
     connection: Connection<S>,
-    place: usize,
+    next: Option<&Change>,
 ) -> io::Result<Ending> {
-    let changes = changes(alloc).map_err(|_| no_answer(KeepFault::Memory))?;
     let mut keeper = OpenKeeper::adopt(connection);
-    let next = changes.get(place);
     let has_all = has_all(alloc, memory, &mut keeper, next).map_err(no_answer)?;
     Ok(ending_of(has_all, next.is_none()))
 }
 
+/// Makes the changes in a database whose files stop, lets them come back, and says how that ended.
+fn run_over<S: Filed, M: Keeper>(
+    alloc: Global,
+    memory: &mut M,
+    connection: Connection<S>,
+    changes: &[Change],
+) -> io::Result<Ending> {
+    let (connection, place) = changed(alloc, memory, connection, changes)?;
+    let connection = connection.into_store().reopened(alloc)?;
+    ended(alloc, memory, connection, changes.get(place))
+}
+
 /// Makes the changes over files that stop, and says how that ended.
 fn run_with<F: Shelf>(alloc: Global, shelf: &F) -> io::Result<Ending> {
-    let mut memory = MemKeeper::new(alloc);
+    let changes = changes(alloc).map_err(|_| no_answer(KeepFault::Memory))?;
     let connection = shelf.blank(alloc)?;
-    let (connection, place) = changed(alloc, &mut memory, connection)?;
-    let connection = connection.into_store().reopened(alloc)?;
-    ended(alloc, &mut memory, connection, place)
+    let mut memory = MemKeeper::new(alloc);
+    run_over(alloc, &mut memory, connection, changes.as_slice())
 }
 
 /// Whether the database has just what was told as kept, or one change more, where the log stops at its first call,
@@ -150,12 +159,21 @@ fn raised<R: Files + AllocGlobal, S: Alter + Drop>(
     Some((keeper.give_back(), is_raised))
 }
 
+/// Whether a keeper has the cases of version 1, which an empty memory gets by changes.
+fn is_version_1<M: Keeper, K: Keeper>(
+    alloc: Global,
+    memory: &mut M,
+    keeper: &mut K,
+) -> Result<bool, KeepFault> {
+    let are_made = of_version_1(alloc, memory)?;
+    Ok(are_made && answer_alike(alloc, memory, keeper)?)
+}
+
 /// Whether a database has the cases of version 1.
 fn has_version_1<S: Alter + Drop>(alloc: Global, connection: Connection<S>) -> io::Result<bool> {
-    let mut memory = MemKeeper::new(alloc);
-    let are_made = of_version_1(alloc, &mut memory).map_err(no_answer)?;
     let mut keeper = OpenKeeper::adopt(connection);
-    Ok(are_made && answer_alike(alloc, &mut memory, &mut keeper).map_err(no_answer)?)
+    let mut memory = MemKeeper::new(alloc);
+    is_version_1(alloc, &mut memory, &mut keeper).map_err(no_answer)
 }
 
 /// How a run ended in which a database of version 1 is raised over files that stop, where they suffice to make it.

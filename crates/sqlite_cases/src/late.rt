@@ -33,7 +33,7 @@ impl<F: Shelf + Drop> Opener for SlowOpener<F> {
 }
 
 /// Whether two calls fail, and each is counted.
-fn fails_twice<K: Keeper>(alloc: Global, keeper: &mut K) -> Result<bool, KeepFault> {
+pub fn fails_twice<K: Keeper>(alloc: Global, keeper: &mut K) -> Result<bool, KeepFault> {
     let ann = name(alloc, "ann")?;
     let before = keeper.faults();
     let first = matches!(keeper.queued(alloc, &ann), Err(KeepFault::Failed));

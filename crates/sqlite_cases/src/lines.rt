@@ -33,6 +33,62 @@ pub fn after_statements<R: Files + AllocGlobal, S: Alter + Drop>(
     }
 }
 
+/// Whether a line says what is done with the database, and is no command.
+fn is_step(line: &str) -> bool {
+    line == "keeper" || line == "again" || line.starts_with("sql ")
+}
+
+/// The keeper once what such a line says is done.
+fn after_step<R: Files + AllocGlobal, F: Shelf>(
+    rt: &R,
+    shelf: &F,
+    keeper: OpenKeeper<F::Store>,
+    line: &str,
+) -> io::Result<OpenKeeper<F::Store>> {
+    if line == "keeper" {
+        return new_keeper(rt.alloc(), shelf);
+    }
+    match line.strip_prefix("sql ") {
+        Some(file) => after_statements(rt, keeper, file),
+        None => reopened(rt.alloc(), keeper),
+    }
+}
+
+/// The keeper for a command, which is opened anew where `reopens`.
+fn ready<S: Filed>(
+    alloc: Global,
+    keeper: OpenKeeper<S>,
+    reopens: bool,
+) -> io::Result<OpenKeeper<S>> {
+    if reopens {
+        reopened(alloc, keeper)
+    } else {
+        Ok(keeper)
+    }
+}
+
+fn due_in_text<R: Files + Print + AllocGlobal, F: Shelf>(
+    rt: &R,
+    shelf: &F,
+    text: &str,
+    reopens: bool,
+) -> io::Result<u64> {
+    let mut keeper = new_keeper(rt.alloc(), shelf)?;
+    let mut title = "";
+    let mut due = 0u64;
+    for line in text.lines() {
+        if let Some(rest) = line.strip_prefix("## ") {
+            title = rest;
+        } else if is_step(line) {
+            keeper = after_step(rt, shelf, keeper, line)?;
+        } else if !line.is_empty() {
+            keeper = ready(rt.alloc(), keeper, reopens)?;
+            due = due.saturating_add(due_in(rt, &mut keeper, title, line)?);
+        }
+    }
+    Ok(due)
+}
+
 /// How many commands of a file get the reply that is due. A line `## TITLE` begins a case, and `keeper` a new
 /// database; `sql FILE` runs the statements of a file, and `again` closes the files and opens them again, which is
 /// also done before each command where `reopens`. Each other line is a command and behind ` > ` the reply that is due.
@@ -43,27 +99,5 @@ pub fn due_in_file<R: Files + Print + AllocGlobal, F: Shelf>(
     reopens: bool,
 ) -> io::Result<u64> {
     let text = fs::read_to_string(rt, name)?;
-    let mut keeper = new_keeper(rt.alloc(), shelf)?;
-    let mut title = "";
-    let mut due = 0u64;
-    for line in text.as_str().lines() {
-        if line.is_empty() {
-            continue;
-        }
-        if let Some(rest) = line.strip_prefix("## ") {
-            title = rest;
-        } else if line == "keeper" {
-            keeper = new_keeper(rt.alloc(), shelf)?;
-        } else if line == "again" {
-            keeper = reopened(rt.alloc(), keeper)?;
-        } else if let Some(file) = line.strip_prefix("sql ") {
-            keeper = after_statements(rt, keeper, file)?;
-        } else {
-            if reopens {
-                keeper = reopened(rt.alloc(), keeper)?;
-            }
-            due = due.saturating_add(due_in(rt, &mut keeper, title, line)?);
-        }
-    }
-    Ok(due)
+    due_in_text(rt, shelf, text.as_str(), reopens)
 }

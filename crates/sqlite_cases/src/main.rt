@@ -127,6 +127,14 @@ fn all_failures<R: Print + AllocGlobal, K: Keeper>(rt: &R, keeper: &mut K) -> io
     )
 }
 
+/// Tries a keeper whose folder is not there. It takes the keeper, so that no other function drops what names the store.
+fn all_lost<R: Print + AllocGlobal, K: Keeper + Drop>(rt: &R, keeper: K) -> io::Result<()>
+    requires { TellsDocket (K.told keeper) }
+{
+    let mut keeper = keeper;
+    all_failures(rt, &mut keeper)
+}
+
 /// Tries databases of a shelf, and says last whether a connection that is refused is asked for again.
 fn all_of_shelf<R: Files + Print + AllocGlobal, F: Shelf + Drop>(
     rt: &R,
@@ -156,6 +164,5 @@ fn main(rt: HostRuntime) -> io::Result<()> {
         asks_again,
     )?;
     let path = String::from_str(rt.alloc(), "no_such_folder/desk.sqlite")?;
-    let mut keeper = SqlKeeper::new(rt.clone()?, path);
-    all_failures(&rt, &mut keeper)
+    all_lost(&rt, SqlKeeper::new(rt.clone()?, path))
 }
