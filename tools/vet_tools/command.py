@@ -15,9 +15,9 @@ from vet_tools.whole_file import write_whole
 
 
 NO_COMMAND = 4  # as vet has it for words that are none of its commands
-STATUSES = (f"The exit status is that of vet: 0 clear, 1 flagged, 2 undecided, 3 refused, and 4 to 9 where vet gave no "
-            f"report; {NO_COMMAND} also where these words are no command, and {NO_ANSWER} where the tool could not do "
-            "what it was asked for: then nothing is said of the app.")
+STATUSES = ("The exit status is that of vet: 0 clear, 1 flagged, 2 undecided, 3 refused, further ones where it gave "
+            f"no report; {NO_COMMAND} also where these words are no command, and {NO_ANSWER} where the tool could not "
+            f"do what it was asked for. From {NO_COMMAND} on nothing is said of the app.")
 
 
 class Words(argparse.ArgumentParser):
