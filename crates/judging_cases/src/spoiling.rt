@@ -154,7 +154,11 @@ pub fn say_tables(rt: &HostRuntime, app: &App, lists: &Lists) -> io::Result<()>
     requires app { SoundApp app.now }
     requires lists { SoundLists lists.now }
 {
-    let readers = StaticReaders::of(rt.alloc(), app).map_err(want)?;
-    let index = LibraryIndex::of(rt.alloc(), lists).map_err(want)?;
+    let Ok(readers) = StaticReaders::of(rt.alloc(), app) else {
+        return println!(rt; "no memory");
+    };
+    let Ok(index) = LibraryIndex::of(rt.alloc(), lists) else {
+        return println!(rt; "no memory");
+    };
     tables_by(rt, &readers, &index)
 }

@@ -3,7 +3,6 @@ ghost use Rattle.app_machine.specs.Sound.{SoundApp};
 ghost use Rattle.app_machine.specs.SoundLists.{SoundLists};
 ghost use Rattle.app_rules.specs.Ready.{RulesReady};
 
-use crate::folder::want;
 use crate::spoiling::unsolved;
 use app_index::{LibraryIndex, StaticReaders};
 use app_model::{App, Lists};
@@ -108,7 +107,11 @@ pub fn say_times<R: Print + AllocGlobal + Clock + Threads + Wait + Sync>(
     requires app { SoundApp app.now }
     requires lists { SoundLists lists.now }
 {
-    let readers = StaticReaders::of(rt.alloc(), app).map_err(want)?;
-    let index = LibraryIndex::of(rt.alloc(), lists).map_err(want)?;
+    let Ok(readers) = StaticReaders::of(rt.alloc(), app) else {
+        return println!(rt; "no memory");
+    };
+    let Ok(index) = LibraryIndex::of(rt.alloc(), lists) else {
+        return println!(rt; "no memory");
+    };
     times_by(rt, &readers, &index, lists.rows)
 }
