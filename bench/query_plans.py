@@ -2,7 +2,7 @@
 
 usage: query_plans.py (needs the program sqlite3)
 
-Takes the statements out of the sources of crates/sqlite_keeper, makes its tables in a new file, puts 2,000 cases into
+Takes the statements out of the sources of crates/case_tables, makes its tables in a new file, puts 2,000 cases into
 them, and asks `EXPLAIN QUERY PLAN` of every look-up and change, before and after `ANALYZE`. Prints each with its plan,
 and ends with status 1 where a look-up is not a search by an index or a primary key in each of its steps, as where it goes
 through a whole table or sorts. What raises a database of version 1, and the one row of `version`, is left out: that is gone
@@ -17,7 +17,7 @@ import subprocess
 import sys
 import tempfile
 
-SOURCES = pathlib.Path(__file__).parent.parent / 'crates/sqlite_keeper/src'
+SOURCES = pathlib.Path(__file__).parent.parent / 'crates/case_tables/src'
 FILES = ['reading.rt', 'changing.rt']
 VERBS = ('SELECT', 'INSERT', 'UPDATE', 'DELETE')
 

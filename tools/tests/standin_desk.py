@@ -1,7 +1,7 @@
 """A desk for tests, that answers by the tables of docs/DESK.md and docs/CASES.md.
 
 `python3 -m tests.standin_desk serve OFFICE N` runs it. It stands in where the program is not built. It keeps the tables
-that crates/sqlite_keeper has, holds the database for itself as the program does, and knows of apps only what
+that crates/case_tables has, holds the database for itself as the program does, and knows of apps only what
 examples/expected.txt says. A file `day` in the office's folder says which day it is.
 """
 
@@ -23,7 +23,7 @@ from pathlib import Path
 TOP = Path(__file__).resolve().parents[2]
 NAME = re.compile(r"[A-Za-z0-9._-]{1,64}")
 FORMS = ("manifest", "layouts", "declaration")
-TABLES = re.search(r'const TABLES: &str = "(.*?)";', (TOP / "crates/sqlite_keeper/src/tables.rt").read_text(), re.S)[1]
+TABLES = re.search(r'const TABLES: &str = "(.*?)";', (TOP / "crates/case_tables/src/tables.rt").read_text(), re.S)[1]
 
 
 class No(Exception):

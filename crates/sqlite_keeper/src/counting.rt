@@ -2,8 +2,8 @@ ghost use Rattle.std.specs.Prelude.{◌≡◌, ◌≤◌, Ok, IfOk};
 ghost use Rattle.case_keeper.specs.Keeper.{KeepCause};
 ghost use Rattle.sqlite_keeper.specs.Counting.{counted};
 
-use crate::refusal::Refusal;
 use case_keeper::KeepFault;
+use case_tables::Refusal;
 
 /// Counts a refusal of the database; want of memory is not counted.
 pub fn counting<T>(faults: &mut u64, done: Result<T, Refusal>) -> Result<T, KeepFault>

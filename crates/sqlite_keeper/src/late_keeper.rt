@@ -3,11 +3,11 @@ ghost use Rattle.case_rules.specs.Cases.{is_named, is_queued, queued_of, own_lin
 ghost use Rattle.case_keeper.specs.Keeper.{Tells, told_after, KeepCause};
 ghost use Rattle.sqlite_keeper.specs.Counting.{untold, counted};
 
+use crate::asking::{named, queued};
 use crate::counting::counting;
-use crate::database::Database;
-use crate::refusal::Refusal;
 use case_keeper::{KeepFault, Keeper};
 use case_rules::{Case, Change, Line};
+use case_tables::{Database, Refusal};
 use sqlite::{Alter, Connection, Error};
 use std::alloc::Global;
 use vet_base::{Name, Shared};
@@ -75,7 +75,7 @@ impl<O: Opener + Drop> Keeper for LateKeeper<O> {
             Ok(database) => database.find(alloc, party, reference),
             Err(refusal) => Err(refusal),
         };
-        counting(&mut self.faults, found)
+        counting(&mut self.faults, named(found, party, reference))
     }
 
     fn first_queued(&mut self, alloc: Global) -> Result<Option<Case>, KeepFault>
@@ -89,7 +89,7 @@ impl<O: Opener + Drop> Keeper for LateKeeper<O> {
             Ok(database) => database.first_queued(alloc),
             Err(refusal) => Err(refusal),
         };
-        counting(&mut self.faults, found)
+        counting(&mut self.faults, queued(found))
     }
 
     fn queued(&mut self, _alloc: Global, party: &Name) -> Result<u64, KeepFault>

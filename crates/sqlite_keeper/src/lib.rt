@@ -1,17 +1,11 @@
-//! The cases of the desk in a SQLite database.
+//! Keepers of the cases of the desk over a SQLite database.
 #![tactic(auto)]
 
-mod changing;
-mod columns;
+mod asking;
 mod counting;
-mod database;
 mod late_keeper;
 mod open_keeper;
-mod reading;
-mod refusal;
 mod sql_keeper;
-mod tables;
-mod words;
 
 pub use late_keeper::{LateKeeper, Opener};
 pub use open_keeper::OpenKeeper;

@@ -3,10 +3,11 @@ ghost use Rattle.case_rules.specs.Cases.{is_named, is_queued, queued_of, own_lin
 ghost use Rattle.case_keeper.specs.Keeper.{Tells, told_after, KeepCause};
 ghost use Rattle.sqlite_keeper.specs.Counting.{untold, counted};
 
+use crate::asking::{named, queued};
 use crate::counting::counting;
-use crate::database::Database;
 use case_keeper::{KeepFault, Keeper};
 use case_rules::{Case, Change, Line};
+use case_tables::Database;
 use sqlite::{Alter, Connection};
 use std::alloc::Global;
 use vet_base::{Name, Shared};
@@ -56,7 +57,7 @@ impl<S: Alter + Drop> Keeper for OpenKeeper<S> {
         ensures counted { self.new.faults ≡ counted self.old.faults result }
     {
         let found = self.database.find(alloc, party, reference);
-        counting(&mut self.faults, found)
+        counting(&mut self.faults, named(found, party, reference))
     }
 
     fn first_queued(&mut self, alloc: Global) -> Result<Option<Case>, KeepFault>
@@ -67,7 +68,7 @@ impl<S: Alter + Drop> Keeper for OpenKeeper<S> {
         ensures counted { self.new.faults ≡ counted self.old.faults result }
     {
         let found = self.database.first_queued(alloc);
-        counting(&mut self.faults, found)
+        counting(&mut self.faults, queued(found))
     }
 
     fn queued(&mut self, _alloc: Global, party: &Name) -> Result<u64, KeepFault>

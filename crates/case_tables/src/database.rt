@@ -1,5 +1,4 @@
-ghost use Rattle.std.specs.Prelude.{◌≡◌, true, IfOk, IfSome};
-ghost use Rattle.case_rules.specs.Cases.{is_named, is_queued};
+ghost use Rattle.std.specs.Prelude.{◌≡◌, true, false, IsOk};
 
 use crate::changing::make_change;
 use crate::reading::{
@@ -20,8 +19,10 @@ pub struct Database<S: Alter + Drop> {
 }
 
 impl<S: Alter + Drop> Database<S> {
+    /// The database of a connection, of which nothing is asked yet.
     pub fn over(connection: Connection<S>) -> Database<S>
-        ensures { result.connection ≡ connection }
+        ensures connection { result.connection ≡ connection }
+        ensures tables { result.has_tables ≡ false }
     {
         Database {
             connection,
@@ -29,6 +30,7 @@ impl<S: Alter + Drop> Database<S> {
         }
     }
 
+    /// Hands the connection back.
     pub fn give_back(self) -> Connection<S>
         ensures { result ≡ self.connection }
     {
@@ -37,7 +39,9 @@ impl<S: Alter + Drop> Database<S> {
     }
 
     /// Makes the tables where they are not there.
-    fn ready(&mut self) -> Result<(), Refusal> {
+    fn ready(&mut self) -> Result<(), Refusal>
+        ensures { IsOk result → self.new.has_tables ≡ true }
+    {
         if !self.has_tables {
             make_tables(&mut self.connection)?;
             self.has_tables = true;
@@ -45,61 +49,63 @@ impl<S: Alter + Drop> Database<S> {
         Ok(())
     }
 
-    /// The case of this developer and reference.
+    /// The case that the database has of this developer and reference. Whether it has their name is for the caller to ask.
     pub fn find(
         &mut self,
         alloc: Global,
         party: &Name,
         reference: &Name,
     ) -> Result<Option<Case>, Refusal>
-        ensures { IfOk result (λ found. IfSome found (λ case. is_named party.now reference.now case ≡ true)) }
+        // It answers only once the tables are there.
+        ensures { IsOk result → self.new.has_tables ≡ true }
     {
         self.ready()?;
-        let Some(number) = number_named(&mut self.connection, party, reference)? else {
-            return Ok(None);
-        };
-        let case = case_numbered(alloc, &mut self.connection, number)?;
-        if !case.is_named(party, reference) {
-            return Err(Refusal::Database);
+        match number_named(&mut self.connection, party, reference)? {
+            None => Ok(None),
+            Some(number) => Ok(Some(case_numbered(alloc, &mut self.connection, number)?)),
         }
-        Ok(Some(case))
     }
 
-    /// The case without an entry of the least number.
+    /// The case of the least number of those that the database tells to be without an entry. Whether it has none is for
+    /// the caller to ask.
     pub fn first_queued(&mut self, alloc: Global) -> Result<Option<Case>, Refusal>
-        ensures { IfOk result (λ found. IfSome found (λ case. is_queued case ≡ true)) }
+        ensures { IsOk result → self.new.has_tables ≡ true }
     {
         self.ready()?;
-        let Some(number) = number_queued(&mut self.connection)? else {
-            return Ok(None);
-        };
-        let case = case_numbered(alloc, &mut self.connection, number)?;
-        if !case.is_queued() {
-            return Err(Refusal::Database);
+        match number_queued(&mut self.connection)? {
+            None => Ok(None),
+            Some(number) => Ok(Some(case_numbered(alloc, &mut self.connection, number)?)),
         }
-        Ok(Some(case))
     }
 
     /// How many cases of the developer have no entry.
-    pub fn queued(&mut self, party: &Name) -> Result<u64, Refusal> {
+    pub fn queued(&mut self, party: &Name) -> Result<u64, Refusal>
+        ensures { IsOk result → self.new.has_tables ≡ true }
+    {
         self.ready()?;
         count_queued(&mut self.connection, party)
     }
 
     /// The cases of the developer, by reference.
-    pub fn list(&mut self, alloc: Global, party: &Name) -> Result<Shared<Line>, Refusal> {
+    pub fn list(&mut self, alloc: Global, party: &Name) -> Result<Shared<Line>, Refusal>
+        ensures { IsOk result → self.new.has_tables ≡ true }
+    {
         self.ready()?;
         lines_of(alloc, &mut self.connection, party)
     }
 
     /// The cases with an open appeal, by developer and reference.
-    pub fn appeals(&mut self, alloc: Global) -> Result<Shared<Line>, Refusal> {
+    pub fn appeals(&mut self, alloc: Global) -> Result<Shared<Line>, Refusal>
+        ensures { IsOk result → self.new.has_tables ≡ true }
+    {
         self.ready()?;
         open_lines(alloc, &mut self.connection)
     }
 
     /// Makes a change in one transaction.
-    pub fn apply(&mut self, change: &Change) -> Result<(), Refusal> {
+    pub fn apply(&mut self, change: &Change) -> Result<(), Refusal>
+        ensures { IsOk result → self.new.has_tables ≡ true }
+    {
         self.ready()?;
         make_change(&mut self.connection, change)
     }

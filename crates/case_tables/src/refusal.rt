@@ -1,4 +1,3 @@
-use case_keeper::KeepFault;
 use sqlite::{Error, ErrorCode};
 use std::alloc::{AllocError, AllocFailed};
 use vet_base::Memory;
