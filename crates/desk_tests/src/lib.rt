@@ -5,4 +5,4 @@
 #[cfg(test)]
 mod of_desk_answers;
 #[cfg(test)]
-mod of_desk_office;
+mod of_store_office;

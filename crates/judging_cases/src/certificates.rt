@@ -1,5 +1,5 @@
 //! Certificates: what `certify` writes for an app, and what `recheck` answers to it and to changed ones.
-use crate::folder::{Held, answer_for, path_of, want};
+use crate::folder::{Held, answer_for, files_here, want};
 use std::alloc::{AllocError, Global};
 use std::marker::Sync;
 use std::rt::Files;
@@ -17,24 +17,27 @@ const FILES: [(&str, &str); 5] = [
     ("classes.dex", "example_other_box.dex"),
 ];
 
+fn certificate_name(alloc: Global) -> Result<Name, AllocError> {
+    Name::from_bytes(alloc, b"C".as_slice()).map_err(want)
+}
+
+/// These files, which fail at this call, if it is not 0.
+fn files_failing(alloc: Global, held: Held, failing: u64) -> io::Result<MemFiles> {
+    let calls = vec![in alloc; failing]?;
+    Ok(MemFiles::new(held, calls))
+}
+
 /// The folder `D`, and the certificate `C` where there is one. The files fail at this call, if it is not 0.
 fn folder<R: Files + AllocGlobal + Threads + Wait + Sync>(
     rt: &R,
     certificate: Option<Vec<u8>>,
     failing: u64,
 ) -> io::Result<MemFiles> {
-    let alloc = rt.alloc();
-    let mut held: Held = Vec::new(alloc);
-    for (name, file) in FILES {
-        held.push((path_of(alloc, name)?, fs::read(rt, file)?))?;
-    }
+    let mut held = files_here(rt, &FILES)?;
     if let Some(bytes) = certificate {
-        held.push((
-            Name::from_bytes(alloc, b"C".as_slice()).map_err(want)?,
-            bytes,
-        ))?;
+        held.push((certificate_name(rt.alloc())?, bytes))?;
     }
-    Ok(MemFiles::new(held, vec![in alloc; failing]?))
+    files_failing(rt.alloc(), held, failing)
 }
 
 /// The status and the text for a command on `D` and `C` over these files.
@@ -95,6 +98,51 @@ fn count_in(whole: &[u8]) -> u32 {
     u32::from_le_bytes(bytes)
 }
 
+/// Without the row from one offset to the other.
+fn dropped(alloc: Global, whole: &[u8], from: usize, to: usize) -> Result<Vec<u8>, AllocError> {
+    let count = count_in(whole).saturating_sub(1);
+    let rows = [
+        part(whole, 44, from),
+        part(whole, to, whole.len()),
+        b"".as_slice(),
+    ];
+    with_rows(alloc, whole, count, rows)
+}
+
+/// With the rows from `a` to `b` and from `b` to `c` exchanged.
+fn swapped(
+    alloc: Global,
+    whole: &[u8],
+    a: usize,
+    b: usize,
+    c: usize,
+) -> Result<Vec<u8>, AllocError> {
+    let mut bytes = part(whole, 0, a).to_vec(alloc)?;
+    bytes.extend_from_slice(part(whole, b, c))?;
+    bytes.extend_from_slice(part(whole, a, b))?;
+    bytes.extend_from_slice(part(whole, c, whole.len()))?;
+    Ok(bytes)
+}
+
+/// With so many rows, whose bytes have these hexadecimal digits.
+fn with_digits(
+    alloc: Global,
+    whole: &[u8],
+    count: usize,
+    digits: &str,
+) -> Result<Vec<u8>, AllocError> {
+    let Ok(rows) = hex::decode(alloc, digits) else {
+        return Ok(Vec::new(alloc));
+    };
+    let count = u32::try_from(count).unwrap_or(0);
+    with_rows(
+        alloc,
+        whole,
+        count,
+        [rows.as_slice(), b"".as_slice(), b"".as_slice()],
+    )
+}
+
 /// The certificate after a change: `whole` changes nothing; `drop A B` takes the row from offset A to B out; `swap A B
 /// C` exchanges the rows from A to B and from B to C; `rows N HEX` has N rows of these bytes in place of its own;
 /// `other` is that of another app; and `nothing` has no bytes.
@@ -105,30 +153,11 @@ fn changed(alloc: Global, whole: &[u8], other: &[u8], change: &str) -> Result<Ve
     let second = words.next().unwrap_or("");
     let third = words.next().unwrap_or("");
     let (a, b, c) = (number_in(first), number_in(second), number_in(third));
-    let end = whole.len();
     match how {
         "whole" => whole.to_vec(alloc),
-        "drop" => {
-            let count = count_in(whole).saturating_sub(1);
-            let rows = [part(whole, 44, a), part(whole, b, end), b"".as_slice()];
-            with_rows(alloc, whole, count, rows)
-        }
-        "swap" => {
-            let mut bytes = part(whole, 0, a).to_vec(alloc)?;
-            bytes.extend_from_slice(part(whole, b, c))?;
-            bytes.extend_from_slice(part(whole, a, b))?;
-            bytes.extend_from_slice(part(whole, c, end))?;
-            Ok(bytes)
-        }
-        "rows" => match hex::decode(alloc, second) {
-            Ok(rows) => with_rows(
-                alloc,
-                whole,
-                u32::try_from(a).unwrap_or(0),
-                [rows.as_slice(), b"".as_slice(), b"".as_slice()],
-            ),
-            Err(_) => Ok(Vec::new(alloc)),
-        },
+        "drop" => dropped(alloc, whole, a, b),
+        "swap" => swapped(alloc, whole, a, b, c),
+        "rows" => with_digits(alloc, whole, a, second),
         "other" => other.to_vec(alloc),
         _ => Ok(Vec::new(alloc)),
     }
@@ -168,20 +197,28 @@ fn is_due<R: Files + Print + AllocGlobal + Threads + Wait + Sync>(
     Ok(false)
 }
 
+/// How many changed certificates are answered as is due, of those that the lines name.
+fn due_in_text<R: Files + Print + AllocGlobal + Threads + Wait + Sync>(
+    rt: &R,
+    whole: &[u8],
+    other: &[u8],
+    text: &str,
+) -> io::Result<u64> {
+    let mut due = 0u64;
+    for line in text.lines() {
+        due = due.saturating_add(u64::from(is_due(rt, whole, other, line)?));
+    }
+    Ok(due)
+}
+
 /// Prints how many changed certificates are answered as is due, and those that are not.
 fn rechecked<R: Files + Print + AllocGlobal + Threads + Wait + Sync>(
     rt: &R,
     whole: &[u8],
 ) -> io::Result<()> {
-    let alloc = rt.alloc();
     let other = fs::read(rt, "empty.cert")?;
     let text = fs::read_to_string(rt, "certificate_cases.txt")?;
-    let mut due = 0u64;
-    for line in text.as_str().lines() {
-        if is_due(rt, whole, &other, line)? {
-            due = due.saturating_add(1);
-        }
-    }
+    let due = due_in_text(rt, whole, &other, text.as_str())?;
     println!(rt; "certificate_cases.txt: {due} answers that are due")
 }
 

@@ -5,7 +5,9 @@
 //! for the app whose files lie here.
 #![tactic(auto)]
 
+mod cases;
 mod certificates;
+mod cuts;
 mod folder;
 mod generated;
 mod saying;
@@ -15,167 +17,64 @@ mod tables;
 mod timing;
 mod whole_program;
 
+use crate::cases::cases;
 use crate::certificates::certificates;
-use crate::folder::{Held, answer_to, folder_with, path_of};
+use crate::cuts::{components, cuts};
+use crate::folder::{Held, files_here};
 use crate::generated::generated;
 use crate::tables::{tables, times};
 use crate::whole_program::whole_program;
+use std::env::Env;
 use std::marker::Sync;
 use std::rt::Files;
 use std::sync::Wait;
 use std::thread::Threads;
-use std::{env, fs, io};
+use std::{env, io};
 
-/// Reads the cases, which stand each behind a line `## TITLE`, and prints those that are not answered as is due.
-fn cases<R: Files + Print + AllocGlobal + Threads + Wait + Sync>(
+/// The files of the folder whose app posts the device id, and where they lie here.
+const SAMPLE: [(&str, &str); 5] = [
+    ("manifest.toml", "manifest.toml"),
+    ("layouts.toml", "layouts.toml"),
+    ("declaration.toml", "declaration.toml"),
+    ("lists.toml", "lists.toml"),
+    ("classes.dex", "device_id_posted.dex"),
+];
+
+/// Prints what is answered to folders in memory that differ from the sample.
+fn folders_by<R: Files + Print + AllocGlobal + Threads + Wait + Sync>(
     rt: &R,
-    name: &str,
     sample: &Held,
 ) -> io::Result<()> {
-    let text = fs::read_to_string(rt, name)?;
-    let mut due = 0u64;
-    for case in text.as_str().split("\n## ").skip(1) {
-        let (title, _) = case.split_once("\n").unwrap_or((case, ""));
-        let (found, want) = answers_of(rt, case, sample)?;
-        if found.as_str() == want.as_str() {
-            due = due.saturating_add(1);
-        } else {
-            println!(rt; "{title}: {found} in place of {want}")?;
-        }
-    }
-    println!(rt; "{name}: {due} answers that are due")
-}
-
-/// What is answered in a case, and what is due.
-///
-/// Behind the title stand parts, each behind a line `> HEAD`. The head `answer` comes before the status and the text
-/// that are due, `NAME` before the text of that file of the folder, `NAME = FILE` gives it the bytes of a file that
-/// lies here, and `NAME = -` says that it is absent.
-fn answers_of<R: Files + AllocGlobal + Threads + Wait + Sync>(
-    rt: &R,
-    case: &str,
-    sample: &Held,
-) -> io::Result<(String, String)> {
-    let alloc = rt.alloc();
-    let mut changes = Vec::new(alloc);
-    let mut want = String::new(alloc);
-    let mut absent = path_of(alloc, "")?;
-    for part in case.split("\n> ").skip(1) {
-        let (head, body) = part.split_once("\n").unwrap_or((part, ""));
-        let (name, file) = head.split_once(" = ").unwrap_or((head, ""));
-        if head == "answer" {
-            let due = body.trim_end();
-            want = format!(in alloc; "{due}\n")?;
-        } else if file == "-" {
-            absent = path_of(alloc, name)?;
-        } else if file.is_empty() {
-            changes.push((path_of(alloc, name)?, body.as_bytes().to_vec(alloc)?))?;
-        } else {
-            changes.push((path_of(alloc, name)?, fs::read(rt, file)?))?;
-        }
-    }
-    let folder = folder_with(alloc, changes, &absent, sample)?;
-    Ok((answer_to(rt, folder)?, want))
-}
-
-/// Prints at how many bytes of a DEX file a cut is answered as is due.
-fn cuts<R: Files + Print + AllocGlobal + Threads + Wait + Sync>(
-    rt: &R,
-    name: &str,
-    sample: &Held,
-) -> io::Result<()> {
-    let alloc = rt.alloc();
-    let bytes = fs::read(rt, name)?;
-    let few = "rows = 1\ncategories = [\"a\"]\n".as_bytes();
-    let none = path_of(alloc, "")?;
-    let mut due = 0u64;
-    for n in 0..bytes.len() {
-        let mut changes = Vec::new(alloc);
-        changes.push((path_of(alloc, "lists.toml")?, few.to_vec(alloc)?))?;
-        changes.push((path_of(alloc, "classes.dex")?, bytes[..n].to_vec(alloc)?))?;
-        let found = answer_to(rt, folder_with(alloc, changes, &none, sample)?)?;
-        let reason = if n < 8 {
-            "magic"
-        } else if n < 112 {
-            "outside at 0"
-        } else {
-            "header file_size"
-        };
-        let want = format!(in alloc; "3\nrefused classes.dex: {reason}\n")?;
-        if found.as_str() == want.as_str() {
-            due = due.saturating_add(1);
-        } else {
-            println!(rt; "cut at {n}: {found}")?;
-        }
-    }
-    println!(rt; "{name}: {due} cuts that are answered as is due")
-}
-
-/// Prints what is answered to a manifest with so many components.
-fn components<R: Print + AllocGlobal + Threads + Wait + Sync>(
-    rt: &R,
-    count: u32,
-    sample: &Held,
-) -> io::Result<()> {
-    let alloc = rt.alloc();
-    let mut text = String::from_str(alloc, "package = \"a\"\ndex_files = 1\n")?;
-    for i in 0..count {
-        let class = format!(in alloc; "class = \"L{i};\"\n")?;
-        text.push_str("[[component]]\nkind = \"activity\"\n")?;
-        text.push_str(class.as_str())?;
-    }
-    let mut changes = Vec::new(alloc);
-    changes.push((
-        path_of(alloc, "manifest.toml")?,
-        text.as_bytes().to_vec(alloc)?,
-    ))?;
-    let none = path_of(alloc, "")?;
-    let found = answer_to(rt, folder_with(alloc, changes, &none, sample)?)?;
-    let found = found.as_str().trim_end();
-    println!(rt; "{count} components: {found}")
-}
-
-/// The folder whose app posts the device id.
-fn sample_of<R: Files + AllocGlobal + Threads + Wait + Sync>(rt: &R) -> io::Result<Held> {
-    let alloc = rt.alloc();
-    let mut sample = Vec::new(alloc);
-    for name in [
-        "manifest.toml",
-        "layouts.toml",
-        "declaration.toml",
-        "lists.toml",
-    ] {
-        sample.push((path_of(alloc, name)?, fs::read(rt, name)?))?;
-    }
-    sample.push((
-        path_of(alloc, "classes.dex")?,
-        fs::read(rt, "device_id_posted.dex")?,
-    ))?;
-    Ok(sample)
+    cases(rt, "cases.txt", sample)?;
+    cases(rt, "link_cases.txt", sample)?;
+    cases(rt, "flow_cases.txt", sample)?;
+    cases(rt, "example_cases.txt", sample)?;
+    cases(rt, "opcode_cases.txt", sample)?;
+    cuts(rt, "device_id_posted.dex", sample)?;
+    components(rt, 4097, sample)
 }
 
 /// Prints what is answered to folders in memory.
 fn folders<R: Files + Print + AllocGlobal + Threads + Wait + Sync>(rt: &R) -> io::Result<()> {
-    let sample = sample_of(rt)?;
-    cases(rt, "cases.txt", &sample)?;
-    cases(rt, "link_cases.txt", &sample)?;
-    cases(rt, "flow_cases.txt", &sample)?;
-    cases(rt, "example_cases.txt", &sample)?;
-    cases(rt, "opcode_cases.txt", &sample)?;
-    cuts(rt, "device_id_posted.dex", &sample)?;
-    components(rt, 4097, &sample)
+    let sample = files_here(rt, &SAMPLE)?;
+    folders_by(rt, &sample)
+}
+
+/// Whether the first word is `times`.
+fn asks_for_times<R: Env + AllocGlobal>(rt: &R) -> io::Result<bool> {
+    match env::args(rt)?.nth(1) {
+        Some(word) => Ok(word.as_str() == "times"),
+        None => Ok(false),
+    }
 }
 
 fn main(rt: HostRuntime) -> io::Result<()> {
-    let mut words = env::args(&rt)?.skip(1);
-    match words.next() {
-        Some(word) if word.as_str() == "times" => times(&rt),
-        _ => {
-            folders(&rt)?;
-            certificates(&rt)?;
-            generated(&rt)?;
-            tables(&rt)?;
-            whole_program(rt)
-        }
+    if asks_for_times(&rt)? {
+        return times(&rt);
     }
+    folders(&rt)?;
+    certificates(&rt)?;
+    generated(&rt)?;
+    tables(&rt)?;
+    whole_program(rt)
 }

@@ -21,12 +21,14 @@ where
     println!(rt; "{code:?}")
 }
 
-/// Prints what the program answers to an app that is clear, to a folder without layouts, and to no words.
+/// Prints what the program answers to an app that is clear, to one of two DEX files, the second of which sends the
+/// device id, to a folder without layouts, and to no words.
 pub fn whole_program<R>(rt: R) -> io::Result<()>
 where
     R: Files + Print + AllocGlobal + Threads + Wait + Sync + Copy + Drop,
 {
     answered(rt, &["check", "clear", "1"])?;
+    answered(rt, &["check", "two_files", "1"])?;
     answered(rt, &["check", "without_layouts", "1"])?;
     answered(rt, &[])
 }
