@@ -1,0 +1,12 @@
+pub mod Appending
+pub mod Beginning
+pub mod Eights
+pub mod Ending
+pub mod Firm
+pub mod Going
+pub mod Mending
+pub mod OneLog
+pub mod Pieces
+pub mod Records
+pub mod Shutting
+pub mod Standing

@@ -1,0 +1,17 @@
+use Rattle.gated_log.proofs.Ending as ending
+use Rattle.gated_log.proofs.closing.cut_rest.Goals as goal
+
+pub cut_to_stay-requires : goal.cut_to_stay-requires
+cut_to_stay-requires g c =
+    let told = g.D.Disk.told in
+    ending.closed_reach c.args.end (told c.args.disk.now) (told c.args.disk.now) c.requires.ends
+
+pub returns-clause-closes : goal.returns-clause-closes
+returns-clause-closes g c =
+    let told = g.D.Disk.told in
+    ending.closed_closes c.args.end (told c.args.disk.now) (told c.cut_to_stay.new.disk) c.requires.ends c.cut_to_stay.result c.cut_to_stay.ensures.told
+
+pub returns-clause-any_moment : goal.returns-clause-any_moment
+returns-clause-any_moment g c =
+    let told = g.D.Disk.told in
+    ending.closed_moments c.args.end (told c.args.disk.now) (told c.cut_to_stay.new.disk) c.requires.ends c.cut_to_stay.result c.cut_to_stay.ensures.told
