@@ -2,6 +2,7 @@
 
 from __future__ import annotations
 
+import contextlib
 import json
 import os
 import re
@@ -96,9 +97,15 @@ class Limits(Nginx):
     def setUp(self) -> None:
         self.heads: list[bytes] = []
         self.socket = socket.create_server(("127.0.0.1", 0))
-        self.addCleanup(self.socket.close)
+        self.addCleanup(self.stop)
         self.answer: bytes | None = b"HTTP/1.1 200 OK\r\ncontent-type: application/json\r\ncontent-length: 2\r\n\r\n{}"
         threading.Thread(target=self.serve, daemon=True).start()
+
+    def stop(self) -> None:
+        """Ends the port: an accept that waits would hold it open for one connection more."""
+        with contextlib.suppress(OSError):
+            self.socket.shutdown(socket.SHUT_RDWR)
+        self.socket.close()
 
     def serve(self) -> None:
         while True:
