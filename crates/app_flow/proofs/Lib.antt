@@ -1,3 +1,5 @@
 pub mod Accepting
 pub mod Defecting
+pub mod Found
+pub mod InOrder
 pub mod OneFlow

@@ -1,3 +1,3 @@
-pub mod Accepted
 pub mod Defect
 pub mod Flow
+pub mod InOrder

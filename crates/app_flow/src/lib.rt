@@ -6,11 +6,13 @@ ghost use Rattle.app_flow.specs.Flow.{OneFlow};
 
 mod defect;
 mod flow;
+mod flow_rows;
 
 pub use cert_checker::{RowDefect, TableDefect};
 pub use defect::defect_of;
 use fact_rows::rows_stand_in_order;
-pub use flow::{Flow, flow_of};
+pub use flow::{Flow, flow_of, is_good};
+pub use flow_rows::FlowRows;
 
 /// An app has one flow by its lists.
 pub fn one_flow()

@@ -5,3 +5,4 @@ pub mod OneVerdict
 pub mod Outcomes
 pub mod Rechecks
 pub mod Tables
+pub mod Telling

@@ -1,6 +1,7 @@
 -- What an app comes to, that it tells of every run, and that a clear app is safe.
-use Rattle.std.proofs.Common.{◌≡◌, ◌==◌, ℕ, true, List, [], ◌∷◌, ◌++◌, Option, Some, refl, sym, ◌∙◌, ap, subst, inl, inr}
+use Rattle.std.proofs.Common.{◌≡◌, ◌==◌, ℕ, true, List, [], ◌∷◌, ◌++◌, Option, Some, None, refl, sym, ◌∙◌, ap, subst, inl, inr}
 use Rattle.std.proofs.lemmas.Bool.{eq-eqb}
+use Rattle.std.specs.Prelude.{IfNone, IfSome}
 use Rattle.app_machine.specs.declared.app.App.{App}
 use Rattle.app_machine.specs.declared.lists.Lists.{Lists}
 use Rattle.app_machine.specs.declared.papers.Declaration.{Declaration}
@@ -46,6 +47,30 @@ is_within app lists _ fields = tt
 
 pub good_is_within : (app : App) (lists : Lists) (rows : List Row) → IsGoodFlow app lists (Rows rows) → AreWithin app rows
 good_is_within app lists rows good row there = is_within app lists row (good.in_app row there)
+
+pub flow_is_within : (app : App) (lists : Lists) (flow : Flow) → IsGoodFlow app lists flow → (rows : List Row) → flow ≡ Rows rows → AreWithin app rows
+flow_is_within app lists flow good rows is = good_is_within app lists rows (subst (IsGoodFlow app lists) is good)
+
+-- what is not there is refused, so it is not good
+pub never_refused : {T : Type 0} (found : Option T) (Good : Type 0) → IfNone found (Good → ⊥) → found ≡ None → Good → ⊥
+never_refused None Good denied none good = denied good
+never_refused (Some x) Good denied none good = absurd cc
+
+pub judged_there : (app : App) (lists : Lists) (declaration : Declaration) (flow : Flow) (found : Option Judged) (j : Judged) →
+    IfSome found (λ k. k ≡ judged_by app lists declaration flow) → found ≡ Some j → j ≡ judged_by app lists declaration flow
+judged_there app lists declaration flow found j same is = subst (λ (o : Option Judged). IfSome o (λ k. k ≡ judged_by app lists declaration flow)) is same
+
+-- what the checker says of the rows of a flow
+pub clear_by_checker : (app : App) (lists : Lists) (flow : Flow) (rows : List Row) (outcome : Outcome) → flow ≡ Rows rows →
+    (outcome ≡ Clear → GoodTable app lists rows) → outcome ≡ Clear → IsGoodFlow app lists flow
+clear_by_checker app lists flow rows outcome is told clear = subst (IsGoodFlow app lists) (sym is) (told clear)
+
+pub refused_by_checker : (app : App) (lists : Lists) (flow : Flow) (rows : List Row) → flow ≡ Rows rows →
+    (GoodTable app lists rows → ⊥) → IsGoodFlow app lists flow → ⊥
+refused_by_checker app lists flow rows is denied good = denied (subst (IsGoodFlow app lists) is good)
+
+pub too_large_is_good : (app : App) (lists : Lists) (flow : Flow) (limit : ℕ) → flow ≡ TooLarge limit → IsGoodFlow app lists flow
+too_large_is_good app lists flow limit is = subst (IsGoodFlow app lists) (sym is) tt
 
 -- an outcome tells the causes and findings of which it is made
 causes_told : (causes : List Cause) (items : List Finding) → causes_in (outcome_of causes items) ≡ causes

@@ -1,9 +1,11 @@
 //! What the bytes of all parts of an app come to.
 
-ghost use Rattle.std.specs.Prelude.{◌≡◌, ◌⊎◌, IfOk, IfErr, IfSome, IsErr};
+ghost use Rattle.std.specs.Prelude.{◌≡◌, ◌⊎◌, IfOk, IfErr, IfNone, IfSome, IsErr, IsTrue, List};
 ghost use Rattle.app_machine.specs.SoundLists.{SoundLists};
 ghost use Rattle.app_machine.specs.Sound.{SoundApp};
 ghost use Rattle.app_flow.specs.Flow.{IsGoodFlow};
+ghost use Rattle.fact_rows.specs.declared.row.Row.{Row as FactRow};
+ghost use Rattle.flow_rules.specs.Rules.{GoodTable};
 ghost use Rattle.outcomes.specs.Causes.{causes_of};
 ghost use Rattle.outcomes.specs.Findings.{findings_of};
 ghost use Rattle.outcomes.specs.Within.{AreWithin};
@@ -18,8 +20,8 @@ use crate::laws::lower_laws;
 use crate::linking::{Linked, linked_parts};
 use crate::papers::{Halt, Papers};
 use crate::{Cause, Finding, Judged, Outcome, Parts};
-use app_flow::{Flow, flow_of};
-use app_model::App;
+use app_flow::{Flow, FlowRows, flow_of, is_good};
+use app_model::{App, Lists};
 use fact_rows::Row;
 use flow_proof::every_good_table_covers_every_run;
 use outcomes::{causes_of, causes_too_large, findings_of, nothing_is_left_out};
@@ -59,27 +61,109 @@ pub fn outcome_of_rows(
     Ok(outcome_with(causes, findings))
 }
 
-/// What an app comes to by its flow.
-fn judged_by(alloc: Global, app: &App, papers: &Papers, flow: Flow) -> Result<Judged, Memory>
+/// What an app comes to by the rows of its flow. Those that tell something by themselves are enough for that.
+fn outcome_of_flow(
+    alloc: Global,
+    app: &App,
+    papers: &Papers,
+    rows: &FlowRows,
+) -> Result<Outcome, Memory>
     requires sound { SoundApp app.now }
-    requires good { IsGoodFlow app.now papers.now.lists flow }
-    ensures { IfOk result (λ j. j ≡ judged_by app.now papers.now.lists papers.now.declaration flow) }
+    requires within { AreWithin app.now rows.now }
+    ensures { IfOk result (λ o. o ≡ outcome_of (causes_of app.now rows.now)
+        (findings_of app.now papers.now.lists papers.now.declaration rows.now)) }
+{
+    let telling = rows.telling(alloc)?;
+    let outcome = outcome_of_rows(alloc, app, papers, telling.as_slice())?;
+    Ok(outcome)
+}
+
+/// The outcome by rows, where it may be told: one that is clear where the checker accepts the rows, which it alone
+/// decides; any other without it.
+fn confirmed<T: Threads + Sync, G>(
+    alloc: Global,
+    app: &App,
+    lists: &Lists,
+    rows: &FlowRows,
+    outcome: Outcome,
+    crew: &Crew<'_, T, G>,
+) -> Result<Option<Outcome>, Memory>
+    requires sound { SoundApp app.now }
+    requires lists { SoundLists lists.now }
+    ensures some { IfOk result (λ found. IfSome found (λ o. o ≡ outcome)) }
+    ensures clear { IfOk result (λ found. IfSome found (λ o. o ≡ Outcome.Clear → GoodTable app.now lists.now rows.now)) }
+    ensures none { IfOk result (λ found. IfNone found (GoodTable app.now lists.now rows.now → ⊥)) }
+{
+    match outcome {
+        Outcome::Clear => {
+            if is_good(alloc, app, lists, rows, crew)? {
+                Ok(Some(Outcome::Clear))
+            } else {
+                Ok(None)
+            }
+        }
+        Outcome::Flagged(findings) => Ok(Some(Outcome::Flagged(findings))),
+        Outcome::Undecided(causes, findings) => Ok(Some(Outcome::Undecided(causes, findings))),
+        Outcome::Refused(part, reason) => Ok(Some(Outcome::Refused(part, reason))),
+    }
+}
+
+/// What an app comes to by the rows of its flow, of which nothing is known but what methods they name; so where that is
+/// clear, it is so by the checker's word. None only where the checker refuses the rows.
+fn outcome_by<T: Threads + Sync, G>(
+    alloc: Global,
+    app: &App,
+    papers: &Papers,
+    rows: &FlowRows,
+    crew: &Crew<'_, T, G>,
+) -> Result<Option<Outcome>, Memory>
+    requires sound { SoundApp app.now }
+    requires lists { SoundLists papers.now.lists }
+    requires within { AreWithin app.now rows.now }
+    ensures some { IfOk result (λ found. IfSome found (λ o. o ≡ outcome_of (causes_of app.now rows.now)
+        (findings_of app.now papers.now.lists papers.now.declaration rows.now))) }
+    ensures clear { IfOk result (λ found. IfSome found (λ o. o ≡ Outcome.Clear → GoodTable app.now papers.now.lists
+        rows.now)) }
+    ensures none { IfOk result (λ found. IfNone found (GoodTable app.now papers.now.lists rows.now → ⊥)) }
+{
+    let outcome = outcome_of_flow(alloc, app, papers, rows)?;
+    confirmed(alloc, app, &papers.lists, rows, outcome, crew)
+}
+
+/// What an app comes to by its flow: as its rows say, or that they are too many. None only where the checker refuses
+/// the rows.
+#[tactic(auto, using(crate::proofs::Outcomes::clear_by_checker, crate::proofs::Outcomes::refused_by_checker, crate::proofs::Outcomes::too_large_is_good))]
+fn judged_by<T: Threads + Sync, G>(
+    alloc: Global,
+    app: &App,
+    papers: &Papers,
+    flow: Flow,
+    crew: &Crew<'_, T, G>,
+) -> Result<Option<Judged>, Memory>
+    requires sound { SoundApp app.now }
+    requires lists { SoundLists papers.now.lists }
+    requires within { (rows : List FactRow) → flow ≡ Flow.Rows rows → AreWithin app.now rows }
+    ensures some { IfOk result (λ found. IfSome found (λ j. j ≡ judged_by app.now papers.now.lists
+        papers.now.declaration flow)) }
+    ensures clear { IfOk result (λ found. IfSome found (λ j. j.outcome ≡ Outcome.Clear → IsGoodFlow app.now
+        papers.now.lists flow)) }
+    ensures none { IfOk result (λ found. IfNone found (IsGoodFlow app.now papers.now.lists flow → ⊥)) }
 {
     match flow {
-        Flow::Rows(rows) => {
-            let outcome = outcome_of_rows(alloc, app, papers, rows.as_slice())?;
-            Ok(Judged {
+        Flow::Rows(rows) => match outcome_by(alloc, app, papers, &rows, crew)? {
+            Some(outcome) => Ok(Some(Judged {
                 outcome,
                 table: Some(rows),
-            })
-        }
+            })),
+            None => Ok(None),
+        },
         Flow::TooLarge(limit) => {
             let causes = causes_too_large(alloc, app, limit)?;
             let none = Vec::new(alloc);
-            Ok(Judged {
+            Ok(Some(Judged {
                 outcome: Outcome::Undecided(Seq::from_vec(causes), Seq::from_vec(none)),
                 table: None,
-            })
+            }))
         }
     }
 }
@@ -103,8 +187,11 @@ pub fn judge_linked<T: Threads + Wait + Sync, G: Gate>(
     nothing_is_left_out();
     every_good_table_covers_every_run();
     let flow = flow_of(alloc, &linked.app, &linked.papers.lists, crew)?;
-    let judged = judged_by(alloc, &linked.app, &linked.papers, flow)?;
-    Ok(judged)
+    match judged_by(alloc, &linked.app, &linked.papers, flow, crew)? {
+        Some(judged) => Ok(judged),
+        // The checker refuses nothing that the crew finds.
+        None => unreachable!(),
+    }
 }
 
 #[tactic(auto, using(crate::proofs::Outcomes::judgement_on, crate::proofs::Outcomes::tells_of_parts))]

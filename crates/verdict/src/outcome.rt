@@ -4,7 +4,7 @@ ghost use Rattle.std.specs.Prelude.{◌≡◌};
 ghost use Rattle.verdict.specs.Outcome.{status_of};
 
 use crate::{Cause, Finding};
-use app_flow::TableDefect;
+use app_flow::{FlowRows, TableDefect};
 use app_link::LinkFault;
 use dex_reader::DexFault;
 use fact_rows::Row;
@@ -53,7 +53,7 @@ pub enum Outcome {
 pub struct Judged {
     pub outcome: Outcome,
     /// The derivable rows, in ascending order: there just where the parts make an app and it is not too large.
-    pub table: Option<Seq<Row>>,
+    pub table: Option<FlowRows>,
 }
 
 /// What the parts of an app come to by rows that anyone made.

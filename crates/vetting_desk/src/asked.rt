@@ -49,6 +49,7 @@ fn with_certificate(
     match table {
         None => Ok(Answer::Vetted(outcome)),
         Some(rows) => {
+            let rows = rows.into_ascending(alloc)?;
             let bytes = certificate_of(alloc, parts, rows.as_slice())?;
             let path = String::from_str(alloc, path)?;
             Ok(Answer::Certified(outcome, path, Seq::from_vec(bytes)))
