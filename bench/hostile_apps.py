@@ -135,6 +135,36 @@ def own_interfaces(n):
     return dex
 
 
+def listed(classes, rows, chained):
+    """Lists of so many classes, in chains of so many, and a callback row on every so many of them."""
+    text = ['rows = 4000000\ncategories = ["device_id"]\n']
+    for name in ['Ljava/lang/Object;', 'Landroid/app/Activity;', 'Llib;']:
+        text.append(f'[[class]]\nname = "{name}"\ndefault = "blank"\n')
+    for i in range(classes):
+        parents = f'parents = ["Lx{i - 1};"]\n' if i % chained else ''
+        text.append(f'[[class]]\nname = "Lx{i};"\n{parents}default = "blank"\n')
+    for i in range(rows):
+        text.append(f'[[callback]]\nclass = "Lx{i * (classes // rows)};"\nname = "m{i}"\nproto = "()V"\n')
+    return '\n'.join(text)
+
+
+def listened(n, chained=60, is_chain=False):
+    """Classes each of which, or of which the first, implements a listed class, with the body of a callback; all are handed to the
+    library."""
+    dex = DexFile()
+    dex.lists = listed(16_000, 4_000, chained)
+    take = dex.method('Llib;', 'take', 'V', ['Ljava/lang/Object;'])
+    units, above = [], 'Ljava/lang/Object;'
+    for i in range(n):
+        name, row = f'Lc{i};', i % 4_000
+        body = (dex.method(name, f'm{row}'), PUBLIC, code_item(1, 1, unit(RETURN_VOID)))
+        interfaces = [] if is_chain and i else [f'Lx{4 * row + 3};']
+        dex.add_class(name, above, interfaces, methods=[body])
+        units.append(unit(0x0022, dex.type(name)) + unit(0x1071, take, 0))
+        above = name if is_chain else above
+    return with_main(dex, code_item(3, 2, b''.join(units) + unit(RETURN_VOID)), True)
+
+
 CASES = {
     'sget_missing': (20_000, missing(True)),
     'iget_missing': (20_000, missing(False)),
@@ -152,6 +182,8 @@ CASES = {
     'handlers_reached': (32_500, lambda n: handled(n, True)),
     'handlers_allowed': (16_000, lambda n: handled(n, True, 32)),
     'own_interfaces': (20_000, own_interfaces),
+    'listened': (30_000, listened),
+    'listened_chain': (20_000, lambda n: listened(n, is_chain=True)),
 }
 
 
@@ -168,7 +200,8 @@ def folder_of(folder, title, dex):
             out.write(f'[[component]]\nkind = "activity"\nclass = "{MAIN}"\n')
     for name in ['layouts.toml', 'declaration.toml']:
         open(f'{path}/{name}', 'w').close()
-    shutil.copy(f'{here}/../examples/lists.toml', f'{path}/lists.toml')
+    with open(f'{here}/../examples/lists.toml') as lists, open(f'{path}/lists.toml', 'w') as out:
+        out.write(getattr(dex, 'lists', None) or lists.read())
     return path, len(text)
 
 

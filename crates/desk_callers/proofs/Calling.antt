@@ -1,5 +1,5 @@
 -- A caller in memory dials, reads and writes.
-use Rattle.std.proofs.Common.{◌≡◌, ℕ, suc, zero, ◌<◌, ◌≤◌, Bool, true, false, List, [], ◌∷◌, ◌++◌, length, map, take, drop, min, ◌+◌, get_or, Option, option_map, slice_index_or, Vec, Global, Some, None, Result, Ok, Err, All, refl, sym, ap, ap₂, subst, ◌∙◌, arith}
+use Rattle.std.proofs.Common.{◌≡◌, ℕ, suc, zero, ◌<◌, true, false, List, [], ◌∷◌, ◌++◌, length, map, take, drop, min, ◌+◌, get_or, Option, option_map, slice_index_or, Vec, Global, Some, None, Result, Ok, Err, All, refl, ap, ap₂, ◌∙◌, arith}
 use Rattle.std.proofs.lemmas.List.Elements.{All-map}
 use Rattle.desk_links.specs.Links.{Talk, Told, Reads, Writes, without_first, with_written, ended_with}
 use Rattle.desk_links.specs.declared.link.LinkFault.{LinkFault}

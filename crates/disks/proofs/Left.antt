@@ -1,7 +1,7 @@
 -- What a read gives is among what a crash may leave.
-use Rattle.std.proofs.Common.{◌≡◌, ◌≤◌, ◌<◌, ◌+◌, max, min, ℕ, List, [], ◌∷◌, ◌++◌, length, take, drop, refl, arith, length-append}
+use Rattle.std.proofs.Common.{◌≤◌, ◌+◌, max, ℕ, List, ◌++◌, length, take, drop, refl, arith, length-append}
 use Rattle.std.proofs.lemmas.List.{length-drop, length-take}
-use Rattle.disks.specs.Disks.{Moment, MayLeave, MayLeaveItself, IsTorn, IsFrayed, BytesMayBeLeft, solid, wrote, shortened, over}
+use Rattle.disks.specs.Disks.{Moment, MayLeaveItself, IsTorn, IsFrayed, BytesMayBeLeft, solid, wrote, shortened, over}
 
 -- bytes that a failed write left as they were are torn in no part
 pub whole_torn : (old : List ℕ) (at n : ℕ) → IsTorn old at n old

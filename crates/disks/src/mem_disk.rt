@@ -4,7 +4,7 @@ ghost use Rattle.disks.specs.Memory.{told_by, fails_next, FailsAsListed, Notes};
 ghost use Rattle.disks.specs.declared.calls.DiskCall.TheVariants as asked;
 
 use crate::calls::{ended, is_listed, write_of};
-use crate::shot::{Shot, come, cut_to, written_over};
+use crate::shot::{Shot, advance, cut_to, written_over};
 use crate::{Disk, DiskCall, DiskFault};
 use std::alloc::Global;
 use std::marker::Model;
@@ -141,7 +141,7 @@ impl Disk for MemDisk {
         let next = self
             .present
             .wrote(self.alloc, at, bytes.len() as u64, next)?;
-        come(
+        advance(
             &mut self.present,
             &mut self.past,
             &mut self.calls,
@@ -162,7 +162,7 @@ impl Disk for MemDisk {
         let listed = is_listed(&self.failing, &self.calls);
         let next = cut_to(self.alloc, &self.present.bytes, len as usize, listed)?;
         let next = self.present.shortened(self.alloc, len, next)?;
-        come(
+        advance(
             &mut self.present,
             &mut self.past,
             &mut self.calls,
@@ -183,7 +183,7 @@ impl Disk for MemDisk {
             return ended(&mut self.faults, true);
         }
         let next = self.present.synced(self.alloc)?;
-        come(
+        advance(
             &mut self.present,
             &mut self.past,
             &mut self.calls,

@@ -115,7 +115,7 @@ impl Shot {
 
 /// A call is noted, the present moment becomes the last of those that are over, and another one is in its place. After
 /// want of memory nothing has changed.
-pub(crate) fn come(
+pub(crate) fn advance(
     now: &mut Shot,
     past: &mut Vec<Shot>,
     calls: &mut Vec<DiskCall>,

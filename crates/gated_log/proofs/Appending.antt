@@ -1,15 +1,14 @@
 -- The moments of an append: a closed end, a record staged behind the gate, the gate touched, and a closed end behind the record.
-use Rattle.std.proofs.Common.{◌≡◌, ◌<◌, ◌≤◌, inl, inr, ℕ, ◌+◌, List, [], ◌∷◌, ◌++◌, length, take, drop, refl, sym, ◌∙◌, ap, subst, arith, append_assoc, length-append, Option, Some, None, Result, Ok, Err}
+use Rattle.std.proofs.Common.{◌≡◌, ◌<◌, ◌≤◌, inl, inr, ℕ, ◌+◌, List, [], ◌∷◌, ◌++◌, length, take, sym, ◌∙◌, ap, subst, arith, append_assoc, length-append, Option, Some, None, Ok, Err}
 use Rattle.std.specs.Prelude.{IfSome}
 use Rattle.std.specs.Option.{option_map}
 use Rattle.disks.specs.declared.disk.DiskFault.{DiskFault}
-use Rattle.disks.specs.Disks.{Moment, Told, MayLeave, IsTorn, Reaches, solid, wrote, over}
-use Rattle.gated_log.specs.declared.log.Gate.{Gate}
+use Rattle.disks.specs.Disks.{Moment, Told, IsTorn, Reaches, solid, wrote, over}
 use Rattle.gated_log.specs.declared.log.Gate.TheVariants.{Closed, Behind, Touched}
 use Rattle.gated_log.specs.declared.log.Log.{Log}
 use Rattle.gated_log.specs.Format.{EndsWithEither, record_bytes, behind_gate, u8_bytes}
 use Rattle.gated_log.specs.Calls.{WriteStays}
-use Rattle.gated_log.specs.Ends.{IsClosed, IsBehind, IsTouched, StandsBehind, Stands, Runs, LeavesEither, front_at, front_of}
+use Rattle.gated_log.specs.Ends.{IsClosed, IsBehind, IsTouched, StandsBehind, Stands, Runs, LeavesEither, front_at}
 use Rattle.gated_log.proofs.Firm.{over_one, over_end}
 use Rattle.gated_log.proofs.Standing.{closed_long, closed_behind, closed_left, behind_left, behind_torn, behind_solid, touched_left, touched_torn, touched_solid, behind_front, touched_front, closed_front, stands_by}
 use Rattle.gated_log.proofs.Going.{AtEnd}

@@ -1,9 +1,9 @@
 -- A log is begun.
-use Rattle.std.proofs.Common.{◌≡◌, ◌≤◌, max, ℕ, ◌+◌, List, [], ◌∷◌, ◌++◌, length, take, drop, refl, sym, ◌∙◌, ap, subst, arith, Option, Some, None, Result, Ok, Err}
+use Rattle.std.proofs.Common.{◌≡◌, ◌≤◌, ℕ, ◌+◌, List, [], ◌∷◌, ◌++◌, length, take, drop, sym, ◌∙◌, ap, arith, Option, Result, Ok, Err}
 use Rattle.std.specs.Prelude.{IfSome, OnOk}
-use Rattle.std.proofs.lemmas.List.{take_all, drop_all, append-nil, length-take}
+use Rattle.std.proofs.lemmas.List.{take_all, drop_all, append-nil}
 use Rattle.disks.specs.declared.disk.DiskFault.{DiskFault}
-use Rattle.disks.specs.Disks.{Moment, Told, MayLeave, IsTorn, Reaches, solid, wrote, over}
+use Rattle.disks.specs.Disks.{Moment, Told, IsTorn, Reaches, solid, wrote, over}
 use Rattle.gated_log.specs.Format.{magic}
 use Rattle.gated_log.specs.Calls.{WriteStays}
 use Rattle.gated_log.specs.Ends.{Runs, IsShort, IsEmptyLog, LeavesShort}

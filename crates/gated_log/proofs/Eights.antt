@@ -1,5 +1,5 @@
 -- Numbers of eight bytes, there and back.
-use Rattle.std.proofs.Common.{◌≡◌, ℕ, ◌+◌, ◌*◌, ◌/◌, ◌%◌, ◌<◌, List, [], ◌∷◌, refl, sym, ap, ◌∙◌, arith}
+use Rattle.std.proofs.Common.{◌≡◌, ℕ, ◌+◌, ◌*◌, ◌/◌, ◌%◌, ◌<◌, [], ◌∷◌, refl, ◌∙◌, arith}
 use Rattle.gated_log.specs.Format.{u8_bytes, u8_of}
 
 -- four bytes of a number

@@ -1,18 +1,18 @@
 -- From what was found at the end of a log to one closed gate.
-use Rattle.std.proofs.Common.{◌≡◌, ◌≢◌, ◌<◌, ◌≤◌, inl, inr, ℕ, zero, suc, ◌+◌, List, [], ◌∷◌, ◌++◌, length, take, drop, refl, sym, ◌∙◌, ap, subst, arith, length-append, append_assoc, Option, Some, None, Result, Ok, Err}
+use Rattle.std.proofs.Common.{◌≡◌, ℕ, ◌+◌, List, [], ◌∷◌, ◌++◌, length, take, drop, refl, sym, ◌∙◌, ap, subst, arith, length-append, append_assoc, Option, Some, None, Result, Ok, Err}
 use Rattle.std.specs.Prelude.{IfSome}
 use Rattle.std.proofs.lemmas.List.{take_at, take_all, length-take, length-drop, take-append-drop}
 use Rattle.disks.specs.declared.disk.DiskFault.{DiskFault}
 use Rattle.disks.specs.Disks.{Moment, Told, Reaches, solid}
-use Rattle.gated_log.specs.declared.log.Gate.TheVariants.{Closed, Behind, Touched}
-use Rattle.gated_log.specs.Format.{NoRecord, EndsWith}
+use Rattle.gated_log.specs.declared.log.Gate.TheVariants.{Closed}
+use Rattle.gated_log.specs.Format.{NoRecord}
 use Rattle.gated_log.specs.Calls.{WriteStays, CutStays}
-use Rattle.gated_log.specs.Ends.{IsFirm, IsClosed, IsBehind, IsEnd, HasNothing, HasByte, HasClosed, HasOpen, HasOther, Stands, Runs, LeavesFront, ClosesAt, front_at}
+use Rattle.gated_log.specs.Ends.{IsClosed, IsBehind, IsEnd, HasNothing, HasByte, HasClosed, HasOpen, HasOther, Stands, Runs, LeavesFront, ClosesAt, front_at}
 use Rattle.gated_log.proofs.Firm.{firm_solid}
-use Rattle.gated_log.proofs.Standing.{behind_solid, closed_long}
+use Rattle.gated_log.proofs.Standing.{behind_solid}
 use Rattle.gated_log.proofs.Going.{AtEnd}
 use Rattle.gated_log.proofs.Shutting as shutting
-use Rattle.gated_log.proofs.Shutting.{IsDoubtful, IsOther, IsEdge, IsAll, doubtful_solid, any_none, behind_ended, other_ended, doubtful_ended, closed_ended, edge_ended}
+use Rattle.gated_log.proofs.Shutting.{IsDoubtful, IsOther, IsAll, doubtful_solid, any_none, behind_ended, other_ended, doubtful_ended, closed_ended, edge_ended}
 use Rattle.gated_log.proofs.Pieces.{if_told, both_told}
 
 module _ (end : ℕ) where

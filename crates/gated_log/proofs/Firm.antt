@@ -1,5 +1,5 @@
 -- Bytes that stay: what a crash leaves of them, and that writes and cuts behind them leave them so.
-use Rattle.std.proofs.Common.{◌≡◌, ◌<◌, ◌≤◌, max, min, inl, inr, ℕ, zero, suc, ◌+◌, List, [], ◌∷◌, ◌++◌, length, get_or, take, drop, refl, sym, ◌∙◌, ap, arith, Some, append_assoc, length-append}
+use Rattle.std.proofs.Common.{◌≡◌, ◌<◌, ◌≤◌, inl, inr, ℕ, zero, suc, ◌+◌, List, [], ◌∷◌, ◌++◌, length, get_or, take, drop, refl, sym, ◌∙◌, ap, arith, Some, append_assoc, length-append}
 use Rattle.std.specs.List.{slice_get}
 use Rattle.std.proofs.lemmas.List.{take_at, drop_at, drop_more, take_all, drop_all, append-nil, length-drop, length-take, take-append-drop}
 use Rattle.disks.specs.Disks.{Moment, MayLeave, IsWithin, IsTorn, IsFrayed, solid, wrote, shortened, over}

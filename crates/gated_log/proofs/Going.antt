@@ -1,12 +1,12 @@
 -- Calls of a disk one behind another, where the disk tells and where it does not.
-use Rattle.std.proofs.Common.{◌≡◌, ◌⊎◌, inl, inr, ◌<◌, ◌≤◌, ℕ, zero, suc, ◌+◌, List, [], ◌∷◌, ◌++◌, length, take, drop, refl, sym, ◌∙◌, ap, subst, arith, Option, Some, None, Result, Ok, Err}
+use Rattle.std.proofs.Common.{◌≡◌, inl, inr, ◌≤◌, ℕ, zero, suc, List, [], ◌∷◌, length, take, refl, sym, ◌∙◌, ap, subst, Option, Some, None, Result, Ok, Err}
 use Rattle.std.specs.Prelude.{IfSome}
 use Rattle.std.specs.List.{slice_get}
 use Rattle.std.specs.Option.{option_map}
 use Rattle.disks.specs.declared.disk.DiskFault.{DiskFault}
 use Rattle.disks.specs.declared.disk.DiskFault.TheVariants.{Failed, Memory}
 use Rattle.disks.specs.Disks.{Moment, Told, MayLeave, IsTorn, IsFrayed, LeavesOnly, Reaches, Writes, Cuts, Syncs, solid, wrote, shortened, over, after}
-use Rattle.gated_log.specs.Calls.{WriteStays, CutStays, settled}
+use Rattle.gated_log.specs.Calls.{WriteStays, CutStays}
 use Rattle.gated_log.specs.Ends.{Runs, front_at}
 use Rattle.gated_log.proofs.Firm.{over_torn, cut_frayed}
 

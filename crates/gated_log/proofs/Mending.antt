@@ -1,17 +1,17 @@
 -- The moments in which the end of a log is mended after a call that failed.
-use Rattle.std.proofs.Common.{◌≡◌, ◌≢◌, ◌<◌, ◌≤◌, inl, inr, ℕ, zero, suc, ◌+◌, List, [], ◌∷◌, ◌++◌, length, take, drop, refl, sym, ◌∙◌, ap, subst, arith, length-append, Option, Some, None, Result, Ok, Err}
+use Rattle.std.proofs.Common.{◌≡◌, ◌≤◌, inl, ℕ, ◌+◌, List, [], ◌∷◌, ◌++◌, length, take, sym, ◌∙◌, ap, subst, arith, length-append, Option, Some, None, Ok, Err}
 use Rattle.std.specs.Prelude.{IfSome}
 use Rattle.std.specs.Option.{option_map}
 use Rattle.disks.specs.declared.disk.DiskFault.{DiskFault}
-use Rattle.disks.specs.Disks.{Moment, Told, MayLeave, IsTorn, IsFrayed, Reaches, solid, wrote, shortened, over}
+use Rattle.disks.specs.Disks.{Moment, Told, IsTorn, IsFrayed, Reaches, solid, wrote, shortened, over}
 use Rattle.gated_log.specs.declared.log.Gate.{Gate}
 use Rattle.gated_log.specs.declared.log.Gate.TheVariants.{Closed, Behind, Touched}
 use Rattle.gated_log.specs.declared.log.Log.{Log}
-use Rattle.gated_log.specs.Format.{EndsWith, EndsWithEither, behind_gate}
+use Rattle.gated_log.specs.Format.{behind_gate}
 use Rattle.gated_log.specs.Calls.{WriteStays, CutStays}
-use Rattle.gated_log.specs.Ends.{IsClosed, IsBehind, IsTouched, StandsBehind, Stands, Runs, LeavesLast, LeftAt, front_at, front_of}
+use Rattle.gated_log.specs.Ends.{IsClosed, IsBehind, IsTouched, StandsBehind, Stands, Runs, LeavesLast, LeftAt, front_at}
 use Rattle.gated_log.proofs.Firm.{over_one}
-use Rattle.gated_log.proofs.Standing.{closed_left, closed_behind, behind_left, behind_frayed, behind_cut, behind_solid, touched_left, touched_torn, behind_front, touched_front, closed_front, stands_by}
+use Rattle.gated_log.proofs.Standing.{closed_left, behind_left, behind_frayed, behind_cut, behind_solid, touched_left, touched_torn, behind_front, touched_front, closed_front, stands_by}
 use Rattle.gated_log.proofs.Going.{AtEnd}
 use Rattle.gated_log.proofs.Going as going
 use Rattle.gated_log.proofs.Shutting as shutting

@@ -1,12 +1,12 @@
 -- Bytes are a log of one list of payloads.
-use Rattle.std.proofs.Common.{◌≡◌, ◌<◌, ◌≤◌, ℕ, zero, suc, ◌+◌, true, List, [], ◌∷◌, ◌++◌, length, take, drop, refl, sym, ◌∙◌, ap, subst, arith, append_assoc, length-append, Option, Some, None}
+use Rattle.std.proofs.Common.{◌≡◌, ◌<◌, ℕ, ◌+◌, true, List, [], ◌∷◌, ◌++◌, length, take, drop, refl, sym, ◌∙◌, ap, arith, append_assoc, length-append, Some, None}
 use Rattle.std.specs.Prelude.{nat_le, if◌then◌else◌}
-use Rattle.std.specs.List.{AllByRecursion, flat_map}
+use Rattle.std.specs.List.{flat_map}
 use Rattle.std.proofs.lemmas.Bool.{le-leb}
 use Rattle.std.proofs.lemmas.List.{append-nil, take_at, drop_at}
-use Rattle.gated_log.specs.Format.{magic, record_bytes, payload_by, first_record, NoRecord, EndsWith}
-use Rattle.gated_log.specs.Logs.{AreShort, front_bytes, IsLog, LogLaws}
-use Rattle.gated_log.proofs.Eights.{u8_again, whole8}
+use Rattle.gated_log.specs.Format.{magic, record_bytes, payload_by, first_record, NoRecord}
+use Rattle.gated_log.specs.Logs.{AreShort, IsLog, LogLaws}
+use Rattle.gated_log.proofs.Eights.{whole8}
 
 -- a record is found where it stands
 pub first_again : (payload more : List ℕ) → length payload < 18446744073709551616 → first_record (record_bytes payload ++ more) ≡ Some payload

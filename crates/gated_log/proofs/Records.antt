@@ -1,16 +1,13 @@
 -- What was read of a record.
-use Rattle.std.proofs.Common.{◌≡◌, ◌≢◌, ◌<◌, ◌≤◌, ◌-◌, min, ℕ, zero, suc, ◌+◌, Bool, true, false, List, [], ◌∷◌, ◌++◌, length, take, drop, refl, sym, ◌∙◌, ap, subst, arith, Option, Some, None, Result, Ok, Err, inl, inr}
-use Rattle.std.specs.Prelude.{IfSome, IfOk, nat_le, if◌then◌else◌, Vec}
-use Rattle.std.specs.Option.{option_map}
-use Rattle.std.specs.declared.alloc.Global.{Global}
+use Rattle.std.proofs.Common.{◌≡◌, ◌<◌, ◌≤◌, ◌-◌, ℕ, zero, suc, ◌+◌, true, false, List, [], ◌∷◌, length, take, drop, refl, sym, ◌∙◌, ap, arith, Option, Some, None, Result, Ok, Err, inl, inr}
+use Rattle.std.specs.Prelude.{IfSome, IfOk, nat_le, if◌then◌else◌}
 use Rattle.std.proofs.lemmas.Bool.{le-leb}
 use Rattle.std.proofs.lemmas.Bool.Decides.{nat_tests}
-use Rattle.std.proofs.lemmas.List.{take_all, drop-drop, length-drop, length-take}
+use Rattle.std.proofs.lemmas.List.{drop-drop, length-drop, length-take}
 use Rattle.disks.specs.declared.disk.DiskFault.{DiskFault}
-use Rattle.disks.specs.Disks.{Told, Measures, Syncs, solid, after}
-use Rattle.gated_log.specs.Calls.{Settles, settled}
-use Rattle.gated_log.specs.Format.{record_length, payload_by, first_record, u8_of, NoRecord}
-use Rattle.gated_log.specs.Reading.{items_of}
+use Rattle.disks.specs.Disks.{Told, Measures, Syncs}
+use Rattle.gated_log.specs.Calls.{Settles}
+use Rattle.gated_log.specs.Format.{record_length, payload_by, first_record}
 use Rattle.gated_log.proofs.Pieces.{if_told, both_told, same_told}
 use Rattle.gated_log.proofs.Standing.{too_short}
 

@@ -1,18 +1,15 @@
 -- The moments in which the end of a log becomes one closed gate.
-use Rattle.std.proofs.Common.{◌≡◌, ◌≢◌, ◌<◌, ◌≤◌, max, inl, inr, ℕ, zero, suc, ◌+◌, List, [], ◌∷◌, ◌++◌, length, take, drop, refl, sym, ◌∙◌, ap, subst, arith, append_assoc, append-nil, length-append, Option, Some, None, Result, Ok, Err}
+use Rattle.std.proofs.Common.{◌≡◌, ◌≢◌, ◌≤◌, ℕ, zero, suc, ◌+◌, List, [], ◌∷◌, ◌++◌, length, take, drop, refl, sym, ◌∙◌, ap, subst, arith, append_assoc, length-append, Option, Some, None, Ok, Err}
 use Rattle.std.specs.Prelude.{IfSome}
-use Rattle.std.specs.Option.{option_map}
-use Rattle.std.proofs.lemmas.List.{take_at, take_all, length-take, length-drop, take-append-drop}
+use Rattle.std.proofs.lemmas.List.{take_all, length-drop, take-append-drop}
 use Rattle.disks.specs.declared.disk.DiskFault.{DiskFault}
 use Rattle.disks.specs.Disks.{Moment, Told, MayLeave, IsTorn, IsFrayed, Reaches, solid, wrote, shortened, over}
-use Rattle.gated_log.specs.declared.log.Gate.{Gate}
-use Rattle.gated_log.specs.declared.log.Gate.TheVariants.{Closed, Behind, Touched}
-use Rattle.gated_log.specs.declared.log.Log.{Log}
-use Rattle.gated_log.specs.Format.{NoRecord, EndsWith, EndsWithEither, record_bytes, behind_gate}
+use Rattle.gated_log.specs.declared.log.Gate.TheVariants.{Closed}
+use Rattle.gated_log.specs.Format.{NoRecord, EndsWith}
 use Rattle.gated_log.specs.Calls.{WriteStays, CutStays}
-use Rattle.gated_log.specs.Ends.{IsFirm, IsFirmBut, IsClosed, IsBehind, IsTouched, IsEnd, HasNothing, HasByte, HasClosed, HasOpen, HasOther, StandsBehind, Stands, Runs, LeavesFront, LeavesLast, LeftAt, ClosesAt, front_at, front_of}
-use Rattle.gated_log.proofs.Firm.{firm_left, firm_long, firm_wrote, firm_cut, firm_solid, but_solid, over_one, over_end, front_of_front, solid_left}
-use Rattle.gated_log.proofs.Standing.{no_gate, too_short, closed_long, closed_behind, behind_left, behind_frayed, behind_cut, behind_solid, gate_left, gate_torn, one_there, touched_left, touched_torn, behind_front, touched_front, closed_front, stands_by}
+use Rattle.gated_log.specs.Ends.{IsFirm, IsFirmBut, IsClosed, IsBehind, IsEnd, Stands, Runs, LeavesFront, front_at}
+use Rattle.gated_log.proofs.Firm.{firm_left, firm_wrote, firm_cut, firm_solid, but_solid, over_one, over_end, solid_left}
+use Rattle.gated_log.proofs.Standing.{no_gate, too_short, closed_behind, behind_left, behind_frayed, behind_cut, gate_left, gate_torn, one_there, closed_front, stands_by}
 use Rattle.gated_log.proofs.Going.{AtEnd}
 use Rattle.gated_log.proofs.Going as going
 

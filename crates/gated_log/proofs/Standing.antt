@@ -1,11 +1,11 @@
 -- How an end stands: what a crash leaves of it, and what a write, a cut and a sync make of it.
 use Rattle.std.proofs.Common.{◌≡◌, ◌<◌, ◌≤◌, inl, inr, ℕ, zero, suc, ◌+◌, List, [], ◌∷◌, ◌++◌, length, take, drop, refl, sym, ◌∙◌, ap, subst, arith, append_assoc, length-append}
 use Rattle.std.proofs.lemmas.List.{take_at, drop_at, take_all, take-append-drop}
-use Rattle.disks.specs.Disks.{Moment, Told, MayLeave, IsTorn, IsFrayed, solid, wrote, shortened, over}
+use Rattle.disks.specs.Disks.{Moment, Told, MayLeave, IsTorn, IsFrayed, solid, wrote, shortened}
 use Rattle.gated_log.specs.declared.log.Log.{Log}
 use Rattle.gated_log.specs.Format.{NoRecord, EndsWith, EndsWithEither, record_bytes, behind_gate, u8_bytes}
-use Rattle.gated_log.specs.Ends.{IsFirm, IsFirmBut, IsClosed, IsBehind, IsTouched, StandsBehind, Stands, front_at}
-use Rattle.gated_log.proofs.Firm.{firm_left, firm_long, firm_wrote, firm_cut, firm_solid, solid_left, but_left, but_torn, but_solid, front_of_front}
+use Rattle.gated_log.specs.Ends.{IsFirmBut, IsClosed, IsBehind, IsTouched, StandsBehind, Stands, front_at}
+use Rattle.gated_log.proofs.Firm.{firm_left, firm_wrote, firm_cut, firm_solid, but_left, but_torn, but_solid, front_of_front}
 
 -- No record stands behind a byte that is no open gate, nor in fewer than nine bytes.
 pub no_gate : (gate : ℕ) (rest : List ℕ) → (gate ≡ 1 → ⊥) → NoRecord (gate ∷ rest)

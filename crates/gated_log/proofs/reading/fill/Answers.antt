@@ -1,4 +1,4 @@
-use Rattle.std.proofs.Common.{rules, ◌≡◌, ◌≤◌, ◌+◌, length, sym, ◌∙◌, arith}
+use Rattle.std.proofs.Common.{rules, ◌≡◌, ◌+◌, length, sym, ◌∙◌, arith}
 use Rattle.gated_log.proofs.Pieces.{HasRead, both_told, same_told, has_more}
 use Rattle.gated_log.specs.Reading.{ReadsOn}
 use Rattle.gated_log.proofs.reading.fill.Goals as goal

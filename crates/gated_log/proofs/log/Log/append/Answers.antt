@@ -1,4 +1,4 @@
-use Rattle.std.proofs.Common.{rules, ◌≡◌, ◌<◌, ◌+◌, ◌++◌, length, refl, arith, []}
+use Rattle.std.proofs.Common.{rules, ◌≡◌, ◌<◌, ◌+◌, length, refl, arith}
 use Rattle.gated_log.specs.Ends.{IsClosed, IsBehind}
 use Rattle.gated_log.specs.Format.{behind_gate, record_bytes}
 use Rattle.gated_log.proofs.Appending as appending

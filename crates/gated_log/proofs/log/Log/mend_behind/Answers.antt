@@ -1,5 +1,4 @@
 use Rattle.gated_log.specs.declared.log.Gate.TheVariants.{Behind}
-use Rattle.std.proofs.Common.{refl}
 use Rattle.gated_log.proofs.Mending as mending
 use Rattle.gated_log.proofs.Shutting as shutting
 use Rattle.gated_log.proofs.Going.{AtEnd}

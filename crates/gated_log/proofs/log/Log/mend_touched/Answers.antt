@@ -1,9 +1,6 @@
 use Rattle.gated_log.specs.declared.log.Gate.TheVariants.{Touched}
-use Rattle.std.proofs.Common.{refl}
 use Rattle.gated_log.proofs.Mending as mending
 use Rattle.gated_log.proofs.Shutting as shutting
-use Rattle.gated_log.proofs.Going.{AtEnd}
-use Rattle.gated_log.specs.Ends.{IsBehind, IsClosed}
 use Rattle.gated_log.proofs.log.Log.mend_touched.Goals as goal
 
 pub write_to_stay-requires : goal.write_to_stay-requires
