@@ -21,6 +21,8 @@ use Rattle.app_machine.specs.LifeEvents.{LifeEvent, life_events}
 use Rattle.app_machine.specs.Events.{parameter_type}
 use Rattle.app_model.specs.EventBodies.{click, component_callback, life_event}
 use Rattle.app_model.specs.Initialisers.{component_initialisers}
+pub use Rattle.event_index.specs.Bodies.{life_run}
+pub use Rattle.event_index.specs.Comings.{callback_run}
 use Rattle.fact_rows.specs.declared.context.Ctx.{Ctx}
 use Rattle.fact_rows.specs.declared.context.Ctx.TheVariants as ctx
 use Rattle.fact_rows.specs.declared.context.Activation.{Activation}
@@ -52,14 +54,6 @@ makes (act.Call kind at args) = is_reference at.proto.ret
 makes _ = false
 
 -- the body that an event runs on its component
-abbrev pub life_run : Option (Name × LifeEvent × Option ℕ) → Option ℕ
-life_run None = None
-life_run (Some event) = event.2
-
-abbrev pub callback_run : Option (List (ℕ × ℕ) × ℕ) → Option ℕ
-callback_run None = None
-callback_run (Some called) = Some called.1
-
 abbrev pub body_run : App → Lists → Ctx → Option ℕ
 body_run app lists (ctx.Row c e) = life_run (life_event app c e)
 body_run app lists (ctx.Callback c q) = callback_run (component_callback app lists c q)

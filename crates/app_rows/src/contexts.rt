@@ -5,27 +5,20 @@ ghost use Rattle.app_model.specs.Initialisers.{component_initialisers};
 ghost use Rattle.fact_rows.specs.Contexts.{types_of};
 ghost use Rattle.app_rows.specs.Tests.{body_run, enters, is_ctx_in, is_some_there, step_tells, types_run};
 
-use app_model::{
-    Act, App, Lists, callback, click, component_initialisers, life_event, next_initialiser, step_at,
-};
+use app_model::{Act, App, component_initialisers, next_initialiser, step_at};
+use event_index::EventIndex;
 use fact_rows::Ctx;
 use vet_base::Name;
 
 /// The body that the event of the context runs on its component.
-fn body_run(app: &App, lists: &Lists, ctx: Ctx) -> Option<u32>
-    requires { SoundApp app.now }
-    ensures { result ≡ body_run app.now lists.now ctx }
+fn body_run(index: &EventIndex<'_>, ctx: Ctx) -> Option<u32>
+    requires { SoundApp index.now.0 }
+    ensures { result ≡ body_run index.now.0 index.now.1 ctx }
 {
     match ctx {
-        Ctx::Row(component, event) => match life_event(app, component, event) {
-            Some(event) => event.body,
-            None => None,
-        },
-        Ctx::Callback(component, row) => match callback(app, lists, component, row) {
-            Some(called) => Some(called.body),
-            None => None,
-        },
-        Ctx::Click(component, number) => click(app, component, number),
+        Ctx::Row(component, event) => index.life_body(component, event),
+        Ctx::Callback(component, row) => index.callback_body(component, row),
+        Ctx::Click(component, number) => index.click_body(component, number),
         _ => None,
     }
 }
@@ -58,13 +51,14 @@ fn is_initialised(app: &App, component: u32) -> bool
 }
 
 /// Whether there is such an event, callback row or call.
-pub(crate) fn is_ctx_in(app: &App, lists: &Lists, ctx: Ctx) -> bool
-    requires { SoundApp app.now }
-    ensures { result ≡ is_ctx_in app.now lists.now ctx }
+pub(crate) fn is_ctx_in(index: &EventIndex<'_>, ctx: Ctx) -> bool
+    requires { SoundApp index.now.0 }
+    ensures { result ≡ is_ctx_in index.now.0 index.now.1 ctx }
 {
+    let app = index.app();
     match ctx {
-        Ctx::Row(..) | Ctx::Callback(..) | Ctx::Click(..) => body_run(app, lists, ctx).is_some(),
-        Ctx::Handed(row) => (row as usize) < lists.callbacks.len(),
+        Ctx::Row(..) | Ctx::Callback(..) | Ctx::Click(..) => body_run(index, ctx).is_some(),
+        Ctx::Handed(row) => (row as usize) < index.lists().callbacks.len(),
         Ctx::Init(component) => is_initialised(app, component),
         Ctx::Call(method, pc) => is_entered_at(app, method, pc),
         Ctx::Call2(method, pc, before, at) => {
@@ -74,17 +68,17 @@ pub(crate) fn is_ctx_in(app: &App, lists: &Lists, ctx: Ctx) -> bool
 }
 
 /// The types of the parameters of the event.
-pub(crate) fn types_run<'a>(app: &'a App, lists: &'a Lists, ctx: Ctx) -> &'a [Name]
-    requires { SoundApp app.now }
-    ensures { result.now ≡ types_run app.now lists.now ctx }
+pub(crate) fn types_run<'a>(index: &'a EventIndex<'_>, ctx: Ctx) -> &'a [Name]
+    requires { SoundApp index.now.0 }
+    ensures { result.now ≡ types_run index.now.0 index.now.1 ctx }
 {
     match ctx {
-        Ctx::Handed(row) => match lists.callbacks.get(row as usize) {
+        Ctx::Handed(row) => match index.lists().callbacks.get(row as usize) {
             Some(callback) => callback.proto.params.as_slice(),
             None => &[],
         },
-        _ => match body_run(app, lists, ctx) {
-            Some(body) => types_of(app, body),
+        _ => match body_run(index, ctx) {
+            Some(body) => types_of(index.app(), body),
             None => &[],
         },
     }

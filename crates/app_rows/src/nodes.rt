@@ -3,15 +3,16 @@ ghost use Rattle.app_machine.specs.Sound.{SoundApp};
 ghost use Rattle.app_rows.specs.Tests.{is_activation_in, is_node_in, is_place_in, is_register_in};
 
 use crate::contexts::is_ctx_in;
-use app_model::{App, Lists, step_at};
+use app_model::{App, step_at};
+use event_index::EventIndex;
 use fact_rows::{Activation, Node};
 use rule_ground::{EXCEPTION, RESULT};
 
-pub(crate) fn is_activation_in(app: &App, lists: &Lists, by: Activation) -> bool
-    requires { SoundApp app.now }
-    ensures { result ≡ is_activation_in app.now lists.now by }
+pub(crate) fn is_activation_in(index: &EventIndex<'_>, by: Activation) -> bool
+    requires { SoundApp index.now.0 }
+    ensures { result ≡ is_activation_in index.now.0 index.now.1 by }
 {
-    (by.method as usize) < app.methods.len() && is_ctx_in(app, lists, by.ctx)
+    (by.method as usize) < index.app().methods.len() && is_ctx_in(index, by.ctx)
 }
 
 /// Whether the method has a step at the address, or is native and the address is 0.
@@ -27,11 +28,11 @@ fn is_place_in(app: &App, method: u32, pc: u32) -> bool
             }
 }
 
-pub(crate) fn is_node_in(app: &App, lists: &Lists, node: Node) -> bool
-    requires { SoundApp app.now }
-    ensures { result ≡ is_node_in app.now lists.now node }
+pub(crate) fn is_node_in(index: &EventIndex<'_>, node: Node) -> bool
+    requires { SoundApp index.now.0 }
+    ensures { result ≡ is_node_in index.now.0 index.now.1 node }
 {
-    is_place_in(app, node.by.method, node.pc) && is_activation_in(app, lists, node.by)
+    is_place_in(index.app(), node.by.method, node.pc) && is_activation_in(index, node.by)
 }
 
 /// Whether the register is one of the node's method, or RES or EXC.

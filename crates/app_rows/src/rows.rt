@@ -8,6 +8,7 @@ use crate::nodes::{is_activation_in, is_node_in, is_register_in};
 use crate::sites::is_site_in;
 use access_path::Path;
 use app_model::{App, EventRow, Lists, SummaryId, event_rows, events_are_exact};
+use event_index::EventIndex;
 use fact_rows::{Field, Row};
 use vet_base::KeyId;
 
@@ -66,15 +67,16 @@ fn is_summary_in(lists: &Lists, summary: SummaryId) -> bool
     }
 }
 
-fn is_field_in(app: &App, lists: &Lists, field: Field) -> bool
-    requires { SoundApp app.now }
-    ensures { result ≡ is_field_in app.now lists.now field }
+fn is_field_in(index: &EventIndex<'_>, field: Field) -> bool
+    requires { SoundApp index.now.0 }
+    ensures { result ≡ is_field_in index.now.0 index.now.1 field }
 {
+    let (app, lists) = (index.app(), index.lists());
     match field {
-        Field::Node(node) => is_node_in(app, lists, node),
+        Field::Node(node) => is_node_in(index, node),
         Field::Register(node, register) => is_register_in(app, node, register),
-        Field::Activation(by) => is_activation_in(app, lists, by),
-        Field::Site(site) => is_site_in(app, lists, site),
+        Field::Activation(by) => is_activation_in(index, by),
+        Field::Site(site) => is_site_in(index, site),
         Field::Key(key) => is_key_in(app, key),
         Field::Path(path) => is_path_in(app, path),
         Field::Category(label) => usize::from(label) < lists.categories.len(),
@@ -87,18 +89,18 @@ fn is_field_in(app: &App, lists: &Lists, field: Field) -> bool
     }
 }
 
-fn are_fields_in(app: &App, lists: &Lists, fields: &[Field]) -> bool
-    requires { SoundApp app.now }
-    ensures { result ≡ are_fields_in app.now lists.now fields.now }
+fn are_fields_in(index: &EventIndex<'_>, fields: &[Field]) -> bool
+    requires { SoundApp index.now.0 }
+    ensures { result ≡ are_fields_in index.now.0 index.now.1 fields.now }
 {
-    fields.iter().all(|field| is_field_in(app, lists, *field))
+    fields.iter().all(|field| is_field_in(index, *field))
 }
 
-/// Whether the row names only what the app and the lists have. It takes no memory.
-pub fn is_in_app(app: &App, lists: &Lists, row: &Row) -> bool
-    requires { SoundApp app.now }
-    ensures { IsTrue result ↔ InApp app.now lists.now row.now }
+/// Whether the row names only what the app and the lists have, by their index. It takes no memory.
+pub fn is_in_app(index: &EventIndex<'_>, row: &Row) -> bool
+    requires { SoundApp index.now.0 }
+    ensures { IsTrue result ↔ InApp index.now.0 index.now.1 row.now }
 {
     events_are_exact();
-    are_fields_in(app, lists, row.parts().fields.as_slice())
+    are_fields_in(index, row.parts().fields.as_slice())
 }

@@ -5,7 +5,8 @@ ghost use Rattle.app_rows.specs.Tests.{is_parameter_in, is_site_in, makes, step_
 
 use crate::contexts::{is_ctx_in, types_run};
 use crate::nodes::is_node_in;
-use app_model::{Act, App, Lists, is_reference, parameter_type, step_at};
+use app_model::{Act, App, is_reference, parameter_type, step_at};
+use event_index::EventIndex;
 use fact_rows::{Ctx, Site};
 
 /// Whether the act makes an object.
@@ -30,26 +31,26 @@ fn is_made_at(app: &App, method: u32, pc: u32) -> bool
 }
 
 /// Whether the event has a parameter of a reference type there.
-fn is_parameter_in(app: &App, lists: &Lists, ctx: Ctx, position: u32) -> bool
-    requires { SoundApp app.now }
-    ensures { result ≡ is_parameter_in app.now lists.now ctx position }
+fn is_parameter_in(index: &EventIndex<'_>, ctx: Ctx, position: u32) -> bool
+    requires { SoundApp index.now.0 }
+    ensures { result ≡ is_parameter_in index.now.0 index.now.1 ctx position }
 {
-    match parameter_type(types_run(app, lists, ctx), position) {
-        Some(kind) => is_reference(kind) && is_ctx_in(app, lists, ctx),
+    match parameter_type(types_run(index, ctx), position) {
+        Some(kind) => is_reference(kind) && is_ctx_in(index, ctx),
         None => false,
     }
 }
 
-pub(crate) fn is_site_in(app: &App, lists: &Lists, site: Site) -> bool
-    requires { SoundApp app.now }
-    ensures { result ≡ is_site_in app.now lists.now site }
+pub(crate) fn is_site_in(index: &EventIndex<'_>, site: Site) -> bool
+    requires { SoundApp index.now.0 }
+    ensures { result ≡ is_site_in index.now.0 index.now.1 site }
 {
     match site {
         Site::At(node) => {
-            is_made_at(app, node.by.method, node.pc) && is_node_in(app, lists, node)
+            is_made_at(index.app(), node.by.method, node.pc) && is_node_in(index, node)
         }
-        Site::Param(ctx, position) => is_parameter_in(app, lists, ctx, position),
-        Site::Component(component) => (component as usize) < app.components.len(),
-        Site::Shared(number) => (number as usize) < lists.shared.len(),
+        Site::Param(ctx, position) => is_parameter_in(index, ctx, position),
+        Site::Component(component) => (component as usize) < index.app().components.len(),
+        Site::Shared(number) => (number as usize) < index.lists().shared.len(),
     }
 }

@@ -1,3 +1,4 @@
+pub mod Calling
 pub mod EventGiven
 pub mod GivenBack
 pub mod RowGiven

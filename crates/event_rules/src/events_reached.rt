@@ -7,7 +7,7 @@ ghost use Rattle.event_rules.specs.GivenBack.{any_handed, entry_gives, entry_tak
 use crate::given_back::{Back, give_back};
 use crate::handed::HandedObject;
 use crate::known::Known;
-use app_machine::{App, Lists};
+use event_index::EventIndex;
 use fact_rows::{Activation, Row, Site};
 use rule_ground::{Facts, Join, Key, Sink, for_each_hit};
 use site_classes::site_class;
@@ -16,8 +16,7 @@ use vet_base::Name;
 /// A site of handed objects with its class.
 #[derive(Clone, Copy)]
 struct Objects<'a> {
-    app: &'a App,
-    lists: &'a Lists,
+    index: &'a EventIndex<'a>,
     site: Site,
     class: &'a Name,
 }
@@ -25,11 +24,10 @@ struct Objects<'a> {
 impl<'a> Objects<'a> {
     /// What is known of them comes back to an event.
     fn back(&self, known: Known, by: Activation) -> Back<'a>
-        ensures { result ≡ record { app = self.now.app; lists = self.now.lists; object = record { site = self.now.site; known = known }; class = self.now.class; by = by } }
+        ensures { result ≡ record { index = self.now.index; object = record { site = self.now.site; known = known }; class = self.now.class; by = by } }
     {
         Back {
-            app: self.app,
-            lists: self.lists,
+            index: self.index,
             object: HandedObject {
                 site: self.site,
                 known,
@@ -48,9 +46,9 @@ struct Labels<'a> {
 }
 
 impl<'a> Join for Labels<'a> {
-    ghost ready = { λ j. SoundApp j.objects.app.now };
+    ghost ready = { λ j. SoundApp j.objects.index.now.0 };
 
-    ghost gives = { λ j row. label_back j.objects.app.now j.objects.lists.now j.objects.site j.objects.class.now j.by
+    ghost gives = { λ j row. label_back j.objects.index.now.0 j.objects.index.now.1 j.objects.site j.objects.class.now j.by
         row };
 
     fn give<S: Sink>(&self, row: Row, out: &mut S) -> Result<(), S::Refusal> {
@@ -71,8 +69,8 @@ fn pair<F: Facts, S: Sink>(
     by: Activation,
     out: &mut S,
 ) -> Result<(), S::Refusal>
-    requires { SoundApp objects.now.app.now }
-    ensures { OnOk result (out.new ≡ fold S.then out.old (pair_gives objects.now.app.now objects.now.lists.now
+    requires { SoundApp objects.now.index.now.0 }
+    ensures { OnOk result (out.new ≡ fold S.then out.old (pair_gives objects.now.index.now.0 objects.now.index.now.1
         (F.hits facts.now) objects.now.site objects.now.class.now by)) }
 {
     give_back(&objects.back(Known::There, by), out)?;
@@ -91,32 +89,21 @@ fn pair<F: Facts, S: Sink>(
 #[derive(Drop)]
 struct ToEvent<'a, F> {
     facts: &'a F,
-    app: &'a App,
-    lists: &'a Lists,
+    index: &'a EventIndex<'a>,
     by: Activation,
 }
 
 impl<'a, F: Facts> Join for ToEvent<'a, F> {
-    ghost ready = { λ j. SoundApp j.app.now };
+    ghost ready = { λ j. SoundApp j.index.now.0 };
 
-    ghost gives = { λ j row. any_handed j.app.now j.lists.now (F.hits j.facts.now) j.by row };
+    ghost gives = { λ j row. any_handed j.index.now.0 j.index.now.1 (F.hits j.facts.now) j.by row };
 
     fn give<S: Sink>(&self, row: Row, out: &mut S) -> Result<(), S::Refusal> {
-        let (app, lists) = (self.app, self.lists);
+        let index = self.index;
         match row {
-            Row::Handed(site) => match site_class(app, lists, site) {
+            Row::Handed(site) => match site_class(index.app(), index.lists(), site) {
                 None => Ok(()),
-                Some(class) => pair(
-                    self.facts,
-                    &Objects {
-                        app,
-                        lists,
-                        site,
-                        class,
-                    },
-                    self.by,
-                    out,
-                ),
+                Some(class) => pair(self.facts, &Objects { index, site, class }, self.by, out),
             },
             _ => Ok(()),
         }
@@ -125,26 +112,15 @@ impl<'a, F: Facts> Join for ToEvent<'a, F> {
 
 /// What follows where the event is reached.
 pub fn reach_event<F: Facts, S: Sink>(
-    app: &App,
-    lists: &Lists,
+    index: &EventIndex<'_>,
     facts: &F,
     by: Activation,
     out: &mut S,
 ) -> Result<(), S::Refusal>
-    requires { SoundApp app.now }
-    ensures { OnOk result (out.new ≡ fold S.then out.old (entry_gives app.now lists.now (F.hits facts.now) by)) }
+    requires { SoundApp index.now.0 }
+    ensures { OnOk result (out.new ≡ fold S.then out.old (entry_gives index.now.0 index.now.1 (F.hits facts.now) by)) }
 {
-    for_each_hit(
-        facts,
-        &Key::AnyHanded,
-        &ToEvent {
-            facts,
-            app,
-            lists,
-            by,
-        },
-        out,
-    )
+    for_each_hit(facts, &Key::AnyHanded, &ToEvent { facts, index, by }, out)
 }
 
 /// The objects come back to events.
@@ -155,9 +131,9 @@ struct FromObjects<'a, F> {
 }
 
 impl<'a, F: Facts> Join for FromObjects<'a, F> {
-    ghost ready = { λ j. SoundApp j.objects.app.now };
+    ghost ready = { λ j. SoundApp j.objects.index.now.0 };
 
-    ghost gives = { λ j row. entry_takes j.objects.app.now j.objects.lists.now (F.hits j.facts.now) j.objects.site
+    ghost gives = { λ j row. entry_takes j.objects.index.now.0 j.objects.index.now.1 (F.hits j.facts.now) j.objects.site
         j.objects.class.now row };
 
     fn give<S: Sink>(&self, row: Row, out: &mut S) -> Result<(), S::Refusal> {
@@ -170,24 +146,18 @@ impl<'a, F: Facts> Join for FromObjects<'a, F> {
 
 /// What comes back to events where objects of the site are handed.
 pub fn hand_back<F: Facts, S: Sink>(
-    app: &App,
-    lists: &Lists,
+    index: &EventIndex<'_>,
     facts: &F,
     site: Site,
     out: &mut S,
 ) -> Result<(), S::Refusal>
-    requires { SoundApp app.now }
-    ensures { OnOk result (out.new ≡ fold S.then out.old (handed_back app.now lists.now (F.hits facts.now) site)) }
+    requires { SoundApp index.now.0 }
+    ensures { OnOk result (out.new ≡ fold S.then out.old (handed_back index.now.0 index.now.1 (F.hits facts.now) site)) }
 {
-    match site_class(app, lists, site) {
+    match site_class(index.app(), index.lists(), site) {
         None => Ok(()),
         Some(class) => {
-            let objects = Objects {
-                app,
-                lists,
-                site,
-                class,
-            };
+            let objects = Objects { index, site, class };
             for_each_hit(
                 facts,
                 &Key::EventEntries,
@@ -206,9 +176,9 @@ struct FromLabel<'a> {
 }
 
 impl<'a> Join for FromLabel<'a> {
-    ghost ready = { λ j. SoundApp j.objects.app.now };
+    ghost ready = { λ j. SoundApp j.objects.index.now.0 };
 
-    ghost gives = { λ j row. label_takes j.objects.app.now j.objects.lists.now (record { site = j.objects.site; known = j.known }) j.objects.class.now row };
+    ghost gives = { λ j row. label_takes j.objects.index.now.0 j.objects.index.now.1 (record { site = j.objects.site; known = j.known }) j.objects.class.now row };
 
     fn give<S: Sink>(&self, row: Row, out: &mut S) -> Result<(), S::Refusal> {
         match row {
@@ -227,9 +197,9 @@ struct WhereHanded<'a, F> {
 }
 
 impl<'a, F: Facts> Join for WhereHanded<'a, F> {
-    ghost ready = { λ j. SoundApp j.objects.app.now };
+    ghost ready = { λ j. SoundApp j.objects.index.now.0 };
 
-    ghost gives = { λ j row. is_handed j.objects.app.now j.objects.lists.now (F.hits j.facts.now) (record { site = j.objects.site; known = j.known }) j.objects.class.now row };
+    ghost gives = { λ j row. is_handed j.objects.index.now.0 j.objects.index.now.1 (F.hits j.facts.now) (record { site = j.objects.site; known = j.known }) j.objects.class.now row };
 
     fn give<S: Sink>(&self, row: Row, out: &mut S) -> Result<(), S::Refusal> {
         match row {
@@ -247,21 +217,19 @@ impl<'a, F: Facts> Join for WhereHanded<'a, F> {
 
 /// What comes back to events where handed objects lead to a label.
 pub fn hand_label_back<F: Facts, S: Sink>(
-    app: &App,
-    lists: &Lists,
+    index: &EventIndex<'_>,
     facts: &F,
     object: HandedObject,
     out: &mut S,
 ) -> Result<(), S::Refusal>
-    requires { SoundApp app.now }
-    ensures { OnOk result (out.new ≡ fold S.then out.old (label_handed app.now lists.now (F.hits facts.now) object)) }
+    requires { SoundApp index.now.0 }
+    ensures { OnOk result (out.new ≡ fold S.then out.old (label_handed index.now.0 index.now.1 (F.hits facts.now) object)) }
 {
-    match site_class(app, lists, object.site) {
+    match site_class(index.app(), index.lists(), object.site) {
         None => Ok(()),
         Some(class) => {
             let objects = Objects {
-                app,
-                lists,
+                index,
                 site: object.site,
                 class,
             };

@@ -7,10 +7,10 @@ ghost use Rattle.event_rules.specs.GivenBack.{back, back_index, back_premises, b
 
 use crate::handed::HandedObject;
 use crate::known::Known;
-use app_machine::{App, Lists, Method};
-use app_model::below;
+use app_machine::Method;
 use app_parts::{is_reference, parameter_type, position_at};
 use begin_rules::first_argument;
+use event_index::EventIndex;
 use fact_rows::{Activation, Row};
 use rule_ground::{Conclusion, Premises, Sink, entry};
 use vet_base::Name;
@@ -18,8 +18,7 @@ use vet_base::Name;
 /// A handed object of a class that comes back to an event.
 #[derive(Clone, Copy)]
 pub struct Back<'a> {
-    pub app: &'a App,
-    pub lists: &'a Lists,
+    pub index: &'a EventIndex<'a>,
     pub object: HandedObject,
     pub class: &'a Name,
     pub by: Activation,
@@ -36,13 +35,13 @@ fn type_at(params: &[Name], index: u32) -> Option<&Name>
 }
 
 /// Whether a parameter of the type may be an object of the class.
-fn takes(app: &App, lists: &Lists, class: &Name, kind: Option<&Name>) -> bool
-    requires { SoundApp app.now }
-    ensures { result ≡ takes app.now lists.now class.now (option_copied kind.entry) }
+fn takes(index: &EventIndex<'_>, class: &Name, kind: Option<&Name>) -> bool
+    requires { SoundApp index.now.0 }
+    ensures { result ≡ takes index.now.0 index.now.1 class.now (option_copied kind.entry) }
 {
     match kind {
         None => false,
-        Some(kind) => is_reference(kind) && below(app, lists, class, kind),
+        Some(kind) => is_reference(kind) && index.is_below(class, kind),
     }
 }
 
@@ -80,13 +79,13 @@ fn to_index<S: Sink>(
     index: u32,
     out: &mut S,
 ) -> Result<(), S::Refusal>
-    requires sound { SoundApp with.now.app.now }
+    requires sound { SoundApp with.now.index.now.0 }
     requires fits { (method.now.registers - method.now.ins) + index < 2 ^ 32 }
-    ensures { OnOk result (out.new ≡ fold S.then out.old (back_index with.now.app.now with.now.lists.now with.now.object
+    ensures { OnOk result (out.new ≡ fold S.then out.old (back_index with.now.index.now.0 with.now.index.now.1 with.now.object
         with.now.class.now with.now.by method.now index)) }
 {
     let kind = type_at(method.at.proto.params.as_slice(), index);
-    if takes(with.app, with.lists, with.class, kind) {
+    if takes(with.index, with.class, kind) {
         to_register(with.object, with.by, first_argument(method) + index, out)
     } else {
         Ok(())
@@ -94,11 +93,11 @@ fn to_index<S: Sink>(
 }
 
 fn to_indices<S: Sink>(with: &Back<'_>, method: &Method, out: &mut S) -> Result<(), S::Refusal>
-    requires sound { SoundApp with.now.app.now }
+    requires sound { SoundApp with.now.index.now.0 }
     requires fits { (method.now.registers - method.now.ins) + method.now.ins < 2 ^ 32 }
     ensures { OnOk result
         (out.new ≡ fold S.then out.old
-        (for_below (back_index with.now.app.now with.now.lists.now with.now.object with.now.class.now with.now.by
+        (for_below (back_index with.now.index.now.0 with.now.index.now.1 with.now.object with.now.class.now with.now.by
         method.now) method.now.ins)) }
 {
     for index in 0..method.ins {
@@ -109,11 +108,11 @@ fn to_indices<S: Sink>(with: &Back<'_>, method: &Method, out: &mut S) -> Result<
 
 /// Each parameter whose type takes the class holds what is known of the object.
 pub fn give_back<S: Sink>(with: &Back<'_>, out: &mut S) -> Result<(), S::Refusal>
-    requires { SoundApp with.now.app.now }
-    ensures { OnOk result (out.new ≡ fold S.then out.old (back with.now.app.now with.now.lists.now with.now.object
+    requires { SoundApp with.now.index.now.0 }
+    ensures { OnOk result (out.new ≡ fold S.then out.old (back with.now.index.now.0 with.now.index.now.1 with.now.object
         with.now.class.now with.now.by)) }
 {
-    match with.app.methods.get(with.by.method as usize) {
+    match with.index.app().methods.get(with.by.method as usize) {
         None => Ok(()),
         Some(method) => {
             if method.is_native {

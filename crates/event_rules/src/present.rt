@@ -1,13 +1,12 @@
 //! Rule 42: callbacks and clicks come to a component that is there.
 ghost use Rattle.std.specs.Prelude.{◌≡◌, OnOk, fold, length};
 ghost use Rattle.app_machine.specs.Sound.{SoundApp};
-ghost use Rattle.app_machine.specs.SoundLists.{SoundLists};
-ghost use Rattle.event_rules.specs.EventGiven.{callback_gives, callbacks_give, click_gives, clicks_give, present_arrival, present_gives};
+ghost use Rattle.event_rules.specs.EventGiven.{callbacks_give, click_gives, clicks_give, present_arrival, present_gives};
 
-use crate::arrival::{Arrival, callback_count};
+use crate::arrival::{Arrival, On};
 use crate::life::Standing;
-use app_machine::{App, Lists};
-use app_model::{callback, click};
+use app_machine::App;
+use event_index::EventIndex;
 use fact_rows::{Ctx, Site};
 use rule_ground::{Premises, Sink};
 
@@ -22,51 +21,38 @@ fn arrival(standing: &Standing) -> Arrival
     }
 }
 
-/// The callback row of this number, where the component has a body for it.
-fn by_callback<S: Sink>(
-    app: &App,
-    lists: &Lists,
-    standing: &Standing,
-    row: u32,
-    out: &mut S,
-) -> Result<(), S::Refusal>
-    requires { SoundApp app.now }
-    ensures { OnOk result (out.new ≡ fold S.then out.old (callback_gives app.now lists.now standing.now row)) }
-{
-    let ctx = Ctx::Callback(standing.component, row);
-    let found = callback(app, lists, standing.component, row);
-    arrival(standing).call_back(app, ctx, found, out)
-}
-
+/// The callbacks of the component's class come to it.
+#[tactic(auto, using(crate::proofs::Calling::called_on, crate::proofs::Calling::none_called))]
 fn by_callbacks<S: Sink>(
-    app: &App,
-    lists: &Lists,
+    index: &EventIndex<'_>,
     standing: &Standing,
     out: &mut S,
 ) -> Result<(), S::Refusal>
-    requires app { SoundApp app.now }
-    requires lists { SoundLists lists.now }
-    ensures { OnOk result (out.new ≡ fold S.then out.old (callbacks_give app.now lists.now standing.now)) }
+    requires { SoundApp index.now.0 }
+    ensures { OnOk result (out.new ≡ fold S.then out.old (callbacks_give index.now.0 index.now.1 standing.now)) }
 {
-    for row in 0..callback_count(lists) {
-        by_callback(app, lists, standing, row, out)?;
+    match index.app().components.get(standing.component as usize) {
+        None => Ok(()),
+        Some(component) => {
+            let on = On::Component(standing.component);
+            arrival(standing).call_all(index, on, &component.class, out)
+        }
     }
-    Ok(())
 }
 
 /// The click of this number, where the component has a body for it.
 fn by_click<S: Sink>(
-    app: &App,
+    index: &EventIndex<'_>,
     standing: &Standing,
     number: u32,
     out: &mut S,
 ) -> Result<(), S::Refusal>
-    requires { SoundApp app.now }
-    ensures { OnOk result (out.new ≡ fold S.then out.old (click_gives app.now standing.now number)) }
+    requires { SoundApp index.now.0 }
+    ensures { OnOk result (out.new ≡ fold S.then out.old (click_gives index.now.0 standing.now number)) }
 {
     let ctx = Ctx::Click(standing.component, number);
-    let body = click(app, standing.component, number);
-    arrival(standing).run(app, ctx, body, out)
+    let body = index.click_body(standing.component, number);
+    arrival(standing).run(index.app(), ctx, body, out)
 }
 
 fn click_count(app: &App) -> u32
@@ -76,27 +62,29 @@ fn click_count(app: &App) -> u32
     app.clicks.len() as u32
 }
 
-fn by_clicks<S: Sink>(app: &App, standing: &Standing, out: &mut S) -> Result<(), S::Refusal>
-    requires { SoundApp app.now }
-    ensures { OnOk result (out.new ≡ fold S.then out.old (clicks_give app.now standing.now)) }
+fn by_clicks<S: Sink>(
+    index: &EventIndex<'_>,
+    standing: &Standing,
+    out: &mut S,
+) -> Result<(), S::Refusal>
+    requires { SoundApp index.now.0 }
+    ensures { OnOk result (out.new ≡ fold S.then out.old (clicks_give index.now.0 standing.now)) }
 {
-    for number in 0..click_count(app) {
-        by_click(app, standing, number, out)?;
+    for number in 0..click_count(index.app()) {
+        by_click(index, standing, number, out)?;
     }
     Ok(())
 }
 
 /// What comes to a component that is there.
 pub fn come<S: Sink>(
-    app: &App,
-    lists: &Lists,
+    index: &EventIndex<'_>,
     standing: &Standing,
     out: &mut S,
 ) -> Result<(), S::Refusal>
-    requires app { SoundApp app.now }
-    requires lists { SoundLists lists.now }
-    ensures { OnOk result (out.new ≡ fold S.then out.old (present_gives app.now lists.now standing.now)) }
+    requires { SoundApp index.now.0 }
+    ensures { OnOk result (out.new ≡ fold S.then out.old (present_gives index.now.0 index.now.1 standing.now)) }
 {
-    by_callbacks(app, lists, standing, out)?;
-    by_clicks(app, standing, out)
+    by_callbacks(index, standing, out)?;
+    by_clicks(index, standing, out)
 }

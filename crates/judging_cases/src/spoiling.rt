@@ -1,3 +1,4 @@
+ghost use Rattle.std.specs.Prelude.{◌≡◌};
 ghost use Rattle.app_machine.specs.Sound.{SoundApp};
 ghost use Rattle.app_machine.specs.SoundLists.{SoundLists};
 ghost use Rattle.app_rules.specs.Ready.{RulesReady};
@@ -8,6 +9,7 @@ use app_index::{LibraryIndex, StaticReaders};
 use app_model::{App, Lists};
 use app_rules::AppRules;
 use cert_checker::{TableDefect, check};
+use event_index::EventIndex;
 use fact_rows::{Kind, Row, Table};
 use hashed_rows::HashedRows;
 use rule_ground::Conclusion;
@@ -21,7 +23,7 @@ pub fn unsolved(_unsolved: Unsolved) -> AllocError {
 
 /// The derivable rows in ascending order; None where they are more than the limit.
 fn solved(alloc: Global, rules: &AppRules, limit: u32) -> Result<Option<Vec<Row>>, AllocError>
-    requires { RulesReady rules.now.app.now rules.now.lists.now rules.now.starts }
+    requires { RulesReady rules.now.app.now rules.now.lists.now rules.now.events.now rules.now.starts }
 {
     let mut rows = HashedRows::new(alloc, 1);
     match solve(alloc, rules, &mut rows, limit).map_err(unsolved)? {
@@ -59,7 +61,7 @@ fn is_missing(said: &Result<(), TableDefect<Conclusion>>, row: &Row) -> bool {
 
 /// Of how many tables without one of the rows the checker says that this row is missing.
 fn missing(alloc: Global, rules: &AppRules, rows: &[Row]) -> Result<u64, AllocError>
-    requires { RulesReady rules.now.app.now rules.now.lists.now rules.now.starts }
+    requires { RulesReady rules.now.app.now rules.now.lists.now rules.now.events.now rules.now.starts }
 {
     let mut missing = 0u64;
     for (place, row) in rows.iter().enumerate() {
@@ -80,7 +82,7 @@ fn say_of(
     without: usize,
     more: &[Row],
 ) -> io::Result<()>
-    requires { RulesReady rules.now.app.now rules.now.lists.now rules.now.starts }
+    requires { RulesReady rules.now.app.now rules.now.lists.now rules.now.events.now rules.now.starts }
 {
     let table = table_of(rt.alloc(), rows, without, more)?;
     say(rt, what, &check(rules, &table))
@@ -102,7 +104,7 @@ fn place_of_reached(rows: &[Row]) -> usize {
 
 /// Prints what the checker says of tables that are spoilt in one way each.
 fn spoilt(rt: &HostRuntime, rules: &AppRules, rows: &[Row]) -> io::Result<()>
-    requires { RulesReady rules.now.app.now rules.now.lists.now rules.now.starts }
+    requires { RulesReady rules.now.app.now rules.now.lists.now rules.now.events.now rules.now.starts }
 {
     let whole = rows.len();
     let start = place_of_start(rows);
@@ -120,7 +122,7 @@ fn spoilt(rt: &HostRuntime, rules: &AppRules, rows: &[Row]) -> io::Result<()>
 
 /// Prints of how many tables without one row that row is missed.
 fn each_missed(rt: &HostRuntime, rules: &AppRules, rows: &[Row]) -> io::Result<()>
-    requires { RulesReady rules.now.app.now rules.now.lists.now rules.now.starts }
+    requires { RulesReady rules.now.app.now rules.now.lists.now rules.now.events.now rules.now.starts }
 {
     let missing = missing(rt.alloc(), rules, rows)?;
     println!(rt; "without one row: {missing} times a missing consequence, and it is that row")
@@ -131,11 +133,14 @@ fn tables_by(
     rt: &HostRuntime,
     readers: &StaticReaders<'_>,
     index: &LibraryIndex<'_>,
+    events: &EventIndex<'_>,
 ) -> io::Result<()>
     requires app { SoundApp readers.now }
     requires lists { SoundLists index.now }
+    requires same_app { events.now.0 ≡ readers.now }
+    requires same_lists { events.now.1 ≡ index.now }
 {
-    let rules = AppRules::new(readers, index);
+    let rules = AppRules::new(readers, index, events);
     if solved(rt.alloc(), &rules, 10)?.is_none() {
         println!(rt; "more than 10 rows")?;
     }
@@ -160,5 +165,8 @@ pub fn say_tables(rt: &HostRuntime, app: &App, lists: &Lists) -> io::Result<()>
     let Ok(index) = LibraryIndex::of(rt.alloc(), lists) else {
         return println!(rt; "no memory");
     };
-    tables_by(rt, &readers, &index)
+    let Ok(events) = EventIndex::of(rt.alloc(), app, lists) else {
+        return println!(rt; "no memory");
+    };
+    tables_by(rt, &readers, &index, &events)
 }

@@ -1,4 +1,5 @@
 //! How long the search takes, by one solver and by several workers.
+ghost use Rattle.std.specs.Prelude.{◌≡◌};
 ghost use Rattle.app_machine.specs.Sound.{SoundApp};
 ghost use Rattle.app_machine.specs.SoundLists.{SoundLists};
 ghost use Rattle.app_rules.specs.Ready.{RulesReady};
@@ -7,6 +8,7 @@ use crate::spoiling::unsolved;
 use app_index::{LibraryIndex, StaticReaders};
 use app_model::{App, Lists};
 use app_rules::AppRules;
+use event_index::EventIndex;
 use hashed_rows::HashedRows;
 use rule_sets::Listed;
 use std::io;
@@ -26,7 +28,7 @@ struct Found {
 
 /// What one solver finds.
 fn by_solver<R: AllocGlobal + Clock>(rt: &R, rules: &AppRules, limit: u32) -> io::Result<Found>
-    requires { RulesReady rules.now.app.now rules.now.lists.now rules.now.starts }
+    requires { RulesReady rules.now.app.now rules.now.lists.now rules.now.events.now rules.now.starts }
 {
     let begin = Instant::now(rt)?;
     let mut rows = HashedRows::new(rt.alloc(), 1);
@@ -45,7 +47,7 @@ fn by_workers<R: AllocGlobal + Clock + Threads + Wait + Sync>(
     limit: u32,
     workers: u8,
 ) -> io::Result<Found>
-    requires { RulesReady rules.now.app.now rules.now.lists.now rules.now.starts }
+    requires { RulesReady rules.now.app.now rules.now.lists.now rules.now.events.now rules.now.starts }
 {
     let crew = Crew {
         rt,
@@ -77,12 +79,15 @@ fn times_by<R: Print + AllocGlobal + Clock + Threads + Wait + Sync>(
     rt: &R,
     readers: &StaticReaders<'_>,
     index: &LibraryIndex<'_>,
+    events: &EventIndex<'_>,
     limit: u32,
 ) -> io::Result<()>
     requires app { SoundApp readers.now }
     requires lists { SoundLists index.now }
+    requires same_app { events.now.0 ≡ readers.now }
+    requires same_lists { events.now.1 ≡ index.now }
 {
-    let rules = AppRules::new(readers, index);
+    let rules = AppRules::new(readers, index, events);
     let mut best = by_solver(rt, &rules, limit)?;
     for _ in 0..2 {
         best = quicker(best, by_solver(rt, &rules, limit)?);
@@ -113,5 +118,8 @@ pub fn say_times<R: Print + AllocGlobal + Clock + Threads + Wait + Sync>(
     let Ok(index) = LibraryIndex::of(rt.alloc(), lists) else {
         return println!(rt; "no memory");
     };
-    times_by(rt, &readers, &index, lists.rows)
+    let Ok(events) = EventIndex::of(rt.alloc(), app, lists) else {
+        return println!(rt; "no memory");
+    };
+    times_by(rt, &readers, &index, &events, lists.rows)
 }

@@ -9,8 +9,8 @@ use Rattle.app_rows.proofs.rows.is_in_app.Goals as goal
 
 pub returns : goal.returns
 returns c =
-    let app = c.args.app.now in
-    let lists = c.args.lists.now in
+    let app = c.args.index.now.0 in
+    let lists = c.args.index.now.1 in
     let row = c.args.row.now in
     let fields : List Field = (parts_of row).fields in
     let same : c.are_fields_in.result ≡ are_fields_in app lists fields =

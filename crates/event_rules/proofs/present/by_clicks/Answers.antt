@@ -7,7 +7,7 @@ use Rattle.event_rules.proofs.present.by_clicks.Goals as goal
 
 pub loop-number-preserved : goal.loop-number-preserved
 loop-number-preserved g c =
-    let f : ℕ → List Conclusion = click_gives c.args.app.now c.args.standing.now in
+    let f : ℕ → List Conclusion = click_gives c.args.index.now.0 c.args.standing.now in
     let i = c.loop-number.number in
     c.in_ok-by_click.ensures
     ∙ ap (λ z. fold g.S.Sink.then z (f i)) c.loop-number.invariant

@@ -1,0 +1,10 @@
+pub mod AboveRows
+pub mod Asking
+pub mod Classes
+pub mod EventBodies
+pub mod ListedRows
+pub mod Listing
+pub mod Noting
+pub mod Pushed
+pub mod Rows
+pub mod Words

@@ -1,0 +1,6 @@
+pub mod Bodies
+pub mod Comings
+pub mod Kinds
+pub mod Listed
+pub mod Settled
+pub mod Tables

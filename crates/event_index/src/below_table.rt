@@ -1,0 +1,100 @@
+//! Which classes are below which types, by a bit.
+ghost use Rattle.std.specs.Prelude.{◌≡◌, IfOk, None, Some, slice_get};
+ghost use Rattle.app_machine.specs.Lookups.{class_named};
+ghost use Rattle.app_machine.specs.Sound.{SoundApp};
+ghost use Rattle.app_model.specs.Above.{is_below};
+ghost use Rattle.event_index.specs.Kinds.{IsColumn};
+ghost use Rattle.event_index.specs.Settled.{IsBelowTable};
+
+use crate::bits::Bits;
+use crate::kinds::Column;
+use crate::listed::Listed;
+use crate::names::number_of;
+use crate::settling::settled_rows;
+use app_machine::{App, Class, Lists};
+use app_model::{below, events_are_exact};
+use std::alloc::Global;
+use vet_base::{Memory, Name};
+
+/// For each class of the app, and each of the lists, a row of the types above it.
+#[derive(Drop)]
+pub struct BelowTable<'a> {
+    pub app: &'a App,
+    pub listed: Listed<'a>,
+    pub rows: Vec<Option<Bits>>,
+}
+
+impl<'a> BelowTable<'a> {
+    /// The table of the app by the lists, whose rows are made in this order.
+    pub fn of(
+        alloc: Global,
+        app: &'a App,
+        lists: &'a Lists,
+        order: &[usize],
+    ) -> Result<BelowTable<'a>, Memory>
+        requires { SoundApp app.now }
+        ensures app { IfOk result (λ table. table.app.now ≡ app.now) }
+        ensures lists { IfOk result (λ table. table.listed.lists.now ≡ lists.now) }
+        ensures table { IfOk result (λ table. IsBelowTable table) }
+    {
+        let listed = Listed::of(alloc, lists)?;
+        let rows = settled_rows(alloc, app, &listed, order)?;
+        Ok(BelowTable { app, listed, rows })
+    }
+
+    /// Whether the class of the app of this number is below the type, which is asked for so.
+    #[tactic(auto, using(crate::proofs::Asking::is_below_object, crate::proofs::Asking::is_below_by_row))]
+    pub fn is_class_below(&self, number: usize, class: &Class, column: Column, kind: &Name) -> bool
+        requires sound { SoundApp self.now.app.now }
+        requires table { IsBelowTable self.now }
+        requires there { slice_get self.now.app.now.classes number ≡ Some class.now }
+        requires column { IsColumn self.now.listed.kinds kind.now column }
+        ensures { result ≡ is_below self.now.app.now self.now.listed.lists.now class.now.name kind.now }
+    {
+        match column {
+            Column::Object => true,
+            Column::Number(column) => match self.rows.get(number) {
+                Some(Some(row)) => row.has(column),
+                _ => below(self.app, self.listed.lists, &class.name, kind),
+            },
+            Column::Unknown => below(self.app, self.listed.lists, &class.name, kind),
+        }
+    }
+
+    /// The same of a class that is not of the app.
+    #[tactic(auto, using(crate::proofs::Asking::is_below_object, crate::proofs::Asking::is_below_listed, crate::proofs::Asking::is_below_unlisted))]
+    fn is_library_class_below(&self, class: &Name, column: Column, kind: &Name) -> bool
+        requires sound { SoundApp self.now.app.now }
+        requires table { IsBelowTable self.now }
+        requires outside { class_named self.now.app.now class.now ≡ None }
+        requires column { IsColumn self.now.listed.kinds kind.now column }
+        ensures { result ≡ is_below self.now.app.now self.now.listed.lists.now class.now kind.now }
+    {
+        events_are_exact();
+        match column {
+            Column::Object => true,
+            Column::Number(column) => match self.listed.row(class.as_bytes()) {
+                Some(row) => row.has(column),
+                None => class == kind,
+            },
+            Column::Unknown => below(self.app, self.listed.lists, class, kind),
+        }
+    }
+
+    /// Whether a value of the class may stand where the type `kind` is asked for.
+    #[tactic(auto, using(crate::proofs::Asking::found_class))]
+    pub fn is_below(&self, class: &Name, kind: &Name) -> bool
+        requires sound { SoundApp self.now.app.now }
+        requires table { IsBelowTable self.now }
+        ensures { result ≡ is_below self.now.app.now self.now.listed.lists.now class.now kind.now }
+    {
+        let column = self.listed.kinds.column(kind.as_bytes());
+        match number_of(self.app, class.as_bytes()) {
+            Some(number) => {
+                let found = self.app.classes.at(number);
+                self.is_class_below(number, found, column, kind)
+            }
+            None => self.is_library_class_below(class, column, kind),
+        }
+    }
+}
