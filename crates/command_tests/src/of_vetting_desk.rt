@@ -10,7 +10,7 @@ use std::thread::Threads;
 use std::{fs, io};
 use vet_base::{FileFault, Files, MemFiles, MemSink, Name, PutFault, Sink};
 use vetting_desk::{HostFiles, StandardSink, Status, vet, words_given};
-use worker_pool::{Crew, NoGate};
+use worker_pool::{Crew, NoLookout};
 
 /// The files of an app with one DEX file, in the order in which they are read.
 const FILES: [&str; 5] = [
@@ -48,10 +48,10 @@ fn folder(
 }
 
 /// One worker.
-fn crew<R>(rt: &R) -> Crew<'_, R, NoGate> {
+fn crew<R>(rt: &R) -> Crew<'_, R, NoLookout> {
     Crew {
         rt,
-        gate: &NoGate,
+        lookout: &NoLookout,
         workers: 1,
         seed: 1,
     }

@@ -10,7 +10,7 @@ use std::marker::Sync;
 use std::sync::Wait;
 use std::thread::Threads;
 use vet_base::{MemFiles, MemSink, Name};
-use worker_pool::{Crew, NoGate};
+use worker_pool::{Crew, NoLookout};
 
 /// Puts a file of the folder, where it is there.
 fn push_some(
@@ -69,7 +69,7 @@ pub fn end_of<R: Threads + Wait + Sync + AllocGlobal>(
     let alloc = rt.alloc();
     let crew = Crew {
         rt,
-        gate: &NoGate,
+        lookout: &NoLookout,
         workers: 1,
         seed: 1,
     };

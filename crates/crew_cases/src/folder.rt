@@ -9,7 +9,7 @@ use std::{fs, io};
 use verdict::Parts;
 use vet_base::{MemFiles, MemSink, Memory, Name, Seq};
 use vetting_desk::{Status, vet};
-use worker_pool::{Crew, Gate};
+use worker_pool::{Crew, Lookout};
 
 /// The files of an app with one DEX file.
 const FILES: [&str; 4] = [
@@ -104,11 +104,11 @@ pub fn parts_here<R: Files + AllocGlobal>(rt: &R) -> io::Result<Parts> {
 }
 
 /// The status and the text for these words over these files.
-pub fn answer_for<T: Threads + Wait + Sync, G: Gate>(
+pub fn answer_for<T: Threads + Wait + Sync, L: Lookout>(
     alloc: Global,
     words: &[&str],
     files: &mut MemFiles,
-    crew: &Crew<'_, T, G>,
+    crew: &Crew<'_, T, L>,
 ) -> Result<(u8, String), AllocError> {
     let line = line_of(alloc, words)?;
     let mut out = MemSink::new(alloc, Vec::new(alloc));

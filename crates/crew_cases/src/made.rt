@@ -10,23 +10,23 @@ use std::marker::Sync;
 use std::sync::Wait;
 use std::thread::Threads;
 use vet_base::{MemFiles, Name};
-use worker_pool::{Crew, NoGate};
+use worker_pool::{Crew, NoLookout};
 
 /// Prints what `make 7 100 W` answers for 1, 2 and 16 workers, and how many rows they posted.
 pub fn made<R: Print + AllocGlobal + Threads + Wait + Sync>(rt: &R) -> io::Result<()> {
     let alloc = rt.alloc();
     for workers in ["1", "2", "16"] {
-        let gate = Counting::new();
+        let lookout = Counting::new();
         let crew = Crew {
             rt,
-            gate: &gate,
+            lookout: &lookout,
             workers: 1,
             seed: 1,
         };
         let mut files = MemFiles::new(Vec::new(alloc), Vec::new(alloc));
         let words = ["make", "7", "100", workers];
         let (status, text) = answer_for(alloc, &words, &mut files, &crew)?;
-        let posted = gate.posted();
+        let posted = lookout.posted();
         println!(rt; "make 7 100 {workers}: {status}\n{text}\nposted {posted}")?;
     }
     Ok(())
@@ -77,7 +77,7 @@ fn certify<R: AllocGlobal + Threads + Wait + Sync>(
 ) -> Result<u8, AllocError> {
     let crew = Crew {
         rt,
-        gate: &NoGate,
+        lookout: &NoLookout,
         workers,
         seed: u64::from(workers),
     };

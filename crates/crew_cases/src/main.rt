@@ -27,11 +27,11 @@ use std::thread::Threads;
 use verdict::judge;
 use worker_pool::Crew;
 
-/// So many workers with that gate.
-fn crew_of<'a, R>(rt: &'a R, gate: &'a Meeting, workers: u8) -> Crew<'a, R, Meeting> {
+/// So many workers with that lookout.
+fn crew_of<'a, R>(rt: &'a R, lookout: &'a Meeting, workers: u8) -> Crew<'a, R, Meeting> {
     Crew {
         rt,
-        gate,
+        lookout,
         workers,
         seed: 1,
     }
@@ -43,21 +43,21 @@ fn crew_of<'a, R>(rt: &'a R, gate: &'a Meeting, workers: u8) -> Crew<'a, R, Meet
 fn meetings<R: Files + Print + AllocGlobal + Threads + Wait + Sync>(rt: &R) -> io::Result<()> {
     let alloc = rt.alloc();
     let parts = parts_here(rt)?;
-    let gate = Meeting::new();
-    let judged = judge(alloc, &parts, &crew_of(rt, &gate, 2)).is_ok();
-    println!(rt; "judge: {judged}, {}", gate.told())?;
-    let gate = Meeting::new();
+    let lookout = Meeting::new();
+    let judged = judge(alloc, &parts, &crew_of(rt, &lookout, 2)).is_ok();
+    println!(rt; "judge: {judged}, {}", lookout.told())?;
+    let lookout = Meeting::new();
     let mut files = sample_here(rt)?;
     let (status, _) = answer_for(
         alloc,
         &["check", "D", "2"],
         &mut files,
-        &crew_of(rt, &gate, 1),
+        &crew_of(rt, &lookout, 1),
     )?;
-    println!(rt; "check D 2: {status}, {}", gate.told())?;
-    let gate = Meeting::new();
-    let replies = decided(rt, &crew_of(rt, &gate, 1))?;
-    println!(rt; "serve D 3: {replies}, {}", gate.told())
+    println!(rt; "check D 2: {status}, {}", lookout.told())?;
+    let lookout = Meeting::new();
+    let replies = decided(rt, &crew_of(rt, &lookout, 1))?;
+    println!(rt; "serve D 3: {replies}, {}", lookout.told())
 }
 
 fn main(rt: HostRuntime) -> io::Result<()> {

@@ -2,7 +2,7 @@
 
 use std::hint::spin_loop;
 use std::sync::atomic::{AtomicU64, Ordering};
-use worker_pool::Gate;
+use worker_pool::Lookout;
 
 /// For so many turns a worker waits for the other.
 const TURNS: u64 = 1_000_000_000;
@@ -48,8 +48,8 @@ impl Meeting {
     }
 }
 
-impl Gate for Meeting {
-    fn enter(&self, worker: u8) {
+impl Lookout for Meeting {
+    fn begin(&self, worker: u8) {
         let (own, other) = if worker == 1 {
             (&self.first, &self.second)
         } else {
@@ -65,7 +65,7 @@ impl Gate for Meeting {
         self.late.store(1, Ordering::SeqCst);
     }
 
-    fn leave(&self, worker: u8, _posted: u64) {
+    fn end(&self, worker: u8, _posted: u64) {
         if worker == 1 {
             self.first_left.store(1, Ordering::SeqCst);
         } else {
@@ -92,8 +92,8 @@ impl Holding {
     }
 }
 
-impl Gate for Holding {
-    fn enter(&self, worker: u8) {
+impl Lookout for Holding {
+    fn begin(&self, worker: u8) {
         if worker != 1 {
             return;
         }
@@ -114,7 +114,7 @@ impl Gate for Holding {
         }
     }
 
-    fn leave(&self, _worker: u8, _posted: u64) {
+    fn end(&self, _worker: u8, _posted: u64) {
         self.leaves.fetch_add(1, Ordering::SeqCst);
     }
 }
@@ -137,10 +137,10 @@ impl Counting {
     }
 }
 
-impl Gate for Counting {
-    fn enter(&self, _worker: u8) {}
+impl Lookout for Counting {
+    fn begin(&self, _worker: u8) {}
 
-    fn leave(&self, _worker: u8, posted: u64) {
+    fn end(&self, _worker: u8, posted: u64) {
         self.posted.fetch_add(posted, Ordering::SeqCst);
     }
 }

@@ -8,7 +8,7 @@ use std::rt::Files;
 use std::sync::Wait;
 use std::thread::Threads;
 use vet_base::MemFiles;
-use worker_pool::{Crew, NoGate};
+use worker_pool::{Crew, NoLookout};
 
 /// Prints what `check D W` answers for 1, 2 and 16 workers where the lists allow 10 rows.
 pub fn limited<R: Files + Print + AllocGlobal + Threads + Wait + Sync>(rt: &R) -> io::Result<()> {
@@ -16,7 +16,7 @@ pub fn limited<R: Files + Print + AllocGlobal + Threads + Wait + Sync>(rt: &R) -
     for workers in ["1", "2", "16"] {
         let crew = Crew {
             rt,
-            gate: &NoGate,
+            lookout: &NoLookout,
             workers: 1,
             seed: 1,
         };
@@ -31,10 +31,10 @@ pub fn limited<R: Files + Print + AllocGlobal + Threads + Wait + Sync>(rt: &R) -
 pub fn held<R: Files + Print + AllocGlobal + Threads + Wait + Sync>(rt: &R) -> io::Result<()> {
     let alloc = rt.alloc();
     for workers in ["2", "16"] {
-        let gate = Holding::new();
+        let lookout = Holding::new();
         let crew = Crew {
             rt,
-            gate: &gate,
+            lookout: &lookout,
             workers: 1,
             seed: 1,
         };
@@ -50,7 +50,7 @@ pub fn crowded<R: Print + AllocGlobal + Threads + Wait + Sync>(rt: &R) -> io::Re
     let alloc = rt.alloc();
     let crew = Crew {
         rt,
-        gate: &NoGate,
+        lookout: &NoLookout,
         workers: 1,
         seed: 1,
     };

@@ -30,7 +30,7 @@ use std::time::Clock as SystemClock;
 use vet_base::{Files, Memory, Sink};
 use vet_program::{seed_of, vetted_here, words_from};
 use vetting_desk::{HostFiles, StandardSink};
-use worker_pool::{Crew, NoGate};
+use worker_pool::{Crew, NoLookout};
 
 /// Serves a desk where the words ask for one, over this outside, with threads of the system; `None` where they ask for
 /// something else. What `serve` says of its status is so of the exit status.
@@ -67,7 +67,7 @@ where
 {
     let crew = Crew {
         rt,
-        gate: &NoGate,
+        lookout: &NoLookout,
         workers: 1,
         seed,
     };

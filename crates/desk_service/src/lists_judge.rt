@@ -17,7 +17,7 @@ use std::thread::Threads;
 use verdict::{Judged as JudgedApp, Outcome, Parts, judge};
 use verdict_report::report;
 use vet_base::{Memory, Seq, Shared};
-use worker_pool::{Crew, Gate};
+use worker_pool::{Crew, Lookout};
 
 /// The lists of the office.
 #[derive(Drop)]
@@ -111,10 +111,10 @@ fn told_of(alloc: Global, outcome: &Outcome) -> Result<Judged, Memory>
 }
 
 /// What the parts of an app come to.
-pub(crate) fn judged<T: Threads + Wait + Sync, G: Gate>(
+pub(crate) fn judged<T: Threads + Wait + Sync, L: Lookout>(
     alloc: Global,
     parts: &Parts,
-    crew: &Crew<'_, T, G>,
+    crew: &Crew<'_, T, L>,
 ) -> Result<JudgedApp, Memory>
     ensures { IfOk result (IsJudged parts.now) }
 {

@@ -15,7 +15,7 @@ use std::marker::Sync;
 use std::sync::Wait;
 use std::thread::Threads;
 use vet_base::{Files, Memory, PutFault, Sink};
-use worker_pool::{Crew, Gate};
+use worker_pool::{Crew, Lookout};
 
 fn printed<O: Sink>(alloc: Global, out: &mut O, status: Status, text: &[u8]) -> Status
     ensures { PutsText (O.taken out.old) (O.taken out.new) (O.fault_count out.old) (O.fault_count out.new) status
@@ -29,11 +29,11 @@ fn printed<O: Sink>(alloc: Global, out: &mut O, status: Status, text: &[u8]) -> 
 }
 
 /// Serves as the words ask, and prints what it came to.
-fn run<F, O, K, D, C, T, G>(
+fn run<F, O, K, D, C, T, L>(
     alloc: Global,
     asked: &Serving,
     outside: &mut Outside<F, O, K, D, C>,
-    crew: &Crew<'_, T, G>,
+    crew: &Crew<'_, T, L>,
 ) -> Status
 where
     F: Files,
@@ -42,7 +42,7 @@ where
     D: Door,
     C: Clock,
     T: Threads + Wait + Sync,
-    G: Gate,
+    L: Lookout,
     requires { TellsDocket (K.told outside.old.keeper) }
     ensures ends { Ends (asked_words asked.now) (C.told outside.old.clock)
         (seen (F.told outside.old.files) (F.fault_count outside.old.files) (O.taken outside.old.out)
@@ -74,8 +74,8 @@ where
 /// - 0: that many connections were taken, `served M`.
 /// - 3: the first of the two files that is absent, too long or not of its form is refused, `refused NAME: REASON`. No
 ///   connection was taken and no case changed.
-/// - 5: the read of one of them failed in this call, `read fault OFFICE/NAME`. No connection was taken and no case
-/// changed.
+/// - 5: the read of one of them failed in this call, `read fault OFFICE/NAME`. No connection was taken, and no case
+///   changed.
 /// - 6: the put failed in this call, and a front of the text that was due was printed.
 /// - 7: memory ran out; nothing was printed.
 /// - 8: the door failed to open a connection in this call, `door fault`. The connections before it were served.
@@ -86,11 +86,11 @@ where
 ///
 /// The crew finds what follows in an app, with as many workers as the office says. No answer depends on it, or on how
 /// its workers take turns.
-pub fn serve<F, O, K, D, C, T, G>(
+pub fn serve<F, O, K, D, C, T, L>(
     alloc: Global,
     words: &[String],
     outside: &mut Outside<F, O, K, D, C>,
-    crew: &Crew<'_, T, G>,
+    crew: &Crew<'_, T, L>,
 ) -> Option<Status>
 where
     F: Files,
@@ -99,7 +99,7 @@ where
     D: Door,
     C: Clock,
     T: Threads + Wait + Sync,
-    G: Gate,
+    L: Lookout,
     // The keeper's cases, where it tells them, are those of a desk.
     requires { TellsDocket (K.told outside.old.keeper) }
 

@@ -25,7 +25,7 @@ use std::sync::Wait;
 use std::thread::Threads;
 use verdict::{Judged as JudgedApp, Parts};
 use vet_base::{Files, Memory, Sink};
-use worker_pool::{Crew, Gate};
+use worker_pool::{Crew, Lookout};
 
 /// The status and the text where no desk could be opened.
 fn halted(alloc: Global, office: &str, halt: &Halt) -> Result<(Status, Vec<u8>), Memory>
@@ -53,10 +53,10 @@ fn closed(alloc: Global, taken: Result<u32, DoorFault>) -> Result<(Status, Vec<u
 }
 
 /// Takes connections at a desk.
-fn taken<F, O, K, D, C, T, G>(
+fn taken<F, O, K, D, C, T, L>(
     alloc: Global,
     desk: Desk<OfficeLists>,
-    crew: &Crew<'_, T, G>,
+    crew: &Crew<'_, T, L>,
     outside: &mut Outside<F, O, K, D, C>,
     most: u32,
 ) -> Result<u32, DoorFault>
@@ -67,7 +67,7 @@ where
     D: Door,
     C: Clock,
     T: Threads + Wait + Sync,
-    G: Gate,
+    L: Lookout,
     requires docket { TellsDocket (K.told outside.old.keeper) }
     requires edition { desk.judge.edition ≡ sha256 desk.judge.lists }
     ensures serves { ServesDesk (opened_of desk) (C.told outside.old.clock) most
@@ -104,11 +104,11 @@ where
 }
 
 /// What a run comes to before it prints: its status and its text.
-pub(crate) fn said<F, O, K, D, C, T, G>(
+pub(crate) fn said<F, O, K, D, C, T, L>(
     alloc: Global,
     asked: &Serving,
     outside: &mut Outside<F, O, K, D, C>,
-    crew: &Crew<'_, T, G>,
+    crew: &Crew<'_, T, L>,
 ) -> Result<(Status, Vec<u8>), Memory>
 where
     F: Files,
@@ -117,7 +117,7 @@ where
     D: Door,
     C: Clock,
     T: Threads + Wait + Sync,
-    G: Gate,
+    L: Lookout,
     requires { TellsDocket (K.told outside.old.keeper) }
     ensures says { Says (asked_words asked.now) (C.told outside.old.clock)
         (seen (F.told outside.old.files) (F.fault_count outside.old.files) (O.taken outside.old.out)

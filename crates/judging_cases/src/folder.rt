@@ -7,7 +7,7 @@ use std::thread::Threads;
 use std::{fs, io};
 use vet_base::{MemFiles, MemSink, Memory, Name};
 use vetting_desk::{Status, vet};
-use worker_pool::{Crew, NoGate};
+use worker_pool::{Crew, NoLookout};
 
 /// Files by name.
 pub type Held = Vec<(Name, Vec<u8>)>;
@@ -97,7 +97,7 @@ fn judged<R: AllocGlobal + Threads + Wait + Sync>(
 ) -> u8 {
     let crew = Crew {
         rt,
-        gate: &NoGate,
+        lookout: &NoLookout,
         workers: 1,
         seed: 1,
     };

@@ -17,7 +17,7 @@ use std::sync::Wait;
 use std::thread::Threads;
 use std::time::{Clock, Instant};
 use taint_solver::solve;
-use worker_pool::{Crew, NoGate, solve_with};
+use worker_pool::{Crew, NoLookout, solve_with};
 
 /// How many rows were found, and in how many milliseconds by the clock.
 #[derive(Clone, Copy, Debug)]
@@ -51,7 +51,7 @@ fn by_workers<R: AllocGlobal + Clock + Threads + Wait + Sync>(
 {
     let crew = Crew {
         rt,
-        gate: &NoGate,
+        lookout: &NoLookout,
         workers,
         seed: 1,
     };

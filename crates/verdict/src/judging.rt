@@ -30,7 +30,7 @@ use std::marker::Sync;
 use std::sync::Wait;
 use std::thread::Threads;
 use vet_base::{Memory, Seq, Stop};
-use worker_pool::{Crew, Gate};
+use worker_pool::{Crew, Lookout};
 
 fn outcome_with(causes: Vec<Cause>, findings: Vec<Finding>) -> Outcome
     ensures { result ≡ outcome_of causes.items findings.items }
@@ -80,13 +80,13 @@ fn outcome_of_flow(
 
 /// The outcome by rows, where it may be told: one that is clear where the checker accepts the rows, which it alone
 /// decides; any other without it.
-fn confirmed<T: Threads + Sync, G>(
+fn confirmed<T: Threads + Sync, L>(
     alloc: Global,
     app: &App,
     lists: &Lists,
     rows: &FlowRows,
     outcome: Outcome,
-    crew: &Crew<'_, T, G>,
+    crew: &Crew<'_, T, L>,
 ) -> Result<Option<Outcome>, Memory>
     requires sound { SoundApp app.now }
     requires lists { SoundLists lists.now }
@@ -110,12 +110,12 @@ fn confirmed<T: Threads + Sync, G>(
 
 /// What an app comes to by the rows of its flow, of which nothing is known but what methods they name; so where that is
 /// clear, it is so by the checker's word. None only where the checker refuses the rows.
-fn outcome_by<T: Threads + Sync, G>(
+fn outcome_by<T: Threads + Sync, L>(
     alloc: Global,
     app: &App,
     papers: &Papers,
     rows: &FlowRows,
-    crew: &Crew<'_, T, G>,
+    crew: &Crew<'_, T, L>,
 ) -> Result<Option<Outcome>, Memory>
     requires sound { SoundApp app.now }
     requires lists { SoundLists papers.now.lists }
@@ -133,12 +133,12 @@ fn outcome_by<T: Threads + Sync, G>(
 /// What an app comes to by its flow: as its rows say, or that they are too many. None only where the checker refuses
 /// the rows.
 #[tactic(auto, using(crate::proofs::Outcomes::clear_by_checker, crate::proofs::Outcomes::refused_by_checker, crate::proofs::Outcomes::too_large_is_good))]
-fn judged_by<T: Threads + Sync, G>(
+fn judged_by<T: Threads + Sync, L>(
     alloc: Global,
     app: &App,
     papers: &Papers,
     flow: Flow,
-    crew: &Crew<'_, T, G>,
+    crew: &Crew<'_, T, L>,
 ) -> Result<Option<Judged>, Memory>
     requires sound { SoundApp app.now }
     requires lists { SoundLists papers.now.lists }
@@ -170,10 +170,10 @@ fn judged_by<T: Threads + Sync, G>(
 
 /// What a linked app comes to, as `judge` says of its parts: the app, the lists and the declaration are those that
 /// `linked_parts` gave, so nothing is linked a second time.
-pub fn judge_linked<T: Threads + Wait + Sync, G: Gate>(
+pub fn judge_linked<T: Threads + Wait + Sync, L: Lookout>(
     alloc: Global,
     linked: &Linked,
-    crew: &Crew<'_, T, G>,
+    crew: &Crew<'_, T, L>,
 ) -> Result<Judged, Memory>
     requires sound { SoundApp linked.now.app }
     requires lists { SoundLists linked.now.papers.lists }
@@ -195,10 +195,10 @@ pub fn judge_linked<T: Threads + Wait + Sync, G: Gate>(
 }
 
 #[tactic(auto, using(crate::proofs::Outcomes::judgement_on, crate::proofs::Outcomes::tells_of_parts))]
-fn judged_parts<T: Threads + Wait + Sync, G: Gate>(
+fn judged_parts<T: Threads + Wait + Sync, L: Lookout>(
     alloc: Global,
     parts: &Parts,
-    crew: &Crew<'_, T, G>,
+    crew: &Crew<'_, T, L>,
 ) -> Result<Judged, Halt>
     ensures value { IfOk result (λ j. Judgement parts.now j) }
     ensures one { IfOk result (λ j. OnlyJudgement parts.now j) }
@@ -229,10 +229,10 @@ fn judged_parts<T: Threads + Wait + Sync, G: Gate>(
 /// table; nor is there one where the parts are refused. Else the table is there, with all rows that follow and no
 /// others. Nothing of this depends on the crew that finds what follows.
 #[tactic(auto, using(crate::proofs::Outcomes::refused_with, crate::proofs::Outcomes::no_followed_refusal, crate::proofs::Outcomes::clear_is_safe))]
-pub fn judge<T: Threads + Wait + Sync, G: Gate>(
+pub fn judge<T: Threads + Wait + Sync, L: Lookout>(
     alloc: Global,
     parts: &Parts,
-    crew: &Crew<'_, T, G>,
+    crew: &Crew<'_, T, L>,
 ) -> Result<Judged, Memory>
     ensures value { IfOk result (λ j. Judgement parts.now j) }
 

@@ -21,7 +21,7 @@ use std::thread::Threads;
 use std::{env, io};
 use vet_base::{Files, Sink};
 use vetting_desk::{HostFiles, StandardSink, Status, vet, words_given};
-use worker_pool::{Crew, NoGate};
+use worker_pool::{Crew, NoLookout};
 
 /// The words behind the program's name.
 fn words_of(rt: &(impl Env + AllocGlobal), alloc: Global) -> io::Result<Vec<String>> {
@@ -88,7 +88,7 @@ pub fn vetted<F: Files, O: Sink, T: Threads + Wait + Sync>(
 {
     let crew = Crew {
         rt,
-        gate: &NoGate,
+        lookout: &NoLookout,
         workers: 1,
         seed,
     };

@@ -20,13 +20,13 @@ use std::sync::Wait;
 use std::thread::Threads;
 use verdict::{Judged, Outcome, Parts, Rechecked, RowDefect, TableDefect, judge, judge_table};
 use vet_base::{Memory, Seq, Stop};
-use worker_pool::{Crew, Gate};
+use worker_pool::{Crew, Lookout};
 
 /// What parts come to.
-pub fn checked<T: Threads + Wait + Sync, G: Gate>(
+pub fn checked<T: Threads + Wait + Sync, L: Lookout>(
     alloc: Global,
     parts: &Parts,
-    crew: &Crew<'_, T, G>,
+    crew: &Crew<'_, T, L>,
 ) -> Result<Answer, Memory>
     ensures { IfOk result (λ a. FindsOfParts (Unit {0}) Checks parts.now (due_of a)) }
 {
@@ -58,11 +58,11 @@ fn with_certificate(
 }
 
 /// What parts come to, with the certificate of their table for the file at this path.
-pub fn certified<T: Threads + Wait + Sync, G: Gate>(
+pub fn certified<T: Threads + Wait + Sync, L: Lookout>(
     alloc: Global,
     parts: &Parts,
     path: &str,
-    crew: &Crew<'_, T, G>,
+    crew: &Crew<'_, T, L>,
 ) -> Result<Answer, Memory>
     requires { AreShort parts.now }
     ensures { IfOk result (λ a. FindsOfParts (Unit {0}) (Certifies path.now) parts.now (due_of a)) }

@@ -18,7 +18,7 @@ use std::sync::Wait;
 use std::thread::Threads;
 use verdict::{Outcome, Parts};
 use vet_base::{FileFault, Files, Memory};
-use worker_pool::{Crew, Gate};
+use worker_pool::{Crew, Lookout};
 
 /// A certificate has at most so many bytes.
 const CERTIFICATE_LIMIT: u64 = 536_870_912;
@@ -54,12 +54,12 @@ fn halted(halt: Halt) -> Found
 }
 
 /// What `check` finds in a folder.
-fn found_by_check<F: Files, T: Threads + Wait + Sync, G: Gate>(
+fn found_by_check<F: Files, T: Threads + Wait + Sync, L: Lookout>(
     alloc: Global,
     dir: &str,
     workers: u8,
     files: &mut F,
-    crew: &Crew<'_, T, G>,
+    crew: &Crew<'_, T, L>,
 ) -> Found
     ensures { IsFound (Some (Check dir.now workers)) (F.told files.old) (F.told files.new)
         (F.fault_count files.old) (F.fault_count files.new) result }
@@ -72,12 +72,12 @@ fn found_by_check<F: Files, T: Threads + Wait + Sync, G: Gate>(
 }
 
 /// What `certify` finds in a folder.
-fn found_by_certify<F: Files, T: Threads + Wait + Sync, G: Gate>(
+fn found_by_certify<F: Files, T: Threads + Wait + Sync, L: Lookout>(
     alloc: Global,
     dir: &str,
     path: &str,
     files: &mut F,
-    crew: &Crew<'_, T, G>,
+    crew: &Crew<'_, T, L>,
 ) -> Found
     ensures { IsFound (Some (Certify dir.now path.now)) (F.told files.old) (F.told files.new)
         (F.fault_count files.old) (F.fault_count files.new) result }
@@ -140,12 +140,12 @@ fn found_by_recheck<F: Files>(
 }
 
 /// What `make` finds. It reads no file.
-fn found_by_make<T: Threads + Wait + Sync, G: Gate>(
+fn found_by_make<T: Threads + Wait + Sync, L: Lookout>(
     alloc: Global,
     app_seed: u32,
     size: u32,
     workers: u8,
-    crew: &Crew<'_, T, G>,
+    crew: &Crew<'_, T, L>,
 ) -> Found
     requires app_seed { app_seed < 2147483648 }
     requires some { 1 ≤ size }
@@ -157,11 +157,11 @@ fn found_by_make<T: Threads + Wait + Sync, G: Gate>(
 }
 
 /// What the words find.
-pub fn found_in<F: Files, T: Threads + Wait + Sync, G: Gate>(
+pub fn found_in<F: Files, T: Threads + Wait + Sync, L: Lookout>(
     alloc: Global,
     words: &[String],
     files: &mut F,
-    crew: &Crew<'_, T, G>,
+    crew: &Crew<'_, T, L>,
 ) -> Found
     ensures { IsFound (parse (map string_bytes words.now)) (F.told files.old) (F.told files.new)
         (F.fault_count files.old) (F.fault_count files.new) result }

@@ -17,7 +17,7 @@ use std::sync::Wait;
 use std::thread::Threads;
 use verdict::{Judged, Outcome, Parts, judge};
 use vet_base::{Memory, Seq};
-use worker_pool::{Crew, Gate};
+use worker_pool::{Crew, Lookout};
 
 fn listed(alloc: Global, text: &[u8]) -> Result<Seq<u8>, Memory>
     ensures { IfOk result (λ s. s ≡ text.now) }
@@ -65,12 +65,12 @@ fn made_as(size: u32, judged: Judged) -> Answer
 }
 
 /// What the app comes to that is drawn from a seed, with so many drawn methods.
-pub fn made<T: Threads + Wait + Sync, G: Gate>(
+pub fn made<T: Threads + Wait + Sync, L: Lookout>(
     alloc: Global,
     app_seed: u32,
     size: u32,
     workers: u8,
-    crew: &Crew<'_, T, G>,
+    crew: &Crew<'_, T, L>,
 ) -> Result<Answer, Memory>
     requires app_seed { app_seed < 2147483648 }
     requires some { 1 ≤ size }

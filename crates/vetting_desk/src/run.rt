@@ -15,7 +15,7 @@ use std::marker::Sync;
 use std::sync::Wait;
 use std::thread::Threads;
 use vet_base::{FileFault, Files, Memory, PutFault, Sink};
-use worker_pool::{Crew, Gate};
+use worker_pool::{Crew, Lookout};
 
 /// The status and the text that say what was found.
 fn saying(alloc: Global, found: &Found) -> Result<(Status, Vec<u8>), Memory>
@@ -111,12 +111,12 @@ fn finished<F: Files, O: Sink>(alloc: Global, files: &mut F, out: &mut O, found:
 }
 
 /// Finds what the words and the files come to, writes the file that is due, if any, and prints the answer.
-fn run<F: Files, O: Sink, T: Threads + Wait + Sync, G: Gate>(
+fn run<F: Files, O: Sink, T: Threads + Wait + Sync, L: Lookout>(
     alloc: Global,
     words: &[String],
     files: &mut F,
     out: &mut O,
-    crew: &Crew<'_, T, G>,
+    crew: &Crew<'_, T, L>,
 ) -> Status
     ensures { Ends (TheDue (parse (map string_bytes words.now)) (record { files = F.told files.old; printed = O.taken out.old }))
         (parse (map string_bytes words.now))
@@ -133,15 +133,14 @@ fn run<F: Files, O: Sink, T: Threads + Wait + Sync, G: Gate>(
 /// The words are `check DIR WORKERS`, which judges the app in a folder; `certify DIR CERT`, which also writes the table
 /// of what follows in the app to a file, as a certificate, before it prints; `recheck DIR CERT`, which judges the app
 /// by the table of a certificate that anyone may have made; or `make SEED SIZE WORKERS`, which judges an app that is
-/// drawn from a seed, reads no file, and prints a summary in place of the report: how many methods, rows and findings
-/// there are, and the outcome's word. Where an app is refused or too large no certificate is written.
+/// drawn from a seed, and prints a summary in place of the report: how many methods, rows and findings there are, and
+/// the outcome's word. Where an app is refused or too large no certificate is written.
 ///
 /// The status is:
 /// - 0, clear: the folder that the words name gives the parts of an app that is safe, that is, no run of the machine
 ///   brings a value of a listed source to a listed sink unless the declaration names that pair, or comes to what is not
 ///   modelled. Where the files tell what they hold, those parts are the files of the folder. For `make` the generated
-/// app
-///   is safe. The report is printed, as it is for 1 to 3, or the summary.
+///   app is safe. The report is printed, as it is for 1 to 3, or the summary.
 /// - 1, flagged: a value of a source may come to a sink, and the declaration does not name the pair.
 /// - 2, undecided: a run may come to what is not modelled, or the app is too large.
 /// - 3, refused: a file is absent or too long, that of the certificate too, or the parts are no app.
@@ -149,20 +148,19 @@ fn run<F: Files, O: Sink, T: Threads + Wait + Sync, G: Gate>(
 /// - 5: a read of a file of this command failed in this call. A line with the file's name is printed.
 /// - 6: the put failed in this call, and a front of the text that was due was printed; or the write of the certificate
 ///   failed in this call, its file has its old bytes or a front of the new ones, and nothing was printed.
-/// - 7: memory ran out, or a hostile app would list more than is allowed, which is answered alike. Nothing was printed;
-/// a
-///   certificate that was due is written or not.
+/// - 7: memory ran out, or a hostile app would list more than is allowed, which is answered alike. Nothing was
+///   printed; a certificate that was due is written or not.
 /// - 9: the certificate is refused: its bytes are none, or it is about other files, or its table is no table of the app
 ///   that holds all that follows. A line that says which is printed.
 ///
 /// The crew finds what follows in an app: `check` and `make` with WORKERS workers, from 1 to 16, `certify` with as many
 /// as it has. No answer depends on it, or on how its workers take turns.
-pub fn vet<F: Files, O: Sink, T: Threads + Wait + Sync, G: Gate>(
+pub fn vet<F: Files, O: Sink, T: Threads + Wait + Sync, L: Lookout>(
     alloc: Global,
     words: &[String],
     files: &mut F,
     out: &mut O,
-    crew: &Crew<'_, T, G>,
+    crew: &Crew<'_, T, L>,
 ) -> Status
     // The status, the printed text and the files are those that are due to the words, unless a read or the put failed
     // in this very call, or memory ran out.

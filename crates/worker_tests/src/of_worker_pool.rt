@@ -8,7 +8,7 @@ use std::sync::Wait;
 use std::test::Fail;
 use std::thread::Threads;
 use taint_solver::{Solved, Unsolved, solve};
-use worker_pool::{Crew, NoGate, solve_with};
+use worker_pool::{Crew, NoLookout, solve_with};
 
 /// The limit that was passed, if it was, how many rows there are, and the first five of them.
 type Found = (Option<u32>, usize, [Option<Row>; 5]);
@@ -42,7 +42,7 @@ where
 {
     let crew = Crew {
         rt,
-        gate: &NoGate,
+        lookout: &NoLookout,
         workers,
         seed: 7,
     };
