@@ -16,6 +16,7 @@ use Rattle.app_machine.specs.Sound.{IsAbove, ShortLists, SoundApp, SoundMethod, 
 use Rattle.app_machine.specs.SoundLists.{NamedPosition, SoundCallback, SoundClass, SoundLists, SoundSummary, TwoPositions}
 use Rattle.app_machine.specs.Summaries.{position_count}
 use Rattle.lookup_witness.specs.Shapes.{activity_class, body, child_class, does, going, initialiser, object, on_given, only_ends, outer_interface, screen_class, service_class, shapes, tap, worker_class}
+use Rattle.lookup_witness.specs.AppFacts.{event_lists}
 use Rattle.lookup_witness.specs.IndexFacts.{clone, plain, row_lists, row_of_method, sealed}
 
 -- How high a class stands: each class below those directly above it, so that none is above itself.
@@ -222,4 +223,24 @@ sound_lists = record {
   classes = all_from_in SoundClass row_lists.classes (λ c h. each_in SoundClass row_lists.classes c classes h);
   methods = all_from_in (SoundSummary 1 0) row_lists.methods (λ m h. each_in (SoundSummary 1 0) row_lists.methods m methods h);
   callbacks = none (SoundCallback 1);
+}
+
+called : AllByRecursion (SoundCallback 1) event_lists.callbacks
+unfolding event_lists
+called = (record { sources = none _ }, (record { sources = none _ }, tt))
+
+pub sound_events : SoundLists event_lists
+unfolding event_lists
+sound_events = record {
+  one_row = lit≤ tt;
+  few_rows = lit≤ tt;
+  one_category = lit≤ tt;
+  few_categories = lit≤ tt;
+  few_classes = lit≤ tt;
+  few_shared = lit≤ tt;
+  few_methods = lit≤ tt;
+  few_callbacks = lit≤ tt;
+  classes = none SoundClass;
+  methods = none (SoundSummary 1 0);
+  callbacks = all_from_in (SoundCallback 1) event_lists.callbacks (λ c h. each_in (SoundCallback 1) event_lists.callbacks c called h);
 }

@@ -6,10 +6,12 @@ use Rattle.app_machine.specs.declared.method.Act.TheVariants.{New}
 use Rattle.app_machine.specs.declared.lists.Lists.{Lists}
 use Rattle.app_machine.specs.LifeEvents.{life_events}
 use Rattle.app_machine.specs.Lookups.{Nothing, target, find_body, body_named, initialisers}
+use Rattle.app_machine.specs.Names.{Name}
 use Rattle.app_machine.specs.Sound.{SoundApp}
+use Rattle.app_machine.specs.SoundLists.{SoundLists}
 use Rattle.app_model.specs.Above.{is_below}
-use Rattle.app_model.specs.EventBodies.{click, handed_callback}
-use Rattle.lookup_witness.specs.Shapes.{activity_class, child_class, outer_interface, screen_class, go, stop, on_given, tap, shapes}
+use Rattle.app_model.specs.EventBodies.{click, component_callback, handed_callback}
+use Rattle.lookup_witness.specs.Shapes.{activity_class, child_class, outer_interface, screen_class, void, go, stop, on_given, tap, shapes}
 
 -- lists with one callback, on activities
 unfoldable pub callback_lists : Lists
@@ -20,6 +22,23 @@ callback_lists = record {
   shared = [];
   methods = [];
   callbacks = record { class = activity_class; name = on_given.name; proto = on_given.proto; sources = [] } ∷ [];
+}
+
+abbrev pub numbers : Name
+numbers = codes "[I"
+
+-- lists with a callback on the outer interface, with an array, and a last one on activities
+unfoldable pub event_lists : Lists
+event_lists = record {
+  rows = 1000;
+  categories = codes "device_id" ∷ [];
+  classes = [];
+  shared = [];
+  methods = [];
+  callbacks =
+      record { class = outer_interface; name = codes "onFilled"; proto = record { params = numbers ∷ []; ret = void }; sources = [] }
+      ∷ record { class = activity_class; name = on_given.name; proto = on_given.proto; sources = [] }
+      ∷ [];
 }
 
 pub record LooksUp : Type 0 where
@@ -43,5 +62,17 @@ pub record LooksUp : Type 0 where
   -- a new child runs the base's initialiser, having none of its own; a walk that ends at the child gives none
   pub from_above : initialisers shapes (New 0 child_class) ≡ 0 ∷ []
 
+-- the same where events are asked for at many rows, from tables that are made once
+pub record LooksUpEvents : Type 0 where
+  -- the lists are sound, as the tables ask
+  pub sound : SoundLists event_lists
+  -- the child is below a callback's class by an interface alone; by superclasses, or from a row that is made before those of the
+  -- classes above it, it is false
+  pub by_called_interface : is_below shapes event_lists child_class outer_interface ≡ true
+  -- an array is below the type of a callback's parameter, which it is; where arrays are below nothing it is false
+  pub array_itself : is_below shapes event_lists numbers numbers ≡ true
+  -- the last callback row comes to the activity; without that row it gives None
+  pub last_called : component_callback shapes event_lists 0 1 ≡ Some ([], 2)
+
 abbrev pub AppIsLookedUp : Type 0
-AppIsLookedUp = LooksUp
+AppIsLookedUp = LooksUp × LooksUpEvents
