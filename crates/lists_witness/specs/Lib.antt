@@ -1,3 +1,4 @@
+pub mod ClientFacts
 pub mod ListFacts
 pub mod OfficeFacts
 pub mod Trees

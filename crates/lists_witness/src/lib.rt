@@ -1,8 +1,9 @@
-//! Small facts that show how the lists and the office file are read, from whole trees of TOML. Each is a
-//! theorem over the definitions that the clauses of their readers name, so that a reader which answers
-//! otherwise is refused.
+//! Small facts that show how the lists, the office file and a developer's file are read, from whole trees
+//! of TOML. Each is a theorem over the definitions that the clauses of their readers name, so that a
+//! reader which answers otherwise is refused.
 #![tactic(auto)]
 
+ghost use Rattle.lists_witness.specs.ClientFacts.{ClientIsRead};
 ghost use Rattle.lists_witness.specs.ListFacts.{ListsAreRead};
 ghost use Rattle.lists_witness.specs.OfficeFacts.{OfficeIsRead};
 
@@ -13,7 +14,7 @@ pub fn the_lists_are_read()
 {}
 
 /// No port is 0, a role is the one that its word says, and a token that stands twice is told by the
-/// name of its party.
+/// name of its party; and a developer's file has a port, a token without spaces and few tries.
 pub fn the_office_is_read()
-    ensures { OfficeIsRead }
+    ensures { OfficeIsRead × ClientIsRead }
 {}
