@@ -5,7 +5,8 @@
 # usage: bench/plant.sh [WORD ..]      those of bench/plants.txt whose names hold one of the words; all without any
 #
 # To add one, write a block in bench/plants.txt. The crates below are built once. Each plant takes the proofs of the crates that it
-# names, a minute or two, or a run of the programs that it names, unproved, as long; each program is first run with nothing planted.
+# names, a minute or two, or a run of the programs that it names, unproved, as long, or of the tests in tools/tests that it names, for
+# which ./vet builds the program; each is first run with nothing planted.
 # The last line is 'N refused, M not refused, K cannot be planted'; the status is 0 only where all were refused.
 set -u
 top=$(cd "$(dirname "$0")/.." && pwd)
@@ -26,6 +27,7 @@ split() {
         !taken { next }
         /^crates: / { print substr($0, 9) > (at "/crates"); next }
         /^runs: / { print substr($0, 7) > (at "/runs"); next }
+        /^tests: / { print substr($0, 8) > (at "/runs"); next }
         /^(file|old|new): / { print > (at "/changes") }
     ' "$top/bench/plants.txt"
 }
@@ -85,31 +87,41 @@ ran() (
     return 1
 )
 
+# Runs tests of tools/tests, which ask the program of the copy. The same statuses.
+tested() (
+    cd "$room/copy/tools" || return 2
+    python3 -m unittest "tests.$1" > "$room/log" 2>&1 || { grep -q '^FAIL: ' "$room/log" && return 1; return 2; }
+    ! grep -q skipped "$room/log" || return 2
+)
+
+# Runs a program, or tests, which have a dot in their name.
+put_to_run() { case $1 in *.*) tested "$1" ;; *) ran "$1" ;; esac; }
+
 # What the log says of a refusal, in one line.
 told() {
     { grep -m 1 -E '^fn .*: (no proof|not proved)|error:' "$room/log" || tail -n 1 "$room/log"; } | cut -c 1-240
 }
 
-# Whether each of the programs prints and ends as is due with nothing planted.
+# Whether each of the programs prints and ends as is due with nothing planted, and each of the tests passes.
 are_sound() {
     local name
     for name in "$@"; do
-        [ -n "${sound[$name]:-}" ] || { ran "$name" && sound[$name]=1; } || return 1
+        [ -n "${sound[$name]:-}" ] || { put_to_run "$name" && sound[$name]=1; } || return 1
     done
 }
 
-# The program that prints something else or ends otherwise with what is planted, or nothing.
+# The program that prints something else or ends otherwise with what is planted, or the test that fails, or nothing.
 failed_run() {
     local name
     for name in "$@"; do
-        ran "$name"
+        put_to_run "$name"
         [ $? -eq 1 ] && { printf '%s' "$name"; return; }
     done
 }
 
 split "$@"
 mkdir "$room/copy"
-(cd "$top" && tar -cf - --exclude=out crates crates.txt HANDLES) | tar -xf - -C "$room/copy"
+(cd "$top" && tar -cf - --exclude=out crates crates.txt HANDLES vet tools examples) | tar -xf - -C "$room/copy"
 declare -A sound=()
 refused=0 passed=0 lost=0
 last=

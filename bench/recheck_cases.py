@@ -1,7 +1,7 @@
-"""Writes the cases of certificates that judging_cases rechecks: changes to one certificate, each with the answer that is due.
+"""Writes the cases of certificates that tools/tests rechecks: changes to one certificate, each with the answer that is due.
 
-usage: recheck_cases.py DATA (the data folder of crates/judging_cases, with other_box.cert and empty.cert in it, which a program wrote
-that was made apart from this one; writes certificate_cases.txt)
+usage: recheck_cases.py DATA (the folder tools/tests/data/answers, with other_box.cert and empty.cert in it, which a program wrote that
+was made apart from this one; writes certificate_cases.txt)
 
 The answers come from docs/FORMATS.md and from what a table is: all that follows and nothing else, so where one row is left out just
 that row is missing. Whether the first row of the table, with which every run begins, is left out, its kind and numbers tell.

@@ -15,7 +15,7 @@ from runs import time_check
 
 program, folder = sys.argv[1], sys.argv[2]
 here = os.path.dirname(os.path.abspath(__file__))
-base = open(f'{here}/../crates/judging_cases/data/empty.dex', 'rb').read()
+base = open(f'{here}/../tools/tests/data/answers/empty.dex', 'rb').read()
 example = f'{here}/../examples/device_id_posted'
 
 

@@ -18,7 +18,7 @@ PLATFORM = {
     "minSdkVersion": 0x0101020C, "authorities": 0x01010018,
 }
 MAIN = ROOT / "examples" / "device_id_posted" / "classes.dex"  # the class La/Main;
-TWO = ROOT / "crates" / "judging_cases" / "data" / "two_files"  # classes.dex has La/Main;, classes2.dex has La/Sender;
+TWO = ROOT / "tools" / "tests" / "data" / "answers" / "two_files"  # classes.dex has La/Main;, classes2.dex La/Sender;
 RUNNABLE = ROOT / "examples" / "handed_runnable" / "classes.dex"  # the classes La/Later; and La/Main;
 
 

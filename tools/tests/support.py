@@ -21,7 +21,7 @@ ROOT = TOOLS.parent
 EXAMPLES = ROOT / "examples"
 DATA = TOOLS / "tests" / "data"
 SHIPPED = {"unlisted_call": ROOT / "crates" / "cert_cases" / "data" / "unlisted_call.cert",
-           "other_box": ROOT / "crates" / "judging_cases" / "data" / "other_box.cert"}
+           "other_box": DATA / "answers" / "other_box.cert"}
 
 
 def expected() -> dict[str, tuple[int, str]]:

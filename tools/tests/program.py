@@ -1,0 +1,70 @@
+"""The program `vet` as the tests run it: what `./vet` at the top keeps, proved where that is built, and else unproved.
+
+Building it unproved takes two or three minutes. It begins when this module is imported, so that it goes on beside the
+tests which need no program; those that do have names `test_vet_*` and so come last.
+"""
+from __future__ import annotations
+
+import os
+import subprocess
+import unittest
+from concurrent.futures import Future, ThreadPoolExecutor
+from pathlib import Path
+from typing import Callable, Iterable, TypeVar
+
+from tests.support import EXAMPLES, ROOT, expected
+
+PROVED = ROOT / "crates" / "vet" / "out" / "vet"
+UNPROVED = ROOT / "crates" / "vet_undecided" / "out" / "unproved"
+Item = TypeVar("Item")
+Found = TypeVar("Found")
+
+
+def _script(*words: str) -> subprocess.CompletedProcess[str]:
+    """What `./vet` answers; it builds the program where that is not there."""
+    return subprocess.run([str(ROOT / "vet"), *words], capture_output=True, text=True, check=False,
+                          stdin=subprocess.DEVNULL)
+
+
+def _kept() -> Path:
+    """The program that `./vet` keeps, which answers as is due to an example. Raises `SkipTest` without the kit."""
+    asked = _script("check", str(EXAMPLES / "device_id_posted"), "1")
+    if asked.returncode == 127:
+        raise unittest.SkipTest("no program is built here, and the kit is not on the path")
+    if (asked.returncode, asked.stdout) != expected()["device_id_posted"]:
+        raise RuntimeError(f"./vet ended with {asked.returncode}: {asked.stdout}{asked.stderr}")
+    path = UNPROVED if "is not built here" in _script("--version").stdout else PROVED
+    if not path.exists():
+        raise RuntimeError(f"./vet did not keep {path}: {asked.stderr}")
+    return path
+
+
+_BUILT: Future[Path] = ThreadPoolExecutor(1).submit(_kept)
+
+
+def program() -> Path:
+    """The path of the program, once it is built."""
+    return _BUILT.result()
+
+
+def answer(folder: Path, *words: str) -> tuple[int, str]:
+    """The status and the text for these words, where relative paths begin at this folder.
+
+    A check of the unproved program that fails has the status 86, which no answer has.
+    """
+    ran = subprocess.run([str(program()), *words], cwd=folder, capture_output=True, check=False,
+                         stdin=subprocess.DEVNULL, env={**os.environ, "ASAN_OPTIONS": "exitcode=86"})
+    return ran.returncode, ran.stdout.decode()
+
+
+_WORKERS = ThreadPoolExecutor(os.cpu_count() or 1)
+
+
+def begun(work: Callable[..., Found], *words: object) -> Future[Found]:
+    """Has this work done, beside other work that was begun."""
+    return _WORKERS.submit(work, *words)
+
+
+def at_once(work: Callable[[Item], Found], items: Iterable[Item]) -> list[Found]:
+    """What this work gives for each item, several at once, in the order of the items."""
+    return list(_WORKERS.map(work, items))

@@ -1,0 +1,192 @@
+"""What `certify` writes and `recheck` answers: to changed certificates, and where files can't be read or written."""
+from __future__ import annotations
+
+import hashlib
+import shutil
+import tempfile
+import unittest
+from pathlib import Path
+
+from tests.program import answer, at_once
+from tests.support import DATA
+
+ANSWERS = DATA / "answers"
+FORMS = ("manifest.toml", "layouts.toml", "declaration.toml")
+PARTS = (*FORMS, "lists.toml", "classes.dex")
+MAGIC = b"VETCERT2"
+
+
+def u4(*numbers: int) -> bytes:
+    return b"".join(number.to_bytes(4, "little") for number in numbers)
+
+
+def certificate(digest: bytes, rows: list[bytes]) -> bytes:
+    return MAGIC + digest + u4(len(rows)) + b"".join(rows)
+
+
+def refused(reason: str) -> tuple[int, str]:
+    return 9, f"certificate refused: {reason}\n"
+
+
+class FolderTest(unittest.TestCase):
+    """A test with the folder `D` of an app, beside which certificates stand."""
+
+    def setUp(self) -> None:
+        held = tempfile.TemporaryDirectory(prefix="vet-certificates-")
+        self.addCleanup(held.cleanup)
+        self.folder = Path(held.name)
+        (self.folder / "D").mkdir()
+        self.put_app()
+
+    def put_app(self) -> None:
+        """Writes the files of `D`: those of the example `other_box`."""
+        for name in FORMS:
+            shutil.copy(ANSWERS / name, self.folder / "D" / name)
+        shutil.copy(ANSWERS / "example_lists.toml", self.folder / "D" / "lists.toml")
+        shutil.copy(ANSWERS / "example_other_box.dex", self.folder / "D" / "classes.dex")
+
+    def certify(self, path: str = "C") -> tuple[int, str]:
+        return answer(self.folder, "certify", "D", path)
+
+    def rechecked(self, certificates: list[bytes]) -> list[tuple[int, str]]:
+        """What is answered to each of these certificates, whose file is called `C`."""
+        def answer_to(numbered: tuple[int, bytes]) -> tuple[int, str]:
+            number, content = numbered
+            beside = self.folder / str(number)
+            beside.mkdir()
+            (beside / "C").write_bytes(content)
+            return answer(self.folder, "recheck", "D", f"{number}/C")
+
+        return at_once(answer_to, enumerate(certificates))
+
+
+def changed(whole: bytes, change: str) -> bytes:
+    """The certificate after a change of `certificate_cases.txt`.
+
+    `whole` changes nothing; `drop A B` takes the row from offset A to B out; `swap A B C` exchanges the rows from A to
+    B and from B to C; `rows N HEX` has N rows of these bytes in place of its own; `other` is that of another app; and
+    `nothing` has no bytes.
+    """
+    how, *words = change.split(" ")
+    if how == "drop":
+        start, end = map(int, words)
+        return whole[:40] + u4(int.from_bytes(whole[40:44], "little") - 1) + whole[44:start] + whole[end:]
+    if how == "swap":
+        start, middle, end = map(int, words)
+        return whole[:start] + whole[middle:end] + whole[start:middle] + whole[end:]
+    if how == "rows":
+        return whole[:40] + u4(int(words[0])) + bytes.fromhex(words[1])
+    return {"whole": whole, "other": (ANSWERS / "empty.cert").read_bytes(), "nothing": b""}[change]
+
+
+class ChangedTest(FolderTest):
+
+    def test_certify_writes_what_another_program_wrote(self) -> None:
+        self.assertEqual((0, "clear\n"), self.certify())
+        self.assertEqual((ANSWERS / "other_box.cert").read_bytes(), (self.folder / "C").read_bytes())
+
+    def test_each_changed_certificate_has_its_answer(self) -> None:
+        whole = (ANSWERS / "other_box.cert").read_bytes()
+        cases = [line.split(": ", 1) for line in (ANSWERS / "certificate_cases.txt").read_text().splitlines()]
+        self.assertEqual(355, len(cases))
+        found = self.rechecked([changed(whole, change) for change, _ in cases])
+        for (change, due), (status, text) in zip(cases, found):
+            with self.subTest(change):
+                self.assertEqual(f"{due}\n", f"{status} {text}")
+
+
+class FaultTest(FolderTest):
+
+    def test_a_file_that_cannot_be_read_is_a_read_fault_and_no_certificate_is_written(self) -> None:
+        shutil.copy(ANSWERS / "other_box.cert", self.folder / "given")
+        for name in PARTS:
+            (self.folder / "D" / name).unlink()
+            (self.folder / "D" / name).mkdir()
+            with self.subTest(name):
+                self.assertEqual((5, f"read fault D/{name}\n"), self.certify())
+                self.assertFalse((self.folder / "C").exists())
+                self.assertEqual((5, f"read fault D/{name}\n"), answer(self.folder, "recheck", "D", "given"))
+            (self.folder / "D" / name).rmdir()
+            self.put_app()
+
+    def test_where_the_certificate_cannot_be_written_nothing_is_printed(self) -> None:
+        (self.folder / "C").mkdir()
+        (self.folder / "full").symlink_to("/dev/full")
+        for path in ("C", "none/C", "full"):
+            with self.subTest(path):
+                self.assertEqual((6, ""), self.certify(path))
+        self.assertEqual([], list((self.folder / "C").iterdir()))
+        self.assertFalse((self.folder / "none").exists())
+
+    def test_a_certificate_that_cannot_be_read_is_a_read_fault(self) -> None:
+        (self.folder / "C").mkdir()
+        self.assertEqual((5, "read fault C\n"), answer(self.folder, "recheck", "D", "C"))
+
+    def test_recheck_without_a_certificate(self) -> None:
+        self.assertEqual((3, "refused C: absent\n"), answer(self.folder, "recheck", "D", "C"))
+
+
+def live(component: int, state: int) -> bytes:
+    return bytes([14]) + u4(component) + bytes([state])
+
+
+# The table of the small app: an activity whose onCreate, the event 1, is method 0, has two registers and does nothing.
+# It comes to each state; onCreate begins, with the activity in register 0 and a fresh object as its argument 1.
+ENTRY = bytes([0]) + u4(0, 1) + u4(0) + u4(0)
+REACHED = bytes([1]) + ENTRY
+POINTS = [bytes([2]) + ENTRY + u4(0) + bytes([2]) + u4(0),
+          bytes([2]) + ENTRY + u4(1) + bytes([1, 0]) + u4(0, 1) + u4(1)]
+LIVE = [live(0, state) for state in range(8)]
+ROWS = [REACHED, *POINTS, *LIVE]
+NO_START = refused(f"no start {LIVE[0].hex()}")
+STRANGERS = [live(1, 0), live(2, 0)]
+
+
+class TableTest(FolderTest):
+    """What the checker says of tables of a small app, whole and spoilt, which certificates of the test's own bring."""
+
+    def put_app(self) -> None:
+        for name in ("manifest.toml", "layouts.toml", "lists.toml", "classes.dex"):
+            shutil.copy(ANSWERS / "table" / name, self.folder / "D" / name)
+        (self.folder / "D" / "declaration.toml").write_bytes(b"")
+
+    def digest(self) -> bytes:
+        contents = [(self.folder / "D" / name).read_bytes() for name in PARTS]
+        return hashlib.sha256(b"".join(u4(len(content)) + content for content in contents)).digest()
+
+    def said_of(self, tables: list[list[bytes]]) -> list[tuple[int, str]]:
+        digest = self.digest()
+        return self.rechecked([certificate(digest, rows) for rows in tables])
+
+    def test_eleven_rows_follow_and_ten_are_too_few(self) -> None:
+        lists = self.folder / "D" / "lists.toml"
+        self.assertIn("rows = 11\n", lists.read_text())
+        self.assertEqual((0, "clear\n"), self.certify())
+        self.assertEqual(certificate(self.digest(), ROWS), (self.folder / "C").read_bytes())
+        lists.write_text(lists.read_text().replace("rows = 11\n", "rows = 10\n"))
+        self.assertEqual((2, "undecided 1\ntoo large: 10\n"), answer(self.folder, "check", "D", "1"))
+
+    def test_a_whole_table_is_good_and_a_spoilt_one_has_its_first_defect(self) -> None:
+        tables = {
+            "whole": (ROWS, (0, "clear\n")),
+            "empty": ([], NO_START),
+            "without the start": ([REACHED, *POINTS, *LIVE[1:]], NO_START),
+            "without the reached row": ([*POINTS, *LIVE], refused(f"not closed {REACHED.hex()}")),
+            "with strangers": ([*ROWS, *STRANGERS], refused(f"stranger {STRANGERS[0].hex()}")),
+            "strangers alone": (STRANGERS, refused(f"stranger {STRANGERS[0].hex()}")),
+            "the start alone": (LIVE[:1], refused(f"not closed {LIVE[1].hex()}")),
+        }
+        found = self.said_of([rows for rows, _ in tables.values()])
+        for (what, (_, due)), said in zip(tables.items(), found):
+            with self.subTest(what):
+                self.assertEqual(due, said)
+
+    def test_each_row_but_the_start_is_missed_as_what_follows(self) -> None:
+        found = self.said_of([[row for row in ROWS if row != left_out] for left_out in ROWS])
+        for row, said in zip(ROWS, found):
+            with self.subTest(row=row.hex()):
+                self.assertEqual(NO_START if row == LIVE[0] else refused(f"not closed {row.hex()}"), said)
+
+
+if __name__ == "__main__":
+    unittest.main()
