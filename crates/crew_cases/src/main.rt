@@ -1,9 +1,10 @@
 //! An app is judged, certified and decided by several workers: that the work is spread over threads, that each worker
 //! posts what it finds, and that what comes of it is the same for each number of workers, also where a limit is passed,
 //! a worker is held or there are more workers than rows. And `serve` over offices, keepers and doors in memory: of a
-//! file of runs, how many end as is due.
+//! file of runs, how many end as is due. At last, what only code can ask of the adapters to the system.
 #![tactic(auto)]
 
+mod adapters;
 mod desk;
 mod ending;
 mod folder;
@@ -13,6 +14,7 @@ mod odd_crews;
 mod run;
 mod runs;
 
+use crate::adapters::{failures, places};
 use crate::desk::decided;
 use crate::folder::{answer_for, parts_here, sample_here};
 use crate::made::{alike, made};
@@ -67,5 +69,7 @@ fn main(rt: HostRuntime) -> io::Result<()> {
     crowded(&rt)?;
     made(&rt)?;
     alike(&rt, 200)?;
-    runs(&rt)
+    runs(&rt)?;
+    places(&rt)?;
+    failures(rt)
 }

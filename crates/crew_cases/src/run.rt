@@ -31,7 +31,7 @@ pub fn new_run(alloc: Global) -> Run {
 }
 
 /// The words of a text, of which `_` is an empty one.
-fn words_of(alloc: Global, text: &str) -> Result<Vec<String>, AllocError> {
+pub fn words_of(alloc: Global, text: &str) -> Result<Vec<String>, AllocError> {
     let mut words = Vec::new(alloc);
     for word in text.split_whitespace() {
         words.push(String::from_str(alloc, if word == "_" { "" } else { word })?)?;

@@ -1,5 +1,5 @@
-//! `made_list` alone reads the forms of generated apps and lists one of the apps, for comparison with what another
-//! disassembler lists. `made_list SEED SIZE FILE` writes the DEX file of the app that is drawn from a seed.
+//! `made_list` alone prints what sample forms say, reads the forms of generated apps and lists one of the apps, for
+//! comparison with what another disassembler lists. `made_list SEED SIZE FILE` writes the DEX file of the app that is drawn from a seed.
 #![tactic(auto)]
 
 ghost use Rattle.std.specs.Prelude.{◌<◌, ◌≤◌, IfSome};
@@ -7,6 +7,7 @@ ghost use Rattle.std.specs.Prelude.{◌<◌, ◌≤◌, IfSome};
 mod forms;
 mod listing;
 mod names;
+mod sample;
 
 use crate::listing::write_listing;
 use made_apps::{made_dex, made_listing};
@@ -63,6 +64,9 @@ fn main(rt: HostRuntime) -> io::Result<()> {
             None => println!(rt; "a seed below {SEEDS} and a size of 1 to {MOST_METHODS}"),
         };
     }
+    sample::print_layouts(&rt, "layouts.toml")?;
+    sample::print_office(&rt, "office.toml")?;
+    sample::print_lists(&rt, "lists.toml")?;
     let mut out = BufWriter::new(alloc, io::writer(&rt))?;
     forms::read_all(&rt, &mut out)?;
     list_app(&mut out, alloc)?;

@@ -1,15 +1,14 @@
 //! What samples say.
-use crate::answer::text_of;
+use crate::names::text_of;
 use app_machine::{Gives, Layouts, LibClass, Lists, Summary};
 use office_forms::{read_layouts, read_lists, read_office};
 use std::alloc::{AllocError, Global};
-use std::rt::Files;
 use std::{fs, io};
 use store_office::Office;
 use vet_base::Name;
 
 /// Prints each row of the lists in a file.
-pub fn print_lists<R: Files + Print + AllocGlobal>(rt: &R, name: &str) -> io::Result<()> {
+pub fn print_lists(rt: &HostRuntime, name: &str) -> io::Result<()> {
     let text = fs::read_to_string(rt, name)?;
     match read_lists(rt.alloc(), text.as_bytes()) {
         Ok(lists) => print_rows(rt, &lists),
@@ -17,7 +16,7 @@ pub fn print_lists<R: Files + Print + AllocGlobal>(rt: &R, name: &str) -> io::Re
     }
 }
 
-fn print_rows<R: Print + AllocGlobal>(rt: &R, lists: &Lists) -> io::Result<()> {
+fn print_rows(rt: &HostRuntime, lists: &Lists) -> io::Result<()> {
     println!(rt; "rows {}", lists.rows)?;
     print_names(rt, "categories", lists.categories.as_slice())?;
     for class in lists.classes.as_slice() {
@@ -32,24 +31,24 @@ fn print_rows<R: Print + AllocGlobal>(rt: &R, lists: &Lists) -> io::Result<()> {
     println!(rt; "callbacks {}", lists.callbacks.len())
 }
 
-fn print_class<R: Print + AllocGlobal>(rt: &R, class: &LibClass) -> io::Result<()> {
+fn print_class(rt: &HostRuntime, class: &LibClass) -> io::Result<()> {
     let above = texts(rt.alloc(), class.above.as_slice())?;
     println!(rt; "class{above}, default {:?}", class.fallback)
 }
 
-fn print_method<R: Print + AllocGlobal>(rt: &R, method: &Summary) -> io::Result<()> {
+fn print_method(rt: &HostRuntime, method: &Summary) -> io::Result<()> {
     let row = row_of(rt.alloc(), method)?;
     println!(rt; "{row}")
 }
 
 /// Prints a word and the names.
-fn print_names<R: Print + AllocGlobal>(rt: &R, word: &str, names: &[Name]) -> io::Result<()> {
+fn print_names(rt: &HostRuntime, word: &str, names: &[Name]) -> io::Result<()> {
     let texts = texts(rt.alloc(), names)?;
     println!(rt; "{word}{texts}")
 }
 
 /// Prints the clicks and the classes of the layouts in a file.
-pub fn print_layouts<R: Files + Print + AllocGlobal>(rt: &R, name: &str) -> io::Result<()> {
+pub fn print_layouts(rt: &HostRuntime, name: &str) -> io::Result<()> {
     let text = fs::read_to_string(rt, name)?;
     match read_layouts(rt.alloc(), text.as_bytes()) {
         Ok(layouts) => print_elements(rt, &layouts),
@@ -57,13 +56,13 @@ pub fn print_layouts<R: Files + Print + AllocGlobal>(rt: &R, name: &str) -> io::
     }
 }
 
-fn print_elements<R: Print + AllocGlobal>(rt: &R, layouts: &Layouts) -> io::Result<()> {
+fn print_elements(rt: &HostRuntime, layouts: &Layouts) -> io::Result<()> {
     print_names(rt, "clicks", layouts.clicks.as_slice())?;
     print_names(rt, "classes", layouts.classes.as_slice())
 }
 
 /// Prints what an office file says, with each party's name, role and token.
-pub fn print_office<R: Files + Print + AllocGlobal>(rt: &R, name: &str) -> io::Result<()> {
+pub fn print_office(rt: &HostRuntime, name: &str) -> io::Result<()> {
     let text = fs::read_to_string(rt, name)?;
     match read_office(rt.alloc(), text.as_bytes()) {
         Ok(office) => print_parties(rt, &office),
@@ -71,7 +70,7 @@ pub fn print_office<R: Files + Print + AllocGlobal>(rt: &R, name: &str) -> io::R
     }
 }
 
-fn print_parties<R: Print>(rt: &R, office: &Office) -> io::Result<()> {
+fn print_parties(rt: &HostRuntime, office: &Office) -> io::Result<()> {
     println!(rt;
         "port {}, workers {}, appeal days {}",
         office.port, office.workers, office.appeal_days
