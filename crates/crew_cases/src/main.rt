@@ -1,75 +1,48 @@
-//! An app is judged, certified and decided by several workers: that the work is spread over threads, that each worker
-//! posts what it finds, and that what comes of it is the same for each number of workers, also where a limit is passed,
-//! a worker is held or there are more workers than rows. And `serve` over offices, keepers and doors in memory: of a
-//! file of runs, how many end as is due. At last, what only code can ask of the adapters to the system.
+//! What of several workers can be seen from inside alone: of a file of runs of `vet` and `serve`, over files, a keeper
+//! and a door in memory and with a watch on the workers, how many end as is due; and that generated apps have one
+//! certificate for each number of workers; where a desk keeps its cases; and what the adapters of the system count.
 #![tactic(auto)]
 
 mod adapters;
-mod desk;
-mod ending;
-mod folder;
-mod made;
-mod meeting;
-mod odd_crews;
+mod alike;
 mod run;
-mod runs;
+mod watch;
 
 use crate::adapters::{failures, places};
-use crate::desk::decided;
-use crate::folder::{answer_for, parts_here, sample_here};
-use crate::made::{alike, made};
-use crate::meeting::Meeting;
-use crate::odd_crews::{crowded, held, limited};
-use crate::runs::runs;
-use std::io;
-use std::marker::Sync;
-use std::rt::Files;
-use std::sync::Wait;
-use std::thread::Threads;
-use verdict::judge;
-use worker_pool::Crew;
+use crate::alike::are_alike;
+use crate::run::{end_of, run_of};
+use serving_lines::bytes_of;
+use std::{fs, io};
 
-/// So many workers with that lookout.
-fn crew_of<'a, R>(rt: &'a R, lookout: &'a Meeting, workers: u8) -> Crew<'a, R, Meeting> {
-    Crew {
-        rt,
-        lookout,
-        workers,
-        seed: 1,
+/// So many generated apps are certified.
+const APPS: u32 = 200;
+
+/// Whether a run ends as is due by its line that begins with `< `; one that does not is printed with its end.
+fn is_due(rt: &HostRuntime, lines: &str, end: &str) -> io::Result<bool> {
+    let (_, due) = lines.split_once("\n< ").unwrap_or((lines, ""));
+    if bytes_of(rt.alloc(), due.trim_end())?.as_slice() == end.as_bytes() {
+        return Ok(true);
     }
-}
-
-/// Judges the app that lies here by two workers: by itself, for `check D 2`, and for a decision of the desk of an
-/// office with two. The crews of these have one, so that the words and the office say how many work. Prints whether
-/// they met.
-fn meetings<R: Files + Print + AllocGlobal + Threads + Wait + Sync>(rt: &R) -> io::Result<()> {
-    let alloc = rt.alloc();
-    let parts = parts_here(rt)?;
-    let lookout = Meeting::new();
-    let judged = judge(alloc, &parts, &crew_of(rt, &lookout, 2)).is_ok();
-    println!(rt; "judge: {judged}, {}", lookout.told())?;
-    let lookout = Meeting::new();
-    let mut files = sample_here(rt)?;
-    let (status, _) = answer_for(
-        alloc,
-        &["check", "D", "2"],
-        &mut files,
-        &crew_of(rt, &lookout, 1),
-    )?;
-    println!(rt; "check D 2: {status}, {}", lookout.told())?;
-    let lookout = Meeting::new();
-    let replies = decided(rt, &crew_of(rt, &lookout, 1))?;
-    println!(rt; "serve D 3: {replies}, {}", lookout.told())
+    println!(rt; "{lines}ends so:\n{end}")?;
+    Ok(false)
 }
 
 fn main(rt: HostRuntime) -> io::Result<()> {
-    meetings(&rt)?;
-    limited(&rt)?;
-    held(&rt)?;
-    crowded(&rt)?;
-    made(&rt)?;
-    alike(&rt, 200)?;
-    runs(&rt)?;
+    let text = fs::read_to_string(&rt, "runs.txt")?;
+    let mut due = 0u64;
+    for lines in text.as_str().split("## ").skip(1) {
+        let run = run_of(&rt, lines)?;
+        let end = end_of(rt.alloc(), &rt, run)?;
+        due = due.saturating_add(u64::from(is_due(&rt, lines, end.as_str())?));
+    }
+    println!(rt; "runs.txt: {due} runs that end as is due")?;
+    let mut same = 0u64;
+    for seed in 0..APPS {
+        same = same.saturating_add(u64::from(are_alike(rt.alloc(), &rt, seed)?));
+    }
+    println!(rt;
+        "{same} of {APPS} generated apps have one certificate for 1, 2, 3 and 16 workers"
+    )?;
     places(&rt)?;
     failures(rt)
 }
