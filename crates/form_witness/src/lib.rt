@@ -1,9 +1,10 @@
 //! Small facts that show that the definitions of what is read and listed mean what they should: tables
-//! of forms, rows of the lists, classes and code of files, generated apps. Each is a theorem over the
+//! of forms, rows of the lists, classes and code of files and how they are linked, generated apps. Each is a theorem over the
 //! definitions alone, so that a slip in a definition shows.
 #![tactic(auto)]
 
 ghost use Rattle.dex_writer.specs.declared.tables.Tables.{Tables};
+ghost use Rattle.form_witness.specs.Called.{LinksTell};
 ghost use Rattle.form_witness.specs.Codes.{CodesTell};
 ghost use Rattle.form_witness.specs.Fields.{FieldsTell, RowsTell};
 ghost use Rattle.form_witness.specs.Listed.{ListingsTell};
@@ -19,9 +20,10 @@ pub fn the_rows_tell()
     ensures { RowsTell }
 {}
 
-/// A class that is defined twice is refused, and no more is spent than is left.
+/// A class that is defined twice is refused, and no more is spent than is left; classes in a circle have
+/// a least one, two files and many classes are an app, and calls have the registers that they take.
 pub fn the_listings_tell()
-    ensures { ListingsTell }
+    ensures { ListingsTell × LinksTell }
 {}
 
 /// Two generated apps, whole; how each file begins; and what the forms beside it say.

@@ -12,6 +12,7 @@ use Rattle.lookup_witness.specs.Shapes.{shapes}
 use Rattle.lookup_witness.specs.AppFacts.{AppIsLookedUp, callback_lists, event_lists}
 use Rattle.lookup_witness.specs.IndexFacts.{ListsAreLookedUp, StaticsAreLookedUp, row_lists}
 use Rattle.lookup_witness.specs.PartFacts.{PartsAreTold}
+use Rattle.lookup_witness.proofs.Linking.{links}
 use Rattle.lookup_witness.proofs.Sound.{sound_events, sound_lists, sound_shapes}
 
 pub app_is_looked_up : AppIsLookedUp
@@ -30,6 +31,7 @@ app_is_looked_up = (
     from_above = refl;
   },
   record { sound = sound_events; by_called_interface = refl; array_itself = refl; last_called = refl },
+  links,
 )
 
 pub lists_are_looked_up : ListsAreLookedUp

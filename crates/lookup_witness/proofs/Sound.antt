@@ -1,5 +1,5 @@
 -- The small app and the small lists are sound.
-use Rattle.std.proofs.Common.{◌≡◌, ◌<◌, ◌≤◌, ℕ, Bool, true, false, [], ◌∷◌, None, if◌then◌else◌, inl, inr, refl, lit<, lit≤, arith}
+use Rattle.std.proofs.Common.{◌≡◌, ◌<◌, ◌≤◌, ℕ, Bool, true, false, [], ◌∷◌, None, codes, if◌then◌else◌, inl, inr, refl, lit<, lit≤, arith}
 use Rattle.std.specs.List.{All, AllByRecursion}
 use Rattle.vet_base.specs.Members.{In}
 use Rattle.vet_base.proofs.Members.{all_from_in, each_in, in_slice_get}
@@ -15,7 +15,7 @@ use Rattle.app_machine.specs.Names.{Name, descriptor_of, is_wide, same_name}
 use Rattle.app_machine.specs.Sound.{IsAbove, ShortLists, SoundApp, SoundMethod, SoundStep, beyond, directly, taken}
 use Rattle.app_machine.specs.SoundLists.{NamedPosition, SoundCallback, SoundClass, SoundLists, SoundSummary, TwoPositions}
 use Rattle.app_machine.specs.Summaries.{position_count}
-use Rattle.lookup_witness.specs.Shapes.{activity_class, body, child_class, does, going, initialiser, object, on_given, only_ends, outer_interface, screen_class, service_class, shapes, tap, worker_class}
+use Rattle.lookup_witness.specs.Shapes.{activity_class, base_class, body, child_class, does, going, initialiser, int, object, on_given, only_ends, outer_interface, screen_class, service_class, shapes, tap, worker_class}
 use Rattle.lookup_witness.specs.AppFacts.{event_lists}
 use Rattle.lookup_witness.specs.IndexFacts.{clone, plain, row_lists, row_of_method, sealed}
 
@@ -177,7 +177,7 @@ sound_shapes = record {
   short = short;
   classes = (refl, (refl, (refl, (refl, (refl, tt)))));
   methods = (refl, (refl, (refl, (refl, tt))));
-  fields = [];
+  fields = (base_class, codes "f", int) ∷ [];
   keys = refl;
   fields_order = tt;
   statics = tt;

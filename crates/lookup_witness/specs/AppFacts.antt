@@ -11,6 +11,7 @@ use Rattle.app_machine.specs.Sound.{SoundApp}
 use Rattle.app_machine.specs.SoundLists.{SoundLists}
 use Rattle.app_model.specs.Above.{is_below}
 use Rattle.app_model.specs.EventBodies.{click, component_callback, handed_callback}
+use Rattle.lookup_witness.specs.LinkFacts.{Links}
 use Rattle.lookup_witness.specs.Shapes.{activity_class, child_class, outer_interface, screen_class, void, go, stop, on_given, tap, shapes}
 
 -- lists with one callback, on activities
@@ -75,4 +76,4 @@ pub record LooksUpEvents : Type 0 where
   pub last_called : component_callback shapes event_lists 0 1 ≡ Some ([], 2)
 
 abbrev pub AppIsLookedUp : Type 0
-AppIsLookedUp = LooksUp × LooksUpEvents
+AppIsLookedUp = LooksUp × LooksUpEvents × Links

@@ -1,4 +1,5 @@
 pub mod AppFacts
 pub mod IndexFacts
+pub mod LinkFacts
 pub mod PartFacts
 pub mod Shapes

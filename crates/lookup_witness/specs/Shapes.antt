@@ -1,5 +1,5 @@
--- A small app in which look-ups can go wrong: a class with a method without code, interfaces above interfaces, an activity and a
--- service with the same method, and a static that is read and written.
+-- A small app in which look-ups can go wrong: a class with a method without code and with a field, interfaces above interfaces, an
+-- activity and a service with the same method, and a static that is read and written.
 use Rattle.std.specs.Prelude.{ℕ, Bool, true, false, List, [], ◌∷◌, Some, None, codes}
 use Rattle.app_machine.specs.declared.call.Proto.{Proto}
 use Rattle.app_machine.specs.declared.call.MethodRef.{MethodRef}
@@ -8,7 +8,7 @@ use Rattle.app_machine.specs.declared.method.Step.{Step}
 use Rattle.app_machine.specs.declared.method.Act.{Act}
 use Rattle.app_machine.specs.declared.method.Act.TheVariants.{GetStatic, PutStatic, Return}
 use Rattle.app_machine.specs.declared.method.Method.{Method}
-use Rattle.app_machine.specs.declared.app.Key.TheVariants.{Elem}
+use Rattle.app_machine.specs.declared.app.Key.TheVariants.{Elem, Field}
 use Rattle.app_machine.specs.declared.app.Class.{Class}
 use Rattle.app_machine.specs.declared.app.App.{App}
 use Rattle.app_machine.specs.Names.{Name}
@@ -99,7 +99,7 @@ shapes = record {
       ∷ body (tap screen_class) false 2 only_ends
       ∷ body (tap worker_class) false 2 only_ends
       ∷ [];
-  keys = Elem ∷ [];
+  keys = Elem ∷ Field base_class (codes "f") int ∷ [];
   statics = (base_class, codes "s", int) ∷ [];
   components = record { kind = Activity; class = screen_class } ∷ record { kind = Service; class = worker_class } ∷ [];
   clicks = codes "tap" ∷ [];
