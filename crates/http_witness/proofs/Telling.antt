@@ -66,8 +66,10 @@ pub links_tell : LinksTell
 links_tell = record {
   kept = refl;
   begun = refl;
+  dialled = refl;
   missed = refl;
   failure = refl;
+  taken_by_none = refl;
   succeeds = refl;
   piece = refl;
   read = refl;

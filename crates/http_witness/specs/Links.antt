@@ -1,4 +1,4 @@
--- What links, doors and clocks tell of some calls. Behind each fact stands what a slip would tell.
+-- What links, doors, callers and clocks tell of some calls. Behind each fact stands what a slip would tell.
 use Rattle.std.specs.Prelude.{◌≡◌, ℕ, true, false, List, [], ◌∷◌, Some, IfSome}
 use Rattle.desk_links.specs.Links.{Talk, Told, without_first, with_written, closed, opened, missed_once}
 use Rattle.desk_links.specs.Memory.{Numbered, Taped, given_count, fails_next, counted, written_in}
@@ -22,6 +22,10 @@ behind ended = record { coming = []; written = []; begun = false; ended = ended;
 abbrev pub numbered : List ℕ → ℕ → ℕ → Numbered
 numbered failing calls faults = record { failing = failing; calls = calls; faults = faults }
 
+-- a caller in its one conversation, with one reply to come
+abbrev pub calling : Told
+calling = record { coming = []; written = 72 ∷ []; begun = true; ended = []; left = (71 ∷ []) ∷ []; missed = 0 }
+
 abbrev pub tape : Taped
 tape = record { coming = 71 ∷ 72 ∷ []; written = []; reads = 0; room = 9 }
 
@@ -30,10 +34,14 @@ pub record LinksTell : Type 0 where
   pub kept : closed (present [] (72 ∷ [])) ≡ behind (talk (72 ∷ []) ∷ [])
   -- one that was opened has begun (else it would not have)
   pub begun : opened (71 ∷ []) [] (before 0) ≡ present (71 ∷ []) []
+  -- a dial ends the conversation before it, which is kept (else it would be lost)
+  pub dialled : opened (71 ∷ []) [] calling ≡ record { coming = 71 ∷ []; written = []; begun = true; ended = talk (72 ∷ []) ∷ []; left = []; missed = 0 }
   -- an opening that failed is told (else none was missed)
   pub missed : missed_once (before 0) ≡ before 1
   -- a call that failed is counted as one that failed (else 0 would have)
   pub failure : counted true (numbered (1 ∷ []) 0 0) ≡ numbered (1 ∷ []) 1 1
+  -- a write that nothing takes is one, though its number is not listed (else 0 would have)
+  pub taken_by_none : counted true (numbered [] 0 0) ≡ numbered [] 1 1
   -- a call whose number is not listed does not fail (else every read would)
   pub succeeds : fails_next (numbered [] 0 0) ≡ false
   -- a piece of 0 bytes counts as one of 1 byte (else none would be read, as at the end)

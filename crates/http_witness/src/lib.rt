@@ -9,7 +9,7 @@ ghost use Rattle.http_witness.specs.Replies.{RepliesTell};
 ghost use Rattle.http_witness.specs.Requests.{RequestsTell};
 ghost use Rattle.http_witness.specs.Turns.{TurnsTell};
 
-/// What links, doors and clocks tell of calls.
+/// What links, doors, callers and clocks tell of calls.
 pub fn the_links_tell()
     ensures { LinksTell }
 {}
