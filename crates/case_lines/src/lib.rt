@@ -8,4 +8,4 @@ mod replying;
 mod turn;
 
 pub use putting::{due_in, reply_to};
-pub use reading::numbers_of;
+pub use reading::{change_of, numbers_of};

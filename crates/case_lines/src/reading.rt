@@ -1,14 +1,17 @@
 use crate::turn::{ToldJudge, Turn};
-use case_rules::{Command, Content, OutcomeWord, RulingWord};
+use case_rules::{
+    Appeal, Case, Change, Command, Content, Decision, OutcomeWord, Ruling, RulingWord,
+};
 use desk_serving::Desk;
+use serving_lines::bytes_of as bytes_written;
 use std::alloc::{AllocError, Global};
 use store_office::{Office, Party, Role};
 use vet_base::{Memory, Name, Shared};
 
-/// The bytes of a word; `#N` stands for N letters.
+/// The bytes of a word: `#N` stands for N letters, and in any other word `\xNN` for the byte of this number.
 fn bytes_of(alloc: Global, word: &str) -> Result<Vec<u8>, Memory> {
     match word.strip_prefix("#") {
-        None => Ok(word.as_bytes().to_vec(alloc)?),
+        None => Ok(bytes_written(alloc, word)?),
         Some(count) => {
             let count = count.parse::<u16>().unwrap_or(0);
             Ok(vec![in alloc; b'a'; usize::from(count)]?)
@@ -24,19 +27,21 @@ fn text_of(alloc: Global, word: &str) -> Result<Shared<u8>, Memory> {
     Shared::from_vec(alloc, bytes_of(alloc, word)?)
 }
 
-/// Two files, of which the second holds the word.
-fn files_of(alloc: Global, word: &str) -> Result<Shared<Shared<u8>>, Memory> {
+/// A file, and behind it one with each of the words.
+fn files_of(alloc: Global, words: &[&str]) -> Result<Shared<Shared<u8>>, Memory> {
     let mut files = Vec::new(alloc);
     files.push(text_of(alloc, "dex")?)?;
-    files.push(text_of(alloc, word)?)?;
+    for word in words {
+        files.push(text_of(alloc, word)?)?;
+    }
     Shared::from_vec(alloc, files)
 }
 
-/// Files of which one holds the word.
-fn content_of(alloc: Global, word: &str) -> Result<Content, Memory> {
+/// Files of which each word is in one.
+fn content_of(alloc: Global, words: &[&str]) -> Result<Content, Memory> {
     let manifest = text_of(alloc, "manifest")?;
     let declaration = text_of(alloc, "declaration")?;
-    let dex = files_of(alloc, word)?;
+    let dex = files_of(alloc, words)?;
     Ok(Content {
         manifest,
         layouts: Shared::new(),
@@ -53,12 +58,16 @@ fn role_of(word: &str) -> Role {
     }
 }
 
-fn outcome_of(word: &str) -> OutcomeWord {
-    match word {
-        "clear" => OutcomeWord::Clear,
-        "undecided" => OutcomeWord::Undecided,
-        "refused" => OutcomeWord::Refused,
-        _ => OutcomeWord::Flagged,
+/// The outcome with whose word a report begins.
+fn outcome_of(report: &str) -> OutcomeWord {
+    if report.starts_with("clear") {
+        OutcomeWord::Clear
+    } else if report.starts_with("undecided") {
+        OutcomeWord::Undecided
+    } else if report.starts_with("refused") {
+        OutcomeWord::Refused
+    } else {
+        OutcomeWord::Flagged
     }
 }
 
@@ -96,7 +105,7 @@ fn both_names(alloc: Global, words: &[&str]) -> Result<(Name, Name), Memory> {
 
 fn submit_of(alloc: Global, words: &[&str]) -> Result<Command, Memory> {
     let reference = first_name(alloc, words)?;
-    let content = content_of(alloc, word(words, 5))?;
+    let content = content_of(alloc, words.get(5..).unwrap_or(&[]))?;
     Ok(Command::Submit(reference, content))
 }
 
@@ -140,7 +149,7 @@ fn party_of(alloc: Global, word: &str) -> Result<Party, Memory> {
 }
 
 /// A desk that takes appeals for 30 days, without parties: who asks stands in the turn.
-fn desk_of(edition: [u8; 32], outcome: OutcomeWord) -> Desk<ToldJudge> {
+fn desk_of(edition: [u8; 32], outcome: OutcomeWord, report: Shared<u8>) -> Desk<ToldJudge> {
     Desk {
         office: Office {
             port: 8080,
@@ -148,29 +157,85 @@ fn desk_of(edition: [u8; 32], outcome: OutcomeWord) -> Desk<ToldJudge> {
             appeal_days: 30,
             parties: Shared::new(),
         },
-        judge: ToldJudge { edition, outcome },
+        judge: ToldJudge {
+            edition,
+            outcome,
+            report,
+        },
     }
 }
 
 fn turn_in(alloc: Global, words: &[&str]) -> Result<Turn, Memory> {
+    let last = words.last().copied().unwrap_or("");
+    let report = text_of(alloc, last)?;
     let party = party_of(alloc, word(words, 2))?;
     let command = command_of(alloc, words)?;
     Ok(Turn {
         party,
         day: word(words, 0).parse::<u32>().unwrap_or(0),
-        desk: desk_of(
-            edition_of(word(words, 1)),
-            outcome_of(words.last().copied().unwrap_or("")),
-        ),
+        desk: desk_of(edition_of(word(words, 1)), outcome_of(last), report),
         command,
     })
 }
 
 /// The turn that a line says: the day, the number of the edition, the party, the command and its words. The last word
-/// of a decision or review is the outcome.
+/// of a decision or review is the report, which begins with the word of the outcome.
 pub fn turn_of(alloc: Global, line: &str) -> Result<Turn, Memory> {
     let words: Vec<&str> = line.split_whitespace().collect(alloc)?;
     turn_in(alloc, words.as_slice())
+}
+
+/// The decision of a reviewer by what judging gives.
+fn decision_of(judge: ToldJudge, reviewer: Name, day: u32) -> Decision {
+    let lists = judge.edition;
+    Decision {
+        outcome: judge.outcome,
+        report: judge.report,
+        lists,
+        reviewer,
+        day,
+    }
+}
+
+/// The change that a turn makes where it fits; none of a command that names no case.
+fn change_in(turn: Turn) -> Option<Change> {
+    let Turn {
+        party,
+        day,
+        desk,
+        command,
+    } = turn;
+    let name = party.name;
+    let judge = desk.judge;
+    match command {
+        Command::Submit(reference, content) => Some(Change::Add(Case {
+            party: name,
+            reference,
+            content,
+            entries: Shared::new(),
+        })),
+        Command::Appeal(reference, text) => {
+            Some(Change::Appeal(name, reference, Appeal { day, text }))
+        }
+        Command::Review(developer, reference) => {
+            let decision = decision_of(judge, name, day);
+            Some(Change::Decide(developer, reference, decision))
+        }
+        Command::Rule(developer, reference, word) => {
+            let ruling = Ruling {
+                reviewer: name,
+                day,
+                word,
+            };
+            Some(Change::Rule(developer, reference, ruling))
+        }
+        _ => None,
+    }
+}
+
+/// The change that the command of a line makes where it fits; none of a command that names no case.
+pub fn change_of(alloc: Global, line: &str) -> Result<Option<Change>, Memory> {
+    Ok(change_in(turn_of(alloc, line)?))
 }
 
 /// The numbers in a text.

@@ -9,7 +9,7 @@ fn text(name: &Name) -> &str {
 }
 
 /// The word of an outcome.
-pub fn outcome(word: OutcomeWord) -> &'static str {
+fn outcome(word: OutcomeWord) -> &'static str {
     match word {
         OutcomeWord::Clear => "clear",
         OutcomeWord::Flagged => "flagged",

@@ -1,15 +1,15 @@
-use crate::replying::outcome;
 use case_rules::{Command, Content, OutcomeWord};
 use desk_serving::{Desk, Judge, Judged};
 use std::alloc::Global;
 use store_office::Party;
 use vet_base::{Memory, Shared};
 
-/// A judge that finds what it was told, of every app; the report is the word of the outcome.
+/// A judge that finds what it was told, of every app.
 #[derive(Drop)]
 pub struct ToldJudge {
     pub edition: [u8; 32],
     pub outcome: OutcomeWord,
+    pub report: Shared<u8>,
 }
 
 impl Judge for ToldJudge {
@@ -23,11 +23,10 @@ impl Judge for ToldJudge {
         &self.edition
     }
 
-    fn judge(&self, alloc: Global, _content: &Content) -> Result<Judged, Memory> {
-        let report = outcome(self.outcome).as_bytes().to_vec(alloc)?;
+    fn judge(&self, _alloc: Global, _content: &Content) -> Result<Judged, Memory> {
         Ok(Judged {
             outcome: self.outcome,
-            report: Shared::from_vec(alloc, report)?,
+            report: self.report.copy()?,
         })
     }
 }

@@ -1,65 +1,71 @@
 //! Keepers whose database is not there, or not there yet.
 
-use crate::alike::{alike_through, no_answer};
-use crate::making::name;
-use crate::shelf::Shelf;
+ghost use Rattle.desk_serving.specs.Obeying.{TellsDocket};
+
+use crate::store::{Filed, LASTING};
+use crate::telling::story;
 use case_keeper::{KeepFault, Keeper, MemKeeper};
-use sqlite::{Connection, Error, ErrorCode};
+use case_lines::due_in;
+use sqlite::{Alter, Connection, Error, ErrorCode};
 use sqlite_keeper::{LateKeeper, Opener};
 use std::alloc::Global;
 use std::io;
+use vet_base::Name;
 
-/// Refuses to open as often as said, and then opens an empty database.
+/// Refuses to open as often as said, and then opens a database.
 #[derive(Drop)]
-struct SlowOpener<F: Shelf + Drop> {
-    alloc: Global,
-    shelf: F,
+struct SlowOpener<S: Alter + Drop> {
+    connection: Option<Connection<S>>,
     refusals: u32,
 }
 
-impl<F: Shelf + Drop> Opener for SlowOpener<F> {
-    type Store = F::Store;
+impl<S: Alter + Drop> Opener for SlowOpener<S> {
+    type Store = S;
 
-    fn open(&mut self) -> Result<Connection<F::Store>, Error> {
+    fn open(&mut self) -> Result<Connection<S>, Error> {
         if self.refusals > 0 {
             self.refusals -= 1;
             return Err(Error::SqliteFailure(ErrorCode::DatabaseBusy));
         }
-        match self.shelf.blank(self.alloc) {
-            Ok(connection) => Ok(connection),
-            Err(_) => Err(Error::SqliteFailure(ErrorCode::CannotOpen)),
+        match self.connection.take() {
+            Some(connection) => Ok(connection),
+            None => Err(Error::SqliteFailure(ErrorCode::CannotOpen)),
         }
     }
 }
 
 /// Whether two calls fail, and each is counted.
-pub fn fails_twice<K: Keeper>(alloc: Global, keeper: &mut K) -> Result<bool, KeepFault> {
-    let ann = name(alloc, "ann")?;
+pub fn fails_twice<K: Keeper>(alloc: Global, keeper: &mut K) -> bool {
+    let Ok(ann) = Name::from_bytes(alloc, b"ann") else {
+        return false;
+    };
     let before = keeper.faults();
     let first = matches!(keeper.queued(alloc, &ann), Err(KeepFault::Failed));
     let second = matches!(keeper.appeals(alloc), Err(KeepFault::Failed));
-    Ok(first && second && keeper.faults() == before.saturating_add(2))
+    first && second && keeper.faults() == before.saturating_add(2)
 }
 
-/// Whether a keeper fails twice and then keeps as memory does.
-fn fails_and_keeps<K: Keeper>(alloc: Global, keeper: &mut K) -> Result<bool, KeepFault> {
+/// Whether a connection that is refused is asked for again: a keeper fails twice and then tells what memory does.
+pub fn asks_again<S: Filed>(alloc: Global, commands: &str, questions: &str) -> io::Result<bool> {
     let mut memory = MemKeeper::new(alloc);
-    Ok(fails_twice(alloc, keeper)? && alike_through(alloc, &mut memory, keeper)?)
-}
-
-/// Whether a connection that is refused is asked for again.
-pub fn asks_again<F: Shelf + Drop>(alloc: Global, shelf: F) -> io::Result<bool> {
+    let due = story(alloc, &mut memory, commands, questions)?;
     let opener = SlowOpener {
-        alloc,
-        shelf,
+        connection: Some(S::blank(alloc, LASTING)?),
         refusals: 2,
     };
     let mut keeper = LateKeeper::over(opener);
-    fails_and_keeps(alloc, &mut keeper).map_err(no_answer)
+    let failed = fails_twice(alloc, &mut keeper);
+    Ok(failed && story(alloc, &mut keeper, commands, questions)? == due)
 }
 
-/// Whether a keeper whose file cannot be opened fails at each call.
-pub fn stays_failed<K: Keeper>(alloc: Global, keeper: &mut K) -> io::Result<bool> {
-    let first = fails_twice(alloc, keeper).map_err(no_answer)?;
-    Ok(first && fails_twice(alloc, keeper).map_err(no_answer)?)
+/// Prints whether a keeper whose folder is not there fails at each call.
+pub fn no_folder<K: Keeper + Drop>(rt: &HostRuntime, keeper: K) -> io::Result<()>
+    requires { TellsDocket (K.told keeper) }
+{
+    let mut keeper = keeper;
+    let line = "1 1 ann submit r1 app > store failed";
+    let due = due_in(rt, &mut keeper, "no folder", line)?;
+    let holds = fails_twice(rt.alloc(), &mut keeper) && fails_twice(rt.alloc(), &mut keeper);
+    println!(rt; "no folder: {due} reply that is due")?;
+    println!(rt; "fails at each call where the folder is not there: {holds}")
 }

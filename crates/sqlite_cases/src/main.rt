@@ -2,167 +2,155 @@
 //! what no file of commands says whether it holds.
 #![tactic(auto)]
 
-ghost use Rattle.desk_serving.specs.Obeying.{TellsDocket};
-
 mod alike;
-mod comparing;
 mod crashing;
-mod fitting;
 mod late;
 mod lines;
-mod making;
-mod serving;
-mod shelf;
+mod store;
+mod telling;
 
-use crate::alike::{
-    answers_as_memory, keeps_odd_bytes, leaves_another_version, raises_version_1,
-    refuses_what_does_not_fit,
-};
-use crate::crashing::{
-    survives_being_raised, survives_calls_of_the_file, survives_each_call_of_the_log,
-};
-use crate::late::{asks_again, stays_failed};
-use crate::lines::due_in_file;
-use crate::serving::due_over_http;
-use crate::shelf::{InMemory, LASTING, Machine, Shelf};
-use case_keeper::Keeper;
-use case_lines::due_in;
+use crate::alike::{answers_as_memory, has_after, is_left, refusals_after};
+use crate::crashing::{Run, stops_of};
+use crate::late::{asks_again, no_folder};
+use crate::lines::{due_in_text, due_over_http};
+use crate::store::Filed;
+use sqlite::FileStore;
+use sqlite_disk::{Fuse, Memory};
 use sqlite_keeper::SqlKeeper;
-use std::io;
-use std::rt::Files;
+use std::{fs, io};
 
-/// Prints how many commands of a file get the reply that is due.
-fn replies<R: Files + Print + AllocGlobal, F: Shelf>(
-    rt: &R,
-    shelf: &F,
-    name: &str,
-    reopens: bool,
-) -> io::Result<()> {
-    let due = due_in_file(rt, shelf, name, reopens)?;
-    if reopens {
-        println!(rt;
-            "{name}: {due} replies that are due where the files are opened anew before each"
-        )
-    } else {
-        println!(rt; "{name}: {due} replies that are due")
-    }
+fn text(rt: &HostRuntime, name: &str) -> io::Result<String> {
+    fs::read_to_string(rt, name)
 }
 
-fn all_replies<R: Files + Print + AllocGlobal, F: Shelf>(rt: &R, shelf: &F) -> io::Result<()> {
-    replies(rt, shelf, "office.txt", false)?;
-    replies(rt, shelf, "office.txt", true)?;
-    replies(rt, shelf, "refusals.txt", false)?;
-    replies(rt, shelf, "order.txt", false)?;
-    replies(rt, shelf, "limits.txt", false)?;
-    replies(rt, shelf, "version_1.txt", false)?;
-    replies(rt, shelf, "version_1.txt", true)?;
-    replies(rt, shelf, "other_versions.txt", false)?;
-    let due = due_over_http(rt, shelf, "day.txt")?;
-    println!(rt; "day.txt: {due} replies over HTTP that are due")
-}
-
-fn say<R: Print>(rt: &R, what: &str, holds: bool) -> io::Result<()> {
+fn say(rt: &HostRuntime, what: &str, holds: bool) -> io::Result<()> {
     println!(rt; "{what}: {holds}")
 }
 
-fn all_else<R: Files + Print + AllocGlobal, F: Shelf>(rt: &R, shelf: &F) -> io::Result<()> {
+/// Prints how many commands of a file get the reply that is due.
+fn replies<S: Filed>(rt: &HostRuntime, name: &str, reopens: bool) -> io::Result<()> {
+    let commands = text(rt, name)?;
+    let due = due_in_text::<S>(rt, commands.as_str(), reopens)?;
+    let how = if reopens {
+        " where the files are opened anew before each"
+    } else {
+        ""
+    };
+    println!(rt; "{name}: {due} replies that are due{how}")
+}
+
+fn all_replies<S: Filed>(rt: &HostRuntime) -> io::Result<()> {
+    replies::<S>(rt, "office.txt", false)?;
+    replies::<S>(rt, "office.txt", true)?;
+    replies::<S>(rt, "refusals.txt", false)?;
+    replies::<S>(rt, "order.txt", false)?;
+    replies::<S>(rt, "limits.txt", false)?;
+    replies::<S>(rt, "version_1.txt", false)?;
+    replies::<S>(rt, "version_1.txt", true)?;
+    replies::<S>(rt, "other_versions.txt", false)?;
+    replies::<S>(rt, "changes.txt", false)?;
+    replies::<S>(rt, "like_version_1.txt", false)?;
+    replies::<S>(rt, "odd_bytes.txt", false)?;
+    let day = text(rt, "day.txt")?;
+    let due = due_over_http::<S>(rt, day.as_str())?;
+    println!(rt; "day.txt: {due} replies over HTTP that are due")
+}
+
+/// Prints what holds of databases beside memory.
+fn all_alike<S: Filed>(rt: &HostRuntime, commands: &str, questions: &str) -> io::Result<()> {
     let alloc = rt.alloc();
-    let holds = answers_as_memory(alloc, shelf)?;
+    let holds = answers_as_memory::<S>(alloc, commands, questions)?;
     say(
         rt,
         "answers as memory does, also once the files are opened anew",
         holds,
     )?;
-    let holds = refuses_what_does_not_fit(alloc, shelf)?;
-    say(
-        rt,
-        "refuses each change that does not fit, and stays as it was",
-        holds,
-    )?;
-    let holds = raises_version_1(rt, shelf)?;
-    say(rt, "has the cases of version 1 byte for byte", holds)?;
-    let holds = leaves_another_version(rt, shelf)?;
-    say(rt, "leaves a database of another version as it was", holds)?;
-    let holds = keeps_odd_bytes(alloc, shelf)?;
-    say(rt, "gives odd bytes back as they were", holds)
+    let unfit = text(rt, "unfit.txt")?;
+    let refused = refusals_after::<S>(alloc, commands, unfit.as_str(), questions)?;
+    println!(rt; "unfit.txt: {refused} changes that do not fit are refused, and change nothing")?;
+    let holds = asks_again::<S>(alloc, commands, questions)?;
+    say(rt, "asks again for a connection that is refused", holds)?;
+    let odd = text(rt, "odd_bytes.txt")?;
+    let holds = answers_as_memory::<S>(alloc, odd.as_str(), odd.as_str())?;
+    say(rt, "gives odd bytes back as they were", holds)?;
+    let other = text(rt, "version_3.sql")?;
+    let holds = is_left::<S>(alloc, other.as_str())?;
+    say(rt, "leaves a database of another version as it was", holds)
 }
 
-fn all_crashes<R: Files + Print + AllocGlobal, M: Machine + Drop>(
-    rt: &R,
-    machine: &M,
-) -> io::Result<()> {
-    let alloc = rt.alloc();
-    let holds = survives_each_call_of_the_log(alloc, machine)?;
+fn has_stops(stops: Option<u64>, least: u64) -> bool {
+    match stops {
+        Some(count) => count >= least,
+        None => false,
+    }
+}
+
+/// Prints whether what was told as kept is there where files stop. Each of the nine changes is at least one write and
+/// one sync of the log, so that is to stop at 18 places at least.
+fn all_crashes<S: Filed>(rt: &HostRuntime, run: Run<'_>) -> io::Result<()> {
+    let stops = stops_of::<S>(rt.alloc(), run, true, 10_000)?;
     say(
         rt,
         "has what was told as kept, or one change more, where the log stops at any call",
-        holds,
+        has_stops(stops, 18),
     )?;
-    let holds = survives_calls_of_the_file(alloc, machine)?;
-    say(rt, "has it where the database file stops", holds)?;
-    let holds = survives_being_raised(rt, machine)?;
+    let stops = stops_of::<S>(rt.alloc(), run, false, 100)?;
+    say(
+        rt,
+        "has it where the database file stops",
+        has_stops(stops, 0),
+    )
+}
+
+/// Prints whether a database of version 1 has its cases, also where the log stops while they are raised. That is at
+/// least one write and one sync, so it is to stop at two places at least.
+fn all_raised<S: Filed>(rt: &HostRuntime, statements: &str, questions: &str) -> io::Result<()> {
+    let alloc = rt.alloc();
+    let like = text(rt, "like_version_1.txt")?;
+    let is_alike = answers_as_memory::<S>(alloc, like.as_str(), questions)?;
+    let holds = has_after::<S>(alloc, statements, like.as_str(), questions)?;
+    say(
+        rt,
+        "has the cases of version 1 byte for byte",
+        is_alike && holds,
+    )?;
+    let run = Run {
+        statements,
+        like_these: like.as_str(),
+        commands: "110 1 rex list",
+        questions,
+    };
+    let stops = stops_of::<S>(alloc, run, true, 10_000)?;
     say(
         rt,
         "has the cases of version 1 where the log stops while they are raised",
-        holds,
+        has_stops(stops, 2),
     )
 }
 
-/// Tries a database whose folder is not there.
-fn all_failures<R: Print + AllocGlobal, K: Keeper>(rt: &R, keeper: &mut K) -> io::Result<()>
-    requires { TellsDocket (K.told keeper.old) }
-{
-    let due = due_in(
-        rt,
-        keeper,
-        "no folder",
-        "1 1 ann submit r1 app > store failed",
-    )?;
-    println!(rt; "no folder: {due} reply that is due")?;
-    let holds = stays_failed(rt.alloc(), keeper)?;
-    say(
-        rt,
-        "fails at each call where the folder is not there",
-        holds,
-    )
+fn all<S: Filed>(rt: &HostRuntime) -> io::Result<()> {
+    all_replies::<S>(rt)?;
+    let commands = text(rt, "changes.txt")?;
+    let questions = text(rt, "questions.txt")?;
+    let statements = text(rt, "version_1.sql")?;
+    all_alike::<S>(rt, commands.as_str(), questions.as_str())?;
+    let run = Run {
+        statements: "",
+        like_these: "",
+        commands: commands.as_str(),
+        questions: questions.as_str(),
+    };
+    all_crashes::<S>(rt, run)?;
+    all_raised::<S>(rt, statements.as_str(), questions.as_str())
 }
 
-/// Tries a keeper whose folder is not there. It takes the keeper, so that no other function drops what names the store.
-fn all_lost<R: Print + AllocGlobal, K: Keeper + Drop>(rt: &R, keeper: K) -> io::Result<()>
-    requires { TellsDocket (K.told keeper) }
-{
-    let mut keeper = keeper;
-    all_failures(rt, &mut keeper)
-}
-
-/// Tries databases of a shelf, and says last whether a connection that is refused is asked for again.
-fn all_of_shelf<R: Files + Print + AllocGlobal, F: Shelf + Drop>(
-    rt: &R,
-    shelf: F,
-) -> io::Result<bool> {
-    all_replies(rt, &shelf)?;
-    all_else(rt, &shelf)?;
-    asks_again(rt.alloc(), shelf)
-}
-
-/// Names the one store and nothing else: a call that names both at once takes more steps than a check may take.
-fn all_in_memory<R: Files + Print + AllocGlobal>(rt: &R) -> io::Result<bool> {
-    all_of_shelf(rt, InMemory)
-}
-
-/// Names the other store.
-fn all_stopping<R: Files + Print + AllocGlobal>(rt: &R) -> io::Result<()> {
-    all_crashes(rt, &LASTING)
+/// Names the store and nothing else: a call that names two at once takes more steps than a check may take.
+fn in_memory(rt: &HostRuntime) -> io::Result<()> {
+    all::<FileStore<Fuse<Memory>>>(rt)
 }
 
 fn main(rt: HostRuntime) -> io::Result<()> {
-    let asks_again = all_in_memory(&rt)?;
-    all_stopping(&rt)?;
-    say(
-        &rt,
-        "asks again for a connection that is refused",
-        asks_again,
-    )?;
+    in_memory(&rt)?;
     let path = String::from_str(rt.alloc(), "no_such_folder/desk.sqlite")?;
-    all_lost(&rt, SqlKeeper::new(rt.clone()?, path))
+    no_folder(&rt, SqlKeeper::new(rt.clone()?, path))
 }
