@@ -12,14 +12,14 @@ use vet_base::{FileFault, Files, Memory};
 
 /// A file of the office.
 #[derive(Clone, Copy)]
-pub(crate) enum Paper {
+pub enum Paper {
     Office,
     Lists,
 }
 
 /// Why it is refused.
 #[derive(Drop)]
-pub(crate) enum Unfit {
+pub enum Unfit {
     /// The file is not there.
     Absent,
     /// The file has more than 16,777,216 bytes.
