@@ -11,6 +11,7 @@ use Rattle.desk_http.specs.Fields.{content_length, transfer_encoding, is_get, is
 use Rattle.desk_http.specs.Heads.{ends_empty_line, HasNoEnd, IsHeadEnd, IsWholeHead}
 use Rattle.desk_http.specs.Requests.{Answers}
 use Rattle.desk_http.proofs.OneAnswer.{one_answer}
+use Rattle.http_witness.proofs.Announcing.{no_length, one_length, no_sign, limit}
 use Rattle.http_witness.specs.Requests.{RequestsTell, bare, bare_head, empty_line, trailed}
 
 ends_once : (bytes : List ℕ) (n : ℕ) → ends_empty_line (take n bytes) ≡ true → ends_empty_line (take n bytes) ≡ false → ⊥
@@ -101,4 +102,8 @@ requests_tell = record {
   seen = lit≤ tt;
   not_yet = one_seen;
   ends = λ h. ends_once empty_line 2 both_end (h 2 (lit≤ tt));
+  no_length = no_length;
+  one_length = one_length;
+  no_sign = no_sign;
+  limit = limit;
 }

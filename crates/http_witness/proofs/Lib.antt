@@ -1,2 +1,3 @@
+mod Announcing
 pub mod Asking
 pub mod Telling
