@@ -1,3 +1,4 @@
+pub mod Gathered
 pub mod Rows
 pub mod Sought
 pub mod Sound

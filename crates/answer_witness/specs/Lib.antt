@@ -1,3 +1,4 @@
+pub mod FolderFacts
 pub mod GroundFacts
 pub mod Office
 pub mod OutcomeFacts

@@ -1,16 +1,18 @@
-//! Small facts that show what is told of an app: its findings and causes, the rows with which its table
-//! starts and which it can have, and how rows are looked for. Each is a theorem over the definitions
-//! that the clauses of the code name, so that code which answers otherwise is refused.
+//! Small facts that show what is told of an app: its findings and causes, the files of its folder, the
+//! rows with which its table starts and which it can have, and how rows are looked for. Each is a
+//! theorem over the definitions that the clauses of the code name, so that code which answers otherwise
+//! is refused.
 #![tactic(auto)]
 
+ghost use Rattle.answer_witness.specs.FolderFacts.{FolderIsGathered};
 ghost use Rattle.answer_witness.specs.GroundFacts.{RowsAreSought};
 ghost use Rattle.answer_witness.specs.OutcomeFacts.{OutcomesAreTold};
 ghost use Rattle.answer_witness.specs.RowFacts.{RowsAreOfTheApp, StartsAreThere};
 
 /// Findings and causes are told each in its place, in order and by its own kind, and only where the
-/// declaration does not name the pair.
+/// declaration does not name the pair; and the first file that is refused is told.
 pub fn outcomes_are_told()
-    ensures { OutcomesAreTold }
+    ensures { OutcomesAreTold × FolderIsGathered }
 {}
 
 /// A table starts with each component, or with the application alone.
