@@ -1,0 +1,3 @@
+pub mod DiskFacts
+pub mod KeeperFacts
+pub mod LogFacts
