@@ -1,3 +1,5 @@
+pub mod Commanding
+pub mod Connecting
 pub mod Judging
 pub mod Serving
 pub mod Vetting

@@ -1,3 +1,5 @@
+pub mod Commands
+pub mod Connections
 pub mod Judgements
 pub mod Servings
 pub mod Vettings

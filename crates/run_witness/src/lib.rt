@@ -1,7 +1,9 @@
-//! Small facts that show that the definitions by which runs end, and by which a desk judges, mean what they should. Each is a
-//! theorem over the definitions alone, so that a slip in a definition shows.
+//! Small facts that show that the definitions by which runs and connections end, and by which a desk judges and carries
+//! commands out, mean what they should. Each is a theorem over the definitions alone, so that a slip in a definition shows.
 #![tactic(auto)]
 
+ghost use Rattle.run_witness.specs.Commands.{CommandsTell};
+ghost use Rattle.run_witness.specs.Connections.{ConnectionsEnd};
 ghost use Rattle.run_witness.specs.Judgements.{JudgementsTell};
 ghost use Rattle.run_witness.specs.Servings.{ServingsEnd};
 ghost use Rattle.run_witness.specs.Vettings.{VettingsEnd};
@@ -19,4 +21,14 @@ pub fn the_vettings_end()
 /// What judging by the lists of an office does not give.
 pub fn the_judgements_tell()
     ensures { JudgementsTell }
+{}
+
+/// What carrying a command out does not give.
+pub fn the_commands_tell()
+    ensures { CommandsTell }
+{}
+
+/// How a connection does not end, and connections over a door.
+pub fn the_connections_end()
+    ensures { ConnectionsEnd }
 {}

@@ -1,0 +1,61 @@
+-- How a connection does not end, and connections over a door. Behind each fact stands what a slip would do. But for the fact of
+-- the day the clock tells none: what does not end so under no day, does not under one.
+use Rattle.std.specs.Prelude.{◌≡◌, ℕ, false, Bool, List, [], ◌∷◌, length, Some, None, Ok, codes, replicate}
+use Rattle.vet_base.specs.Outside.{HasRisen}
+use Rattle.case_rules.specs.declared.case.Case.{Case}
+use Rattle.case_rules.specs.declared.case.Decision.{Decision}
+use Rattle.case_rules.specs.declared.case.OutcomeWord.TheVariants.{Flagged}
+use Rattle.case_rules.specs.Cases.{with_entry}
+use Rattle.desk_http.specs.Replies.{reply_bytes}
+use Rattle.desk_links.specs.Links.{Told}
+use Rattle.desk_serving.specs.declared.serving.Served.{Served}
+use Rattle.desk_serving.specs.declared.serving.Served.TheVariants.{Replied}
+use Rattle.desk_serving.specs.Run.{CountsAll}
+use Rattle.desk_serving.specs.Serving.{Outside, Serves}
+use Rattle.store_office.specs.declared.office.Office.{Office}
+use Rattle.run_witness.specs.Commands.{bob, content, queued, anything}
+
+-- an office of one party, a reviewer
+abbrev pub bobs_office : Office
+bobs_office = record { port = 8080; workers = 2; appeal_days = 30; parties = bob ∷ [] }
+
+-- a decision of bob's
+abbrev pub decision : Decision
+decision = record { outcome = Flagged; report = []; lists = replicate 32 7; reviewer = codes "bob"; day = 99 }
+
+-- ada's case, with an appeal against it
+abbrev pub appealed : Case
+appealed = record {
+  party = codes "ada";
+  reference = codes "a1";
+  content = content;
+  entries = record { decision = decision; appeal = Some (record { day = 100; text = codes "no" }); ruling = None } ∷ [];
+}
+
+-- outside are these cases and this conversation
+pub record Tells (outside : Outside) (cases : List Case) (talk : Told) : Type 0 where
+  pub cases_are : outside.cases ≡ Some cases
+  pub talk_is : outside.talk ≡ Some talk
+
+-- these bytes were written, over these cases, and nothing before
+pub record Writes (before after : Outside) (cases : List Case) (bytes : List ℕ) : Type 0 where
+  pub talk : Told
+  pub then : Told
+  pub tells : Tells before cases talk
+  pub then_is : after.talk ≡ Some then
+  pub none : talk.written ≡ []
+  pub all : then.written ≡ bytes
+
+pub record ConnectionsEnd : Type 0 where
+  -- on day 100 no case is decided on the first day (else each would be)
+  pub own_day : (office : Office) (edition : List ℕ) (before after : Outside) (talk : Told) (d : Decision) (said : Served) → Tells before (queued ∷ []) talk → after.cases ≡ Some (with_entry d queued ∷ []) → d.day ≡ 1 → Serves anything office edition (Some 100) before after said → ⊥
+  -- a reviewer is told whose a case is (else what a developer is told)
+  pub own_role : (edition : List ℕ) (before after : Outside) → Writes before after (appealed ∷ []) (reply_bytes 200 false (codes "{\"cases\":[{\"reference\":\"a1\",\"state\":\"appealed\"}]}")) → Serves anything bobs_office edition None before after (Replied 200) → ⊥
+  -- the status that is said is the one that was written (else 200)
+  pub own_status : (office : Office) (edition : List ℕ) (before after : Outside) (cases : List Case) (is_text : Bool) (body : List ℕ) → Writes before after cases (reply_bytes 404 is_text body) → Serves anything office edition None before after (Replied 200) → ⊥
+  -- a front of a reply is no reply (else it would be said to be one)
+  pub whole : (office : Office) (edition : List ℕ) (before after : Outside) (cases : List Case) (status : ℕ) → Writes before after cases (codes "HTTP/") → Serves anything office edition None before after (Replied status) → ⊥
+  -- a connection that is left and asked for is taken (else none, be it that the door fails)
+  pub none_taken : (entry : Outside) (cases : List Case) (talk : Told) → Tells entry cases talk → length talk.left ≡ 1 → CountsAll 1 entry (Ok 0) → ⊥
+  -- a keeper of which no call failed has not failed (else after each command, and for want of memory)
+  pub not_risen : HasRisen 0 0 → ⊥
