@@ -16,6 +16,8 @@ from tests.support import EXAMPLES, ROOT, expected
 
 PROVED = ROOT / "crates" / "vet" / "out" / "vet"
 UNPROVED = ROOT / "crates" / "vet_undecided" / "out" / "unproved"
+# The environment in which the program runs: a check of the unproved one that fails has the status 86, which no answer has.
+CHECKED = {**os.environ, "ASAN_OPTIONS": "exitcode=86"}
 Item = TypeVar("Item")
 Found = TypeVar("Found")
 
@@ -48,12 +50,9 @@ def program() -> Path:
 
 
 def answer(folder: Path, *words: str) -> tuple[int, str]:
-    """The status and the text for these words, where relative paths begin at this folder.
-
-    A check of the unproved program that fails has the status 86, which no answer has.
-    """
+    """The status and the text for these words, where relative paths begin at this folder."""
     ran = subprocess.run([str(program()), *words], cwd=folder, capture_output=True, check=False,
-                         stdin=subprocess.DEVNULL, env={**os.environ, "ASAN_OPTIONS": "exitcode=86"})
+                         stdin=subprocess.DEVNULL, env=CHECKED)
     return ran.returncode, ran.stdout.decode()
 
 

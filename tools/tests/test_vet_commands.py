@@ -9,12 +9,10 @@ import tempfile
 import unittest
 from pathlib import Path
 
-from tests.program import answer, at_once, program
+from tests.program import CHECKED, answer, at_once, program
 from tests.support import EXAMPLES
 
 USAGE = (4, "unknown command or argument\n")
-# The environment in which the program runs; a check of the unproved one that fails has the status 86.
-CHECKED = {**os.environ, "ASAN_OPTIONS": "exitcode=86"}
 LIMIT = 16_777_216
 # The files of an app with one DEX file, in the order in which they are read; all are empty but the manifest.
 FILES = ("manifest.toml", "layouts.toml", "declaration.toml", "lists.toml", "classes.dex")
