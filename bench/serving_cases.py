@@ -165,6 +165,8 @@ BIG_HEAD = error(431, "head too long")
 STORE_FAILED = error(503, "store failed")
 ENDED = b"ended"
 ONE_CASE = listed(state("r1", "queued"))
+# The head of a submission of r1, whose names are of mixed letters and whose token has blanks around it.
+REQUEST = b"POST /cases HTTP/1.1\r\nX-Desk-Token:  ann-token \r\ncontent-LENGTH: 96\r\n\r\n"
 
 
 class Cases:
@@ -336,6 +338,84 @@ def head_of(count):
 def fields_of(count):
     """A GET of the list with so many fields."""
     return request("ann", "GET", "/cases", None, ["a: b"] * (count - 1))
+
+
+def kept(c):
+    """What is told of a case at each of its stages, as it is submitted again, decided, ruled on and shown."""
+    def again(word):
+        c.turn(submit("ann", "r1"), due(200, state("r1", word)))
+
+    c.case("a case that is kept is told with its state", "keeper", "day 20001", "edition 1")
+    c.turn(submit("ann", "r1"), due(201, state("r1", "queued")))
+    again("queued")
+    c.turn(decide("rex"), decided("ann", "r1", "flagged"))
+    again("decided")
+    c.turn(appeal("ann", "r1"), due(200, state("r1", "appealed")))
+    again("appealed")
+    c.turn(rule("sue", "ann", "r1", "overturn"), ruled("ann", "r1", "overturn"))
+    again("ruled")
+    for outcome in REPORTS:
+        c.case(f"a case that is decided: {outcome}", "keeper")
+        c.turn(submit("ann", "r1", outcome), due(201, state("r1", "queued")))
+        c.turn(decide("rex"), decided("ann", "r1", outcome))
+        c.turn(get("ann", "/cases/r1/report"), report(outcome))
+
+
+def last_decision(c):
+    c.case("a case is shown by its last decision, whatever became of the first", "keeper", "day 19000", "edition 1")
+    c.turn(submit("ann", "r1"), due(201, state("r1", "queued")))
+    c.turn(decide("rex"), decided("ann", "r1", "flagged"))
+    c.line("day 19001")
+    c.turn(appeal("ann", "r1"), due(200, state("r1", "appealed")))
+    c.turn(rule("sue", "ann", "r1"), ruled("ann", "r1", "uphold"))
+    c.turn(show("ann", "r1"), shown("r1", "ruled", 1, 19000, "flagged", 19001, "uphold"))
+    c.line("day 20001")
+    c.line("edition 2")
+    c.turn(review("rex", "ann", "r1"), decided("ann", "r1", "flagged"))
+    c.turn(show("ann", "r1"), shown("r1", "decided", 2, 20001, "flagged"))
+    c.line("day 20002")
+    c.turn(appeal("ann", "r1"), due(200, state("r1", "appealed")))
+    c.turn(show("ann", "r1"), shown("r1", "appealed", 2, 20001, "flagged", 20002))
+    c.line("day 20003")
+    c.turn(rule("sue", "ann", "r1", "overturn"), ruled("ann", "r1", "overturn"))
+    c.turn(show("ann", "r1"), shown("r1", "ruled", 2, 20001, "flagged", 20002, "overturn"))
+
+
+def lists(c):
+    c.case("a reviewer sees whose appeals are open, and a developer the own cases", "keeper", "edition 1")
+    c.turn(get("rex", "/cases"), listed())
+    for who, reference in (("bob", "a-2"), ("ann", "r1")):
+        c.turn(submit(who, reference), due(201, state(reference, "queued")))
+        c.turn(decide("rex"), decided(who, reference, "flagged"))
+        c.turn(appeal(who, reference), due(200, state(reference, "appealed")))
+    c.turn(submit("ann", "a-2"), due(201, state("a-2", "queued")))
+    c.turn(get("ann", "/cases"), listed(state("a-2", "queued"), state("r1", "appealed")))
+    c.turn(get("bob", "/cases"), listed(state("a-2", "appealed")))
+    c.turn(get("rex", "/cases"), listed(
+        {"developer": "ann", **state("r1", "appealed")}, {"developer": "bob", **state("a-2", "appealed")}))
+
+
+def limit(c):
+    def submitted(who, number):
+        return request(who, "POST", "/cases", app(f"r{number}", "", dex=[""], manifest=""))
+
+    too_many = error(409, "too many open cases, limit 1000")
+    c.case("1,000 open cases", "keeper")
+    c.door(1000, [submitted("ann", number) for number in range(1, 1001)], [("1000", [])])
+    c.case("one more is refused until one is decided")
+    c.turn(submitted("ann", 1001), too_many)
+    c.turn(submitted("ann", 1000), due(200, state("r1000", "queued")))
+    c.turn(submitted("bob", 1001), due(201, state("r1001", "queued")))
+    c.turn(decide("rex"), decided("ann", "r1", "flagged"))
+    c.turn(submitted("ann", 1001), due(201, state("r1001", "queued")))
+    c.turn(submitted("ann", 1002), too_many)
+
+
+def answers():
+    c = Cases()
+    for part in (kept, last_decision, lists, limit):
+        part(c)
+    return c
 
 
 def heads(c):
@@ -635,6 +715,64 @@ def doors(c):
         ("5", [none, STORE_FAILED, added, decided("ann", "r1", "flagged"), shown("r1", "decided", 1, 100, "flagged")])])
 
 
+def both_ways(c):
+    """Requests as they are, and then where each byte comes alone."""
+    turns = (
+        (REQUEST + app("r1") + b"and more..", due(200, state("r1", "queued"))),
+        (b"GET / HTTP/1.0\n\n", NO_ROUTE), (b"GET /cases HTTP/1.0\n\n", NO_TOKEN),
+        (b"GET /cases HTTP/1.0\nx-desk-token: ann-token\n\n", ONE_CASE),
+        (b"GET / HTTP/1.1\r\n", ENDED), (b"POST / HTTP/1.1\r\ncontent-length: 5\r\n\r\nfour", ENDED),
+        (b"PUT / HTTP/1.1\r\n\r\n", BAD), (b"GET / HTTP/1.1\r\ncontent-length: +5\r\n\r\n12345", BAD),
+        (b"GET / HTTP/1.1\r\ncontent-length: 1\r\nContent-Length: 1\r\n\r\n1", BAD),
+        (b"POST / HTTP/1.1\r\ntransfer-encoding: chunked\r\ncontent-length: 99999999\r\n\r\n", NO_LENGTH),
+        (b"POST / HTTP/1.1\r\ncontent-length: 67108865\r\n\r\n", TOO_LONG),
+    )
+    c.case("requests as they are", "keeper", "day 100", "edition 1")
+    c.turn(REQUEST + app("r1") + b"and more..", due(201, state("r1", "queued")))
+    for bytes_, reply_ in turns:
+        c.turn(bytes_, reply_)
+    c.case("the same where each byte comes alone", "pieces 999*1")
+    for bytes_, reply_ in turns:
+        c.turn(bytes_, reply_)
+
+
+def calls(c):
+    """Which call of a link is which: so many reads, and then a write of the head and one of the body."""
+    whole, long = REQUEST + app("r1") + b"and more..", head_of(5000)
+    c.case("the first read fails", "keeper", "failing 1")
+    c.turn(whole, b"read fault")
+    c.case("the read of the third byte of a body fails", "pieces 999*1", f"failing {len(REQUEST) + 3}")
+    c.turn(whole, b"read fault")
+    c.case("nothing was done by these")
+    c.turn(get("ann", "/cases"), listed())
+    c.turn(whole, due(201, state("r1", "queued")))
+    c.turn(decide("rex"), decided("ann", "r1", "flagged"))
+    c.case("the write of the head fails", "failing 2")
+    c.turn(get("ann", "/cases/r1/report"), b"write fault")
+    c.turn(get("ann", "/cases/r9"), b"write fault")
+    c.case("the write of the body fails", "failing 3")
+    c.turn(get("ann", "/cases/r1/report"), b"write fault " + report("flagged")[:-len(REPORTS["flagged"])])
+    c.turn(get("ann", "/cases/r9"), b"write fault " + NO_CASE[:-len(b"{\"error\":\"no such case\"}")])
+    c.case("no further call is made", "failing 4")
+    c.turn(get("ann", "/cases/r1/report"), report("flagged"))
+    c.turn(get("ann", "/cases/r9"), NO_CASE)
+    c.case("a connection that ends is read once more", "failing 2")
+    c.turn(b"GET /ca", b"read fault")
+    one_case = listed(state("r1", "decided"))
+    for title, pieces, bytes_, reads in (
+        ("a request whose first byte comes alone is read in two", "1", get("ann", "/cases"), 2),
+        ("a head of 5,000 bytes is read in two, of which the first gives 4,096", "", long, 2),
+        ("where its first byte comes alone it is read in three", "1", long, 3),
+    ):
+        for call, reply_ in ((reads, b"read fault"), (reads + 1, b"write fault"), (reads + 3, one_case)):
+            c.case(title, *([f"pieces {pieces}"] if pieces else []), f"failing {call}")
+            c.turn(bytes_, reply_)
+    c.case("it stays one day at a door", "keeper", "day 20000")
+    c.door(9, [submit("ann", "r1"), decide("rex"), appeal("ann", "r1"), show("ann", "r1")], [("4", [
+        due(201, state("r1", "queued")), decided("ann", "r1", "flagged"), due(200, state("r1", "appealed")),
+        shown("r1", "appealed", 1, 20000, "flagged", 20000)])])
+
+
 def bytewise(c):
     """The worked case once more, where each byte of a request comes alone: none of them has 999."""
     case = day()
@@ -650,6 +788,8 @@ def links():
     ends(c)
     faults(c)
     doors(c)
+    both_ways(c)
+    calls(c)
     bytewise(c)
     return c
 
@@ -657,7 +797,7 @@ def links():
 def main():
     folder = pathlib.Path(sys.argv[1])
     (folder / "data").mkdir(exist_ok=True)
-    files = {"day": day(), "rules": rules(), "requests": requests(), "links": links()}
+    files = {"day": day(), "rules": rules(), "answers": answers(), "requests": requests(), "links": links()}
     lines = []
     for name, cases in files.items():
         cases.write(folder / "data" / f"{name}.txt")

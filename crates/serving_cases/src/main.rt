@@ -62,6 +62,7 @@ fn main(rt: HostRuntime) -> io::Result<()> {
             replies(&rt, "day.txt")?;
             replies_in_turn(&rt, "day.txt")?;
             replies(&rt, "rules.txt")?;
+            replies(&rt, "answers.txt")?;
             replies(&rt, "requests.txt")?;
             replies(&rt, "links.txt")
         }
