@@ -16,6 +16,35 @@ ROWS = {
     12: "AeS", 13: "AePl", 14: "nl", 15: "nlPl", 16: "S", 17: "SPl", 18: "llN", 19: "Nc", 20: "NU",
 }
 
+# A row of each kind, by their kinds, from certificates that a program wrote which was made apart from this one.
+FOREIGN_ROWS = bytes.fromhex(
+    "01060300000000000000010000000c000000040000000000000002060300000000000000010000000c00000004000000030000000000"
+    "010000060300000000000000010000000c000000040000000000000003060300000000000000010000000c0000000400000008000000"
+    "0100000002010000000000000000040000000000000100000001000000000000000100000000060300000000000000010000000c0000"
+    "0004000000000000000500060300000000000000010000000c0000000400000000000000010000000000000000000100000001000000"
+    "0000000006000000000000010000000100000000000000000000000700000000020100000000000000000805010000000c0000000300"
+    "000000000000060300000000000000010000000c0000000400000009060300000000000000010000000c000000040000000501000000"
+    "0c00000003000000000000000a060300000000000000010000000c000000040000000600000000000000000001000000010000000500"
+    "000003020000000100000000000000000b060300000000000000010000000c0000000400000000000000000001000000010000000500"
+    "000003020000000100000000000000000c00000000000100000001000000010005010000000000000000000000040000000d00000000"
+    "00010000000100000001020000000000000000000e00000000000f000000000202010000000000000000100006030000000000000001"
+    "0000000c0000000400000000000000110000000000000100000001000000050000000302000000010000000000000000120002000000"
+    "00000100000001000000110000001300000000000100000000000000000000000214060300000000000000010000000c000000040000"
+    "0000000000000c000000"
+)
+# The kind of a row, and rows that a byte or the end of the file cuts off; the last one is whole.
+ODD_ROWS = (
+    b"\0", b"\x15",
+    # A context, a site and a use of no kind.
+    b"\1\7", b"\x10\4", b"\x14" + bytes(17) + b"\2",
+    # The second number of a handed context is 0, in each of its bytes.
+    b"\1\3" + b"\1\0\0\0" + b"\0\1", b"\1\3" + b"\1\0\0\0" + b"\0\0",
+    # Six keys, and the same in an open path.
+    b"\7" + bytes(4) + b"\6", b"\7" + bytes(4) + b"\x4d", b"\7" + bytes(4) + b"\x86", b"\7" + bytes(4) + b"\x85",
+    # An end that is neither return nor throw, and causes of none.
+    b"\x0c" + bytes(13) + b"\2", b"\x13" + bytes(18), b"\x13" + bytes(17) + b"\4", b"\x13" + bytes(17) + b"\3",
+)
+
 
 class Fault(Exception):
     pass
@@ -207,6 +236,22 @@ def spelled_out(data):
     yield b""
 
 
+def apart():
+    """Certificates with the digest 0: rows of another program, a byte more, rows exchanged or twice, and odd rows."""
+    def of(count, rows):
+        return b"VETCERT2" + bytes(32) + count.to_bytes(4, "little") + rows
+
+    yield of(20, FOREIGN_ROWS)
+    yield b"VETCERT3"
+    first, second = (b"\x0e\5\0\0\0" + state for state in (b"\0", b"\1"))
+    yield of(1, first + b"\7")
+    yield of(2, second + first)
+    yield of(2, second + second)
+    yield of(0xFFFFFFFF, b"")
+    for row in ODD_ROWS:
+        yield of(1, row)
+
+
 def write(path, made):
     lines = [f"{change}: {answer(data)}\n" for change, data in made]
     path.write_text("".join(lines))
@@ -222,7 +267,7 @@ def main():
     (folder / "each_kind.cert").write_bytes(kinds)
     write(folder / "unlisted_call.txt", cases(call, lambda was: [(was + 1) % 256, was ^ 128]))
     write(folder / "each_kind.txt", cases(kinds, lambda was: [(was + 1) % 256]))
-    write(folder / "spelled.txt", ((f"hex {data.hex()}", data) for data in spelled_out(call)))
+    write(folder / "spelled.txt", ((f"hex {data.hex()}", data) for data in (*spelled_out(call), *apart())))
     print("each_kind.cert", hashlib.sha256(kinds).hexdigest())
 
 

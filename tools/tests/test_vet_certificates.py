@@ -8,9 +8,11 @@ import unittest
 from pathlib import Path
 
 from tests.program import answer, at_once
-from tests.support import DATA
+from tests.support import DATA, ROOT
 
 ANSWERS = DATA / "answers"
+# A certificate of 273 bytes that another program wrote, of another app.
+UNLISTED_CALL = ROOT / "crates" / "cert_cases" / "data" / "unlisted_call.cert"
 FORMS = ("manifest.toml", "layouts.toml", "declaration.toml")
 PARTS = (*FORMS, "lists.toml", "classes.dex")
 MAGIC = b"VETCERT2"
@@ -150,8 +152,9 @@ class TableTest(FolderTest):
             shutil.copy(ANSWERS / "table" / name, self.folder / "D" / name)
         (self.folder / "D" / "declaration.toml").write_bytes(b"")
 
-    def digest(self) -> bytes:
-        contents = [(self.folder / "D" / name).read_bytes() for name in PARTS]
+    def digest(self, *names: str) -> bytes:
+        """The digest of these files of the app, or of those of an app with one DEX file."""
+        contents = [(self.folder / "D" / name).read_bytes() for name in names or PARTS]
         return hashlib.sha256(b"".join(u4(len(content)) + content for content in contents)).digest()
 
     def said_of(self, tables: list[list[bytes]]) -> list[tuple[int, str]]:
@@ -186,6 +189,40 @@ class TableTest(FolderTest):
         for row, said in zip(ROWS, found):
             with self.subTest(row=row.hex()):
                 self.assertEqual(NO_START if row == LIVE[0] else refused(f"not closed {row.hex()}"), said)
+
+    def test_a_fault_of_the_file_is_told_with_its_offset(self) -> None:
+        empty = certificate(bytes(32), [])
+        exchanged = certificate(bytes(32), [live(0, 1), live(0, 2), live(0, 3), live(0, 0)])
+        faults = [(b"VETCERT3", "magic"), (b"VETCERT1", "version 1"), (MAGIC, "cut at 8"), (exchanged, "order at 62"),
+                  (empty[:40] + u4(1) + b"\0", "bad at 44"), (UNLISTED_CALL.read_bytes() + b"\0", "rest at 273")]
+        found = self.rechecked([content for content, _ in faults])
+        for (_, reason), said in zip(faults, found):
+            with self.subTest(reason):
+                self.assertEqual(refused(reason), said)
+
+    def test_the_digest_of_the_certificate_comes_before_that_of_the_files(self) -> None:
+        said, = self.rechecked([certificate(bytes([0x0F]) * 32, [])])
+        self.assertEqual(refused(f"digest {'0f' * 32} {self.digest().hex()}"), said)
+
+    def test_a_row_is_told_as_a_certificate_spells_it(self) -> None:
+        # A component, a shared object, and an instruction of method 6 at address 7 for cause 3 whose run a handed
+        # object began: the small app and its lists have none of them.
+        spelled = {"0e0403020100": live(0x01020304, 0),
+                   "100307000000": bytes([16, 3]) + u4(7),
+                   "13030500000000000000060000000700000003": bytes([19, 3]) + u4(5, 0, 6, 7) + bytes([3])}
+        found = self.said_of([[row] for row in spelled.values()])
+        for text, said in zip(spelled, found):
+            with self.subTest(text):
+                self.assertEqual(refused(f"stranger {text}"), said)
+
+    def test_each_file_has_its_length_in_front_in_the_digest(self) -> None:
+        # The digest is compared before the files are judged, so that they may be any bytes but the manifest.
+        parts = {"manifest.toml": b'package = "a"\ndex_files = 2\n', "layouts.toml": b"", "declaration.toml": b"dec",
+                 "lists.toml": b"lists", "classes.dex": b"one", "classes2.dex": b""}
+        for name, content in parts.items():
+            (self.folder / "D" / name).write_bytes(content)
+        said, = self.rechecked([certificate(bytes(32), [])])
+        self.assertEqual(refused(f"digest {'00' * 32} {self.digest(*parts).hex()}"), said)
 
 
 if __name__ == "__main__":
