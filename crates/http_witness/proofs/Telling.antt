@@ -57,6 +57,7 @@ unfolding content_length type_of version content_type connection close colon spa
 replies_tell = record {
   text = refl;
   json = refl;
+  text_not_found = refl;
   whole_body = refl;
   nothing_written = λ h. let clash : 72 ∷ [] ≡ [] = ap written_by h in cc;
   not_risen = λ h. omega (arith, h);
