@@ -282,6 +282,26 @@ class CarriedTest(UnpackTest):
         self.assertIn(r"native library lib/\x1b[2J<script>.so", said)
         self.assertNotIn("\x1b", said)
 
+    def test_names_that_lead_elsewhere_make_no_file(self) -> None:
+        code, out = MAIN.read_bytes(), f"out-{self.folder.name}"
+        said = self.made(manifest(""), None, {"classes.dex": code, f"../../{out}": code, f"lib/../../{out}.so": code,
+                                              f"{self.folder}/{out}": code, f"res/../../{out}.txt": b"x"})
+        self.assertIn(f"not carried: ../../{out}, code that no device loads by itself\n", said)
+        self.assertEqual(sorted(["manifest.toml", "layouts.toml", "declaration.toml", "lists.toml", "classes.dex"]),
+                         sorted(os.listdir(self.folder / "app")))
+        self.assertEqual([], [it for place in (self.folder, self.folder.parent) for it in place.glob(f"{out}*")])
+
+    def test_names_of_the_manifest_are_carried_and_reach_no_terminal_as_they_are(self) -> None:
+        apk = make(self.folder / "src", manifest('<activity android:name="a.Name"/>', "com.shop"))
+        raw = entry(apk, "AndroidManifest.xml")
+        for old, new in (("a.Name", 'a.<s"\n'), ("com.shop", "c\x1b[2J\u202e<>")):
+            raw = raw.replace(old.encode("utf-16-le"), new.encode("utf-16-le"))
+        status, out, said = self.run_tool(replaced(apk, {"AndroidManifest.xml": raw}))
+        self.assertEqual(0, status, said)
+        self.assertFalse({"\x1b", "\u202e"} & set(out + said))
+        read = tomllib.loads(self.form("manifest.toml"))
+        self.assertEqual(("c\x1b[2J\u202e<>", 'La/<s"\n;'), (read["package"], read["component"][0]["class"]))
+
 
 class RefusalTest(UnpackTest):
 
