@@ -187,7 +187,6 @@ class Limits(Nginx):
 class Units(unittest.TestCase):
     """The units of systemd."""
 
-    @unittest.skipUnless(shutil.which("systemd-analyze"), "systemd-analyze is not there: the units are not verified")
     def test_systemd_finds_no_fault_in_the_units(self) -> None:
         with tempfile.TemporaryDirectory() as folder:
             for file in DEPLOY.glob("vet-*"):

@@ -384,7 +384,6 @@ class Android(unittest.TestCase):
     def test_the_tables_have_no_fault(self) -> None:
         self.assertEqual([str(fault) for fault in lists_lint.faults(self.tables)], [])
 
-    @unittest.skipUnless(shutil.which('javap'), 'there is no javap on this machine')
     def test_the_tables_agree_with_the_jdk(self) -> None:
         known = known_shapes(self.tables, None)
         self.assertGreater(len(known), 500)

@@ -5,7 +5,6 @@ import base64
 import hashlib
 import http.server
 import re
-import shutil
 import subprocess
 import threading
 import unittest
@@ -197,7 +196,6 @@ class Seen(http.server.BaseHTTPRequestHandler):
         """Says nothing."""
 
 
-@unittest.skipUnless(shutil.which("chromium"), "chromium is not installed (tools/setup --tests)")
 class InABrowser(ToolCase):
     def test_the_browser_shows_the_lines_runs_nothing_and_asks_for_nothing_else(self) -> None:
         app = self.hostile()

@@ -25,15 +25,21 @@ class Setup(unittest.TestCase):
         self.folder = Path(tempfile.mkdtemp(prefix="vet_tools_"))
         self.addCleanup(shutil.rmtree, self.folder, ignore_errors=True)
         for name, text in (("apt-get", APT), ("dpkg-query", DPKG), ("id", "#!/bin/sh\necho 0\n")):
-            (self.folder / name).write_text(text)
-            (self.folder / name).chmod(0o755)
+            self.command(name, text)
+        for name in ("bash", "cat", "dirname", "grep", "sed", "sh"):
+            (self.folder / name).symlink_to(shutil.which(name) or name)
         (self.folder / "apt_status").write_text("0")
         (self.folder / "has").write_text("")
 
+    def command(self, name: str, text: str) -> None:
+        """Puts a stand-in for a command there."""
+        (self.folder / name).write_text(text)
+        (self.folder / name).chmod(0o755)
+
     def run_setup(self, *words: str) -> subprocess.CompletedProcess[str]:
-        """Runs `tools/setup` where the stand-ins come before the system's commands."""
+        """Runs `tools/setup` where there are the stand-ins, and of the system's commands those that it uses."""
         return subprocess.run([str(TOOLS / "setup"), *words], capture_output=True, text=True, check=False,
-                              env={**os.environ, "PATH": f"{self.folder}:/usr/bin:/bin"})
+                              env={**os.environ, "PATH": str(self.folder)})
 
     def asked(self) -> list[str]:
         """What `apt-get` was asked for."""
@@ -46,7 +52,13 @@ class Setup(unittest.TestCase):
         (self.folder / "has").write_text("androguard\ncurl\n")
         self.assertEqual(self.run_setup("--tests").returncode, 0)
         self.assertEqual(self.asked()[3], "install -q -y --no-install-recommends aapt dexdump python3-jsonschema "
-                         "python3-sarif-python-om chromium nginx-light sqlite3 openssl")
+                         "python3-sarif-python-om chromium nginx-light sqlite3 openssl systemd default-jdk-headless")
+
+    def test_a_package_whose_command_is_there_is_not_installed(self) -> None:
+        self.command("javap", "#!/bin/sh\n")
+        self.assertEqual(self.run_setup("--tests").returncode, 0)
+        self.assertIn(" systemd", self.asked()[1])
+        self.assertNotIn("jdk", self.asked()[1])
 
     def test_where_all_is_there_nothing_is_installed(self) -> None:
         (self.folder / "has").write_text("androguard\n")
