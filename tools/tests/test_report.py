@@ -91,10 +91,11 @@ class Asking(ToolCase):
         self.assertIn("vet was ended by the signal 9 and gave no report", done.stderr)
 
     def test_words_that_are_no_command_end_with_none_of_the_answers(self) -> None:
-        for tool, *words in (("explain",), ("page", "app"), ("sarif", "app", "--workers", "17"), ("coverage", "app")):
+        for tool, *words in (("explain",), ("page", "app"), ("sarif", "app", "--workers", "17"), ("coverage", "app"),
+                             ("unpack", "app.apk"), ("make_lists", "lists"), ("reviewer", "--port", "none", "office")):
             done = self.run_tool(tool, *words)
             self.assertEqual((done.returncode, done.stdout), (4, ""), tool)
-            self.assertIn(f"tools/{tool}: error: ", done.stderr)
+            self.assertIn(f"tools/{tool.replace('_', '-')}: error: ", done.stderr)
 
     def test_where_androguard_is_missing_the_package_setup_is_named(self) -> None:
         # With -S Python does not look where Debian's packages of Python are.

@@ -458,7 +458,7 @@ class CommandTest(UnpackTest):
 
     def test_wrong_words_are_usage(self) -> None:
         run = subprocess.run([str(ROOT / "tools" / "unpack")], capture_output=True, text=True, check=False)
-        self.assertEqual(2, run.returncode)
+        self.assertEqual(4, run.returncode)
         self.assertIn("usage: tools/unpack", run.stderr)
 
     def test_the_command_makes_the_folder(self) -> None:

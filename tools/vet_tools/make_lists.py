@@ -7,6 +7,7 @@ import zipfile
 from pathlib import Path
 
 from vet_tools import lists_lint
+from vet_tools.command import Words
 from vet_tools.lists_javap import NoJavap
 from vet_tools.lists_lint import Fault
 from vet_tools.lists_model import TableFault, Tables
@@ -24,14 +25,14 @@ example:
   tools/make-lists --lint                   only looks for faults in the tables
   tools/make-lists --lint --jar android.jar also against the classes of an SDK
 
-status: 0 made, or no fault; 1 a fault, each with the line of the table that is to be mended
+status: 0 made, or no fault; 1 a fault, each with the line of the table that is to be mended; 4 no command
 """
 
 
 def arguments(words: list[str] | None) -> argparse.Namespace:
     """The words of the command."""
-    parser = argparse.ArgumentParser(prog="tools/make-lists", description=__doc__, epilog=EXAMPLE,
-                                     formatter_class=argparse.RawDescriptionHelpFormatter)
+    parser = Words(prog="tools/make-lists", description=__doc__, epilog=EXAMPLE,
+                   formatter_class=argparse.RawDescriptionHelpFormatter)
     parser.add_argument("--tables", type=Path, default=TOP / "lists", help="the folder of the tables")
     parser.add_argument("-o", "--output", type=Path, help="where the form goes (android.toml beside the tables)")
     parser.add_argument("--lint", action="store_true", help="look for faults and write nothing")

@@ -13,6 +13,7 @@ from collections.abc import Iterator
 from contextlib import contextmanager
 from pathlib import Path
 
+from vet_tools.command import Words
 from vet_tools.desk_client import Desk
 from vet_tools.office import Office, OfficeError, read_office
 from vet_tools.reviewer_apps import AppPages
@@ -32,7 +33,7 @@ this machine and nowhere else. Whoever runs this has to be able to read OFFICE/d
 (sudo -u vet tools/reviewer /var/lib/vet). Cases are read from a copy, in a folder that goes when this ends (TMPDIR says
 where); what is done is asked of the desk, which is the one to say yes or no.
 
-exit status: 0 when it was ended, 1 where it could not begin.
+exit status: 0 when it was ended, 1 where it could not begin, 4 where these words are no command.
 """
 
 
@@ -42,9 +43,9 @@ class NoStart(Exception):
 
 def parser() -> argparse.ArgumentParser:
     """The words of the command line."""
-    made = argparse.ArgumentParser(
-        "reviewer", description="A page on this machine for a reviewer: the queue, reports, appeals, rulings.",
-        epilog=EXAMPLE, formatter_class=argparse.RawDescriptionHelpFormatter,
+    made = Words(
+        prog="tools/reviewer", epilog=EXAMPLE, formatter_class=argparse.RawDescriptionHelpFormatter,
+        description="A page on this machine for a reviewer: the queue, reports, appeals, rulings.",
     )
     made.add_argument("office", metavar="OFFICE", type=Path, help="the folder of the office, as `vet serve` has it")
     made.add_argument("--token-file", metavar="FILE", type=Path, help="a file whose first line is your token")

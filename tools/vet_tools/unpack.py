@@ -19,6 +19,7 @@ from vet_tools.apk_archive import Archive, Contents
 from vet_tools.app_classes import classes_of
 from vet_tools.app_layouts import AppNames, Layout
 from vet_tools.app_manifest import Manifest, read_manifest
+from vet_tools.command import Words
 from vet_tools.named_classes import named_classes
 from vet_tools.progress import Progress
 from vet_tools.refusal import Refusal, readable
@@ -35,7 +36,7 @@ EXAMPLE = """example:
   ./vet check shop 4                  judges it
 
 The folder gets an empty declaration, by which no flow is declared, where none is handed in. Exit status: 0 where the
-folder was made, 1 where not."""
+folder was made, 1 where not, 4 where these words are no command."""
 
 
 @dataclass
@@ -183,8 +184,8 @@ def summary(app: App, target: Path) -> str:
 
 def arguments(words: list[str] | None) -> argparse.Namespace:
     """The words of the command, read."""
-    parser = argparse.ArgumentParser(prog="tools/unpack", epilog=EXAMPLE, description=(__doc__ or "").split("\n\n")[0],
-                                     formatter_class=argparse.RawDescriptionHelpFormatter)
+    parser = Words(prog="tools/unpack", epilog=EXAMPLE, description=(__doc__ or "").split("\n\n")[0],
+                   formatter_class=argparse.RawDescriptionHelpFormatter)
     parser.add_argument("apk", metavar="APK", type=Path, help="the app, an APK file")
     parser.add_argument("folder", metavar="DIR", type=Path, help="the folder to make; it must not be there yet")
     parser.add_argument("--lists", metavar="FILE", type=Path,
