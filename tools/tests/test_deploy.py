@@ -286,7 +286,22 @@ def damaged() -> bytes:
 
 
 class Readme(unittest.TestCase):
-    """deploy/README.md names what is there."""
+    """deploy/README.md names what is there, and what it copies is enough."""
+
+    def test_a_page_is_made_where_its_lines_have_put_program_and_tools(self) -> None:
+        made = tempfile.TemporaryDirectory()
+        self.addCleanup(made.cleanup)
+        folder = Path(made.name)
+        (folder / "program").write_text("#!/bin/sh\necho clear\n")
+        lines = [line for line in (DEPLOY / "README.md").read_text().splitlines()
+                 if re.fullmatch(r"    (install -D|cp -r|ln -s) .* /opt/vet/\S*", line)]
+        self.assertEqual(len(lines), 3)
+        text = "\n".join(lines).replace("/opt/vet", f"{folder}/opt").replace("crates/vet/out/vet", f"{folder}/program")
+        subprocess.run(["bash", "-e", "-c", text], cwd=TOP, check=True)
+        words = [str(folder / "opt/tools/page"), str(TOP / "examples/declared"), "-o", str(folder / "app.html")]
+        done = subprocess.run(words, capture_output=True, text=True, env={"PATH": "/usr/bin:/bin"})
+        self.assertEqual(done.returncode, 0, done.stderr)
+        self.assertIn("<h1>Report on", (folder / "app.html").read_text())
 
     def test_it_names_each_file_and_no_other_one(self) -> None:
         text = (DEPLOY / "README.md").read_text()
