@@ -1,4 +1,5 @@
 pub mod Gathered
+pub mod Judging
 pub mod Rows
 pub mod Sought
 pub mod Sound

@@ -1,5 +1,6 @@
 pub mod FolderFacts
 pub mod GroundFacts
+pub mod JudgingFacts
 pub mod Office
 pub mod OutcomeFacts
 pub mod RowFacts

@@ -1,11 +1,12 @@
-//! Small facts that show what is told of an app: its findings and causes, the files of its folder, the
-//! rows with which its table starts and which it can have, and how rows are looked for. Each is a
-//! theorem over the definitions that the clauses of the code name, so that code which answers otherwise
-//! is refused.
+//! Small facts that show what is told of an app: its findings and causes, the files of its folder, what
+//! its parts do not come to, the rows with which its table starts and which it can have, and how rows
+//! are looked for. Each is a theorem over the definitions that the clauses of the code name, so that
+//! code which answers otherwise is refused.
 #![tactic(auto)]
 
 ghost use Rattle.answer_witness.specs.FolderFacts.{FolderIsGathered};
 ghost use Rattle.answer_witness.specs.GroundFacts.{RowsAreSought};
+ghost use Rattle.answer_witness.specs.JudgingFacts.{PartsAreJudged};
 ghost use Rattle.answer_witness.specs.OutcomeFacts.{OutcomesAreTold};
 ghost use Rattle.answer_witness.specs.RowFacts.{RowsAreOfTheApp, StartsAreThere};
 
@@ -28,4 +29,9 @@ pub fn rows_are_of_the_app()
 /// A search comes to each row, the least conclusion is kept, and a label is stored by a cut path.
 pub fn rows_are_sought()
     ensures { RowsAreSought }
+{}
+
+/// Parts are judged the manifest first, by all their DEX files, and with the table of the app.
+pub fn parts_are_judged()
+    ensures { PartsAreJudged }
 {}

@@ -1,3 +1,4 @@
+pub mod CaseFacts
 pub mod DiskFacts
 pub mod KeeperFacts
 pub mod LogFacts

@@ -1,0 +1,2 @@
+pub mod RowsKept
+pub mod Searches
