@@ -30,10 +30,16 @@ TOKENS = {
 
 
 def free_port() -> int:
-    """A port that nobody listens on."""
-    with socket.socket() as drawn:
-        drawn.bind(("127.0.0.1", 0))
-        return drawn.getsockname()[1]
+    """A port that nobody listens on, and that no other process is given until this one ends.
+
+    The socket stays bound and never listens: a desk that names the port may listen there, and no port is drawn twice.
+    """
+    held = socket.socket()
+    held.setsockopt(socket.SOL_SOCKET, socket.SO_REUSEADDR, 1)
+    held.bind(("127.0.0.1", 0))
+    port = held.getsockname()[1]
+    held.detach()
+    return port
 
 
 def wait_for_port(port: int, process: subprocess.Popen[bytes]) -> None:

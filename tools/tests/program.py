@@ -1,7 +1,7 @@
 """The program `vet` as the tests run it: what `./vet` at the top keeps, proved where that is built, and else unproved.
 
-Building it unproved takes two or three minutes. It begins when this module is imported, so that it goes on beside the
-tests which need no program; those that do have names `test_vet_*` and so come last.
+Building it unproved takes two or three minutes and begins when this module is imported. Only one process may build, so
+`python3 -m tests` has it done before the modules begin that import this one.
 """
 from __future__ import annotations
 

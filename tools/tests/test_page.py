@@ -206,7 +206,7 @@ class InABrowser(ToolCase):
             done = subprocess.run(
                 ["chromium", "--headless", "--no-sandbox", "--disable-gpu", f"--user-data-dir={self.folder / 'chrome'}",
                  "--dump-dom", f"http://127.0.0.1:{server.server_address[1]}/app.html"],
-                capture_output=True, text=True, timeout=50, check=True)
+                capture_output=True, text=True, timeout=240, check=True)
             server.shutdown()
         page = Page(done.stdout)
         shown = "".join(page.text)
