@@ -6,7 +6,7 @@ use Rattle.dex_tables.specs.declared.dex.RawTry.{RawTry}
 use Rattle.dex_code.specs.declared.decoder.Counts.{Counts}
 use Rattle.dex_code.specs.declared.decoder.Decoded.{Decoded}
 use Rattle.dex_code.specs.declared.fault.CodeFault.TheVariants.{Index, Payload, Register, Target}
-use Rattle.dex_code.specs.declared.insn.Insn.TheVariants.{F10x, F23x, F31t, Packed, Filled}
+use Rattle.dex_code.specs.declared.insn.Insn.TheVariants.{F10x, F23x, F30t, F31t, Packed, Filled}
 use Rattle.dex_code.specs.Code.{FirstFault, IsCode}
 use Rattle.dex_code.specs.Lines.{Line}
 
@@ -34,6 +34,14 @@ switch = method 1 (0x2B ∷ 4 ∷ 0 ∷ 0x0E ∷ 0x100 ∷ 1 ∷ 0 ∷ 0 ∷ 3 �
 abbrev pub other_table : RawCode
 other_table = method 1 (0x2B ∷ 4 ∷ 0 ∷ 0x0E ∷ 0x200 ∷ 0 ∷ []) []
 
+-- `goto/32` to itself
+abbrev pub round : RawCode
+round = method 2 (0x2A ∷ 0 ∷ 0 ∷ []) []
+
+-- two `packed-switch v0` by one table of two entries; `return-void`; a `nop` that is padding; the table
+abbrev pub sharing : RawCode
+sharing = method 2 (0x2B ∷ 8 ∷ 0 ∷ 0x2B ∷ 5 ∷ 0 ∷ 0x0E ∷ 0 ∷ 0x100 ∷ 2 ∷ 0 ∷ 0 ∷ 3 ∷ 0 ∷ 3 ∷ 0 ∷ []) []
+
 -- `goto/16`, which goes one unit on, into itself; `return-void`
 abbrev pub inward : RawCode
 inward = method 1 (0x29 ∷ 1 ∷ 0x0E ∷ []) []
@@ -55,6 +63,10 @@ pub record CodesAreTold : Type 0 where
   pub comes_to_padding : IsCode padded bare (untried ((0, F10x 0x0E) ∷ (1, F10x 0) ∷ (2, Filled 0 0) ∷ []))
   -- the distances of a table count from the switch (else 3 units from the table on there is no instruction, and the target is wrong)
   pub from_the_switch : IsCode switch bare (untried ((0, F31t 0x2B 0 4) ∷ (3, F10x 0x0E) ∷ (4, Packed (pos 0) (pos 3 ∷ [])) ∷ []))
+  -- a branch may go to itself (else it would fall off)
+  pub goes_round : IsCode round bare (untried ((0, F30t 0x2A 0) ∷ []))
+  -- two switches may go by one table, and each distance counts from the switch (else the second would have no table)
+  pub shares_table : IsCode sharing bare (untried ((0, F31t 0x2B 0 8) ∷ (3, F31t 0x2B 0 8) ∷ (6, F10x 0x0E) ∷ (7, F10x 0) ∷ (8, Packed (pos 0) (pos 3 ∷ pos 3 ∷ [])) ∷ []))
   -- the distance of a shift is one register, here the last (else it would be a pair, and v5 not there)
   pub short_distance : IsCode shift bare (untried ((0, F23x 0xA3 0 2 4) ∷ (2, F10x 0x0E) ∷ []))
   -- a table of another kind is none of the switch (else it would be code)

@@ -1,9 +1,7 @@
-//! Tests of opcodes, and of DEX files that are made and read back. They stand apart from the crates that they test, which
-//! would be proved once more with them.
+//! Tests of DEX files that are made and read back, and of generated apps. They stand apart from the crates that they
+//! test, which would be proved once more with them.
 #![tactic(auto)]
 
-#[cfg(test)]
-mod of_dalvik_formats;
 #[cfg(test)]
 mod of_dex_round_trip;
 #[cfg(test)]
