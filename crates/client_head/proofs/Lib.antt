@@ -1,0 +1,4 @@
+pub mod Bytes
+pub mod EmptyLines
+pub mod HeadRead
+pub mod Lines
