@@ -1,0 +1,2 @@
+pub mod ReadAs
+pub mod Submissions
