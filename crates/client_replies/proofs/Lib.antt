@@ -1,0 +1,4 @@
+pub mod Answering
+pub mod Numbers
+pub mod OneAnswer
+pub mod Room
