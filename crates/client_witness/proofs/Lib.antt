@@ -1,3 +1,4 @@
 pub mod Answering
+pub mod Requesting
 pub mod Telling
 pub mod Trying
