@@ -28,7 +28,7 @@ use std::sync::Wait;
 use std::thread::Threads;
 use std::time::Clock as SystemClock;
 use vet_base::{Files, Memory, Sink};
-use vet_program::{seed_of, vetted_here, words_from};
+use vet_program::{run_here, seed_of, words_from};
 use vetting_desk::{HostFiles, StandardSink};
 use worker_pool::{Crew, NoLookout};
 
@@ -123,6 +123,6 @@ where
     let seed = seed_of(&rt);
     match served_here(rt, keepers, &words, seed) {
         Some(code) => code,
-        None => vetted_here(rt, &words, seed),
+        None => run_here(rt, &words, seed),
     }
 }
