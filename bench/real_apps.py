@@ -4,7 +4,8 @@
 usage: real_apps.py [--limit SECONDS] [--workers N] [--largest BYTES] [--page FILE] FOLDER
 
 Each APK of the folder, the smallest first, goes through tools/unpack, `./vet check` under lists/android.toml, and,
-where there was an answer with a table, `./vet certify` and tools/coverage. The part of the page between its two marks
+where there was an answer with a table, `./vet certify` and tools/coverage; its report goes through tools/explain and
+tools/page, and where one of them fails the page tells it. The part of the page between its two marks
 is made anew after each app, so what was done stays where the script is stopped. An app whose check takes more than the
 limit (120 seconds) by the clock is stopped, and its row says so; one of more than --largest bytes of DEX is not asked.
 
@@ -65,6 +66,7 @@ class App:
     found: Explanation | None = None
     reached: str = ""
     said: list[str] = field(default_factory=list)
+    not_shown: list[str] = field(default_factory=list)
 
 
 def run(words: list[str], limit: float) -> Ran:
@@ -109,6 +111,19 @@ def answered(app: App, ran: Ran, folder: Path, certificate: Path) -> None:
             app.reached = f"{len(found.reached)} of {found.with_code} ({percent(len(found.reached), found.with_code)})"
 
 
+def not_shown(ran: Ran, folder: Path, certificate: Path, work: Path) -> list[str]:
+    """What tools/explain and tools/page could not do with this report, a sentence each."""
+    (work / "report").write_text(ran.text)
+    words = [str(folder), "--report", str(work / "report")]
+    counted_by = ["--certificate", str(certificate)] if certificate.exists() else []
+    found = []
+    for tool, more in (("explain", []), ("page", ["-o", str(work / "app.html"), *counted_by])):
+        done = subprocess.run([str(TOP / "tools" / tool), *words, *more], capture_output=True, text=True, check=False)
+        if done.returncode != ran.status:
+            found.append(f"status {done.returncode}, {done.stderr.strip()}")
+    return found
+
+
 def judge(apk: Path, words: argparse.Namespace, judges: str, work: Path) -> App:
     """Unpacks and judges one APK."""
     app, folder, certificate = App(apk.stem), work / "app", work / "app.cert"
@@ -127,6 +142,8 @@ def judge(apk: Path, words: argparse.Namespace, judges: str, work: Path) -> App:
     if judges != "unproved" and ran.status in (0, 1, 2) and "\ntoo large: " not in ran.text:
         run(certify, words.limit * 2)
     answered(app, ran, folder, certificate)
+    if app.found:
+        app.not_shown = not_shown(ran, folder, certificate, work)
     return app
 
 
@@ -203,7 +220,10 @@ def made(apps: list[App], words: argparse.Namespace, judges: str) -> str:
     lines += ["", ", ".join(f"{count} {name}" for name, count in outcomes.most_common()) + ".", "",
               f"### Undecided, with at most {FEW} causes", "", *(few(apps) or ["None."])]
     said = [f"- `{app.name}`: {'; '.join(plain(line) for line in app.said)}" for app in apps if app.dex and app.said]
-    return "\n".join([*lines, "", "### What `tools/unpack` could not carry", "", *(said or ["Nothing."])])
+    lines += ["", "### What `tools/unpack` could not carry", "", *(said or ["Nothing."])]
+    hidden = [f"- `{app.name}`: {'; '.join(app.not_shown)}" for app in apps if app.not_shown]
+    lines += ["", "### What `tools/explain` and `tools/page` could not show", "", *(hidden or ["Nothing."])]
+    return "\n".join(lines)
 
 
 def by_size(apk: Path) -> tuple[int, str]:
