@@ -1,5 +1,5 @@
 -- The facts hold by what the definitions say.
-use Rattle.std.proofs.Common.{◌≡◌, false, absurd, refl}
+use Rattle.std.proofs.Common.{◌≡◌, false, refl}
 use Rattle.case_rules.specs.declared.reply.Reply.{Reply}
 use Rattle.case_rules.specs.declared.reply.Reply.TheVariants as replies
 use Rattle.store_office.specs.declared.party.Role.TheVariants.{Developer, Reviewer}
