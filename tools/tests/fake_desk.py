@@ -12,7 +12,7 @@ from collections import Counter
 from collections.abc import Callable
 
 # A reply, as bytes; or what is done with a connection.
-Reply = bytes | Callable[[socket.socket], bytes]
+Reply = bytes | Callable[[socket.socket], None]
 
 
 def reply(status: int, body: bytes = b"{}", *fields: str) -> bytes:
@@ -37,20 +37,11 @@ def taken(connection: socket.socket) -> bytes:
     return bytes(got)
 
 
-def answering(said: bytes) -> Callable[[socket.socket], bytes]:
-    """Takes the request, and says this."""
-    def act(connection: socket.socket) -> bytes:
-        request = taken(connection)
-        connection.sendall(said)
-        return request
-    return act
-
-
-def rash(said: bytes) -> Callable[[socket.socket], bytes]:
+def rash(said: bytes) -> Callable[[socket.socket], None]:
     """Says this before the request is taken."""
-    def act(connection: socket.socket) -> bytes:
+    def act(connection: socket.socket) -> None:
         connection.sendall(said)
-        return taken(connection)
+        taken(connection)
     return act
 
 
@@ -87,15 +78,18 @@ class FakeDesk(Listener):
 
     def __init__(self, *replies: Reply) -> None:
         self._replies = list(replies)
-        # What came on each connection.
+        # The request on each connection to which bytes were said, there before they are.
         self.requests: list[bytes] = []
         super().__init__()
 
     def came(self, connection: socket.socket) -> None:
         with connection:
             said = self._replies.pop(0) if self._replies else b""
-            act = answering(said) if isinstance(said, bytes) else said
-            self.requests.append(act(connection))
+            if isinstance(said, bytes):
+                self.requests.append(taken(connection))
+                connection.sendall(said)
+            else:
+                said(connection)
 
 
 class Proxy(Listener):

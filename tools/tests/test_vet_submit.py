@@ -283,12 +283,11 @@ class Replies(ClientCase):
         self.assertEqual(found, [(10, "no answer after 1 tries\n")] * len(cuts))
 
     def test_a_reply_that_comes_in_pieces(self) -> None:
-        def slow(connection: socket.socket) -> bytes:
-            request = taken(connection)
+        def slow(connection: socket.socket) -> None:
+            taken(connection)
             for byte in reply(201):
                 connection.sendall(bytes([byte]))
                 time.sleep(0.002)
-            return request
         self.assertEqual(self.said(slow)[0], ACCEPTED)
 
     def test_a_reply_before_the_request_is_taken(self) -> None:
@@ -296,11 +295,10 @@ class Replies(ClientCase):
 
     @unittest.skipUnless(os.environ.get("VET_HANGS"), "takes 120 seconds; VET_HANGS=1 waits")
     def test_a_desk_that_hangs_is_given_up(self) -> None:
-        def hangs(connection: socket.socket) -> bytes:
+        def hangs(connection: socket.socket) -> None:
             connection.settimeout(300)
             while connection.recv(1 << 16):
                 pass
-            return b""
         began = time.monotonic()
         self.assertEqual(self.said(hangs)[0], (10, "no answer after 1 tries\n"))
         self.assertAlmostEqual(time.monotonic() - began, 120, delta=10)
