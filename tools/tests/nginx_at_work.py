@@ -88,6 +88,11 @@ class NginxAtWork:
         finally:
             connection.close()
 
-    def logs(self) -> str:
-        """All that it wrote into its logs."""
-        return "".join(file.read_text() for file in sorted(self.folder.glob("*.log")))
+    def logs(self, part: str, count: int) -> str:
+        """All that it wrote into its logs, once this part stands in them so often: it writes after it has replied."""
+        for _ in range(400):
+            text = "".join(file.read_text() for file in sorted(self.folder.glob("*.log")))
+            if text.count(part) >= count:
+                return text
+            time.sleep(0.05)
+        raise AssertionError(f"in vain waited for {part!r} in the logs: {text}")

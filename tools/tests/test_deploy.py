@@ -57,7 +57,7 @@ class BeforeADesk(Nginx):
     def check_logs(self, nginx: NginxAtWork) -> None:
         """The log has each request, and neither tokens nor what stands behind a `?`."""
         nginx.ask("ann", "GET", f"/cases?token={TOKENS['ann']}")
-        logs = nginx.logs()
+        logs = nginx.logs("GET /cases 404", 1)
         self.assertIn("GET /cases/r1 200", logs)
         self.assertIn("POST /rulings 403", logs)
         for token in TOKENS.values():
@@ -181,7 +181,7 @@ class Limits(Nginx):
         self.assertEqual([status for status, _ in replies], [200] * 21 + [429] * 3)
         self.assertEqual(replies[-1][1], b'{"error":"too many requests"}')
         self.assertEqual(len(self.heads), 21)
-        self.assertEqual(nginx.logs().count(" 429 "), 3)
+        self.assertEqual(nginx.logs(" 429 ", 3).count(" 429 "), 3)
 
 
 class Units(unittest.TestCase):
