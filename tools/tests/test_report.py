@@ -19,11 +19,15 @@ class Reading(unittest.TestCase):
             self.assertEqual((report.outcome.status, str(report)), (status, text), name)
 
     def test_a_report_with_all_causes_is_read(self) -> None:
-        report = parse(f"undecided 6\nno summary: {PLACE}\nnative: {PLACE}\nreflective: {PLACE}\nprovider: La/P;\n"
-                       f"layout class: La/V;\ntoo large: 4000000\nsms -> log at {PLACE}\n")
+        report = parse(f"undecided 13\nno summary: {PLACE}\nnative: {PLACE}\nreflective: {PLACE}\nprovider: La/P;\n"
+                       f"layout class: La/V;\ntoo large: 4000000\nhidden: La/B;->go()V\ninterface code: La/I;->go()V\n"
+                       f"platform class: Landroid/A;\nunlisted class: Lb/B;\nlibrary static: {PLACE}\n"
+                       f"click: La/S;->go(Landroid/view/View;)V\nnamed class: La/N;\nsms -> log at {PLACE}\n")
         self.assertEqual([cause.kind for cause in report.causes], list(CauseKind))
         self.assertEqual(report.causes[0], Cause(CauseKind.NO_SUMMARY, Place("La/Main;->go()V", 4), PLACE))
         self.assertEqual(report.causes[5], Cause(CauseKind.TOO_LARGE, None, "4000000"))
+        self.assertEqual(report.causes[6], Cause(CauseKind.HIDDEN, None, "La/B;->go()V"))
+        self.assertEqual(report.causes[10], Cause(CauseKind.LIBRARY_STATIC, Place("La/Main;->go()V", 4), PLACE))
         self.assertEqual(report.findings, (Finding("sms", "log", Place("La/Main;->go()V", 4)),))
 
     def test_a_refusal_has_its_part_and_its_reason(self) -> None:

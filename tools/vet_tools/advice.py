@@ -82,6 +82,37 @@ CAUSES: dict[CauseKind, Advice] = {
         "More facts follow than the LIMIT of rows in the lists.",
         "Make the app smaller, for instance by leaving unused code out.",
         "Raise rows, up to 4,000,000, and run again."),
+    CauseKind.HIDDEN: Advice(
+        "A class further up has a method of this name and descriptor, which a device runs in its place; the machine "
+        "takes this one.",
+        "Give the method another name, or make it a public one that overrides the other.",
+        "Read what the method further up does."),
+    CauseKind.INTERFACE_CODE: Advice(
+        "The method stands with code in an interface; the machine looks for code in classes alone.",
+        "Build with a min-api below 24, or move the code into a class.",
+        "Read the method, and who has it from the interface."),
+    CauseKind.PLATFORM_CLASS: Advice(
+        "The class has a name of the platform, whose own class a device takes.",
+        "Give the class a name of your own; what comes with a support library is for the office to list as bundled.",
+        "Find out whether devices have a class of this name; if none has, add the beginning to bundled."),
+    CauseKind.UNLISTED_CLASS: Advice(
+        "A class of the app is below CLASS, of which the lists say nothing, not even what is above it.",
+        "Ask for the class to be listed.",
+        "Add a class entry with its parents; it needs no default and no rows."),
+    CauseKind.LIBRARY_STATIC: Advice(
+        "The instruction there puts to a static field of a library class, or gets one that is not listed.",
+        "Do without the field.",
+        "For one that is got: find out what it holds, and add a [[static]] row where no app can write it. One that is"
+        " put has no row; review by hand."),
+    CauseKind.CLICK: Advice(
+        "A click may come to the method on what is no activity, or from a menu; in the machine none does.",
+        "Set a listener in code.",
+        "Add a callback row for the method, or review by hand."),
+    CauseKind.NAMED_CLASS: Advice(
+        "Another attribute of the manifest or a resource file names the class; what the system does with it is not "
+        "modelled.",
+        "Do without the attribute.",
+        "Review the class by hand."),
 }
 
 _REFUSALS: list[tuple[str, Mend]] = [

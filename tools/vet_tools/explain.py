@@ -15,7 +15,14 @@ WIDTH = 118
 KEPT = "The answer is that of vet, passed on as it is; what stands here is where to look."
 HEADS = {CauseKind.NATIVE: "native code", CauseKind.REFLECTIVE: "methods chosen by name",
          CauseKind.PROVIDER: "content providers", CauseKind.LAYOUT_CLASS: "classes of the app in layouts",
-         CauseKind.TOO_LARGE: "more facts than the lists allow"}
+         CauseKind.TOO_LARGE: "more facts than the lists allow",
+         CauseKind.HIDDEN: "methods in whose place one further up runs",
+         CauseKind.INTERFACE_CODE: "methods of interfaces with code",
+         CauseKind.PLATFORM_CLASS: "classes with names of the platform",
+         CauseKind.UNLISTED_CLASS: "classes above the app's that the lists do not have",
+         CauseKind.LIBRARY_STATIC: "static fields of the library",
+         CauseKind.CLICK: "clicks that the machine does not bring",
+         CauseKind.NAMED_CLASS: "classes of the app that are named elsewhere"}
 
 
 def missing_title(group: MissingClass) -> tuple[str, str]:

@@ -49,16 +49,23 @@ class Outcome(Enum):
 
 
 class CauseKind(Enum):
-    """The six causes, in the order in which a report has them."""
+    """The causes, in the order in which a report has them."""
     NO_SUMMARY = "no summary"
     NATIVE = "native"
     REFLECTIVE = "reflective"
     PROVIDER = "provider"
     LAYOUT_CLASS = "layout class"
     TOO_LARGE = "too large"
+    HIDDEN = "hidden"
+    INTERFACE_CODE = "interface code"
+    PLATFORM_CLASS = "platform class"
+    UNLISTED_CLASS = "unlisted class"
+    LIBRARY_STATIC = "library static"
+    CLICK = "click"
+    NAMED_CLASS = "named class"
 
 
-PLACED = (CauseKind.NO_SUMMARY, CauseKind.NATIVE, CauseKind.REFLECTIVE)
+PLACED = (CauseKind.NO_SUMMARY, CauseKind.NATIVE, CauseKind.REFLECTIVE, CauseKind.LIBRARY_STATIC)
 
 
 @dataclass(frozen=True)
@@ -73,7 +80,7 @@ class Place:
 
 @dataclass(frozen=True)
 class Cause:
-    """A line of `undecided`. Of the first three kinds it has a place, of the others a name or a number."""
+    """A line of `undecided`. Of the kinds in `PLACED` it has a place, of the others a name or a number."""
     kind: CauseKind
     place: Place | None
     subject: str

@@ -20,7 +20,9 @@ from vet_tools.report import Cause, CauseKind, Finding, NoReport, Outcome, Place
 
 SCHEMA = "https://docs.oasis-open.org/sarif/sarif/v2.1.0/errata01/os/schemas/sarif-schema-2.1.0.json"
 FLOW = "undeclared-flow"
-FILES = {CauseKind.PROVIDER: "manifest.toml", CauseKind.LAYOUT_CLASS: "layouts.toml", CauseKind.TOO_LARGE: "lists.toml"}
+FILES = {CauseKind.PROVIDER: "manifest.toml", CauseKind.LAYOUT_CLASS: "layouts.toml", CauseKind.TOO_LARGE: "lists.toml",
+         CauseKind.HIDDEN: "classes.dex", CauseKind.INTERFACE_CODE: "classes.dex", CauseKind.PLATFORM_CLASS: "classes.dex",
+         CauseKind.UNLISTED_CLASS: "lists.toml", CauseKind.CLICK: "classes.dex", CauseKind.NAMED_CLASS: "manifest.toml"}
 
 Json = dict[str, Any]
 

@@ -94,7 +94,7 @@ holds_gathered : (held : Held) (dir : List ℕ) (gathered : Result Parts Refusal
 holds_gathered held dir gathered parts (Gathers.no_manifest refusal is) e = absurd cc
 holds_gathered held dir gathered parts (Gathers.bad_manifest text fault is bad) e = absurd cc
 holds_gathered held dir gathered parts (Gathers.others text manifest same is form rest) e =
-    let h = parts_held held dir text manifest.dex_files parts (rest ∙ e) in
+    let h = parts_held held dir text manifest.manifest.dex_files parts (rest ∙ e) in
     let File : List ℕ → Type 0 = λ t. IsFile held dir manifest_part t in
     let Form : List ℕ → Type 0 = λ t. IsForm manifest_form t manifest in
     record {

@@ -3,7 +3,7 @@ use Rattle.std.proofs.Common.{◌≡◌, ℕ, List, Option, Result, Ok, Err, ref
 use Rattle.std.specs.Prelude.{IsTrue, is_some}
 use Rattle.vet_base.specs.Outside.{Told, held_by}
 use Rattle.vet_base.specs.Script.{run}
-use Rattle.app_machine.specs.declared.papers.Manifest.{Manifest}
+use Rattle.office_forms.specs.declared.manifest.AppManifest.{AppManifest}
 use Rattle.form_fields.specs.declared.told.FormFault.{FormFault}
 use Rattle.form_fields.specs.Form.{IsForm, FirstFormFault}
 use Rattle.office_forms.specs.Manifest.{manifest_form}
@@ -25,14 +25,14 @@ module _ (forms : OneFormOrFault) (held : Held) (dir : List ℕ) where
   no_text : (refusal : Refusal) (text : List ℕ) → run (part_at held dir manifest_part) ≡ Err refusal → run (part_at held dir manifest_part) ≡ Ok text → ⊥
   no_text refusal text a b = ok_or_err (run (part_at held dir manifest_part)) text refusal b a
 
-  form_as : (text seen : List ℕ) (m : Manifest) → text ≡ seen → IsForm manifest_form text m → IsForm manifest_form seen m
+  form_as : (text seen : List ℕ) (m : AppManifest) → text ≡ seen → IsForm manifest_form text m → IsForm manifest_form seen m
   form_as text seen m same is = subst (λ (t : List ℕ). IsForm manifest_form t m) same is
 
   fault_as : (text seen : List ℕ) (e : FormFault) → text ≡ seen → FirstFormFault manifest_form text e → FirstFormFault manifest_form seen e
   fault_as text seen e same first = subst (λ (t : List ℕ). FirstFormFault manifest_form t e) same first
 
-  same_others : (text seen : List ℕ) (m n : Manifest) → text ≡ seen → m ≡ n → run (parts_at held dir text m.dex_files) ≡ run (parts_at held dir seen n.dex_files)
-  same_others text seen m n same one = ap (λ (t : List ℕ). run (parts_at held dir t m.dex_files)) same ∙ ap (λ (k : Manifest). run (parts_at held dir seen k.dex_files)) one
+  same_others : (text seen : List ℕ) (m n : AppManifest) → text ≡ seen → m ≡ n → run (parts_at held dir text m.manifest.dex_files) ≡ run (parts_at held dir seen n.manifest.dex_files)
+  same_others text seen m n same one = ap (λ (t : List ℕ). run (parts_at held dir t m.manifest.dex_files)) same ∙ ap (λ (k : AppManifest). run (parts_at held dir seen k.manifest.dex_files)) one
 
   one_gathered : (a b : Result Parts Refusal) → Gathers held dir a → Gathers held dir b → a ≡ b
   one_gathered _ _ (no_manifest r first) (no_manifest s second) = ap (λ (x : Refusal). Err x) (one_err (run (part_at held dir manifest_part)) r s first second)

@@ -1,7 +1,7 @@
 -- The files of a folder, and what they give: the parts of an app, or the first refusal.
 use Rattle.std.specs.Prelude.{◌≡◌, ◌≢◌, ℕ, ◌+◌, ◌≤◌, false, nat_le, List, [], ◌∷◌, ◌++◌, length, Option, Some, None, Result, Ok, Err, codes}
 use Rattle.vet_base.specs.Script.{Script, Value, Test, ◌>>=◌, run, rows}
-use Rattle.app_machine.specs.declared.papers.Manifest.{Manifest}
+use Rattle.office_forms.specs.declared.manifest.AppManifest.{AppManifest}
 use Rattle.form_fields.specs.declared.told.FormFault.{FormFault}
 use Rattle.form_fields.specs.Form.{IsForm, FirstFormFault}
 use Rattle.office_forms.specs.Manifest.{manifest_form}
@@ -60,8 +60,8 @@ parts_at held dir manifest count = do
 pub data Gathers (held : Held) (dir : List ℕ) : Result Parts Refusal → Type 0 where
   no_manifest : (refusal : Refusal) → run (part_at held dir manifest_part) ≡ Err refusal → Gathers held dir (Err refusal)
   bad_manifest : (text : List ℕ) (fault : FormFault) → run (part_at held dir manifest_part) ≡ Ok text → FirstFormFault manifest_form text fault → Gathers held dir (Err (manifest_part, Form fault))
-  others : (text : List ℕ) (manifest : Manifest) (gathered : Result Parts Refusal) → run (part_at held dir manifest_part) ≡ Ok text → IsForm manifest_form text manifest →
-      run (parts_at held dir text manifest.dex_files) ≡ gathered → Gathers held dir gathered
+  others : (text : List ℕ) (m : AppManifest) (gathered : Result Parts Refusal) → run (part_at held dir manifest_part) ≡ Ok text → IsForm manifest_form text m →
+      run (parts_at held dir text m.manifest.dex_files) ≡ gathered → Gathers held dir gathered
 
 -- the file of the part holds these bytes
 pub record IsFile (held : Held) (dir : List ℕ) (part : Part) (bytes : List ℕ) : Type 0 where
@@ -79,7 +79,7 @@ pub record Holds (held : Held) (dir : List ℕ) (parts : Parts) : Type 0 where
   pub layouts : IsFile held dir Layouts parts.layouts
   pub declaration : IsFile held dir Declaration parts.declaration
   pub lists : IsFile held dir Lists parts.lists
-  pub says : Manifest
+  pub says : AppManifest
   pub form : IsForm manifest_form parts.manifest says
-  pub count : length parts.dex ≡ says.dex_files
+  pub count : length parts.dex ≡ says.manifest.dex_files
   pub dex : AreDexFiles held dir 0 parts.dex

@@ -7,7 +7,7 @@ use Rattle.vet_base.specs.Script.{Script, run, Fails}
 use Rattle.vet_base.specs.declared.outside.FailedCall.TheVariants.{Read}
 use Rattle.vet_base.specs.declared.stop.Stop.{Stop}
 use Rattle.vet_base.specs.declared.stop.Stop.TheVariants as stops
-use Rattle.app_machine.specs.declared.papers.Manifest.{Manifest}
+use Rattle.office_forms.specs.declared.manifest.AppManifest.{AppManifest}
 use Rattle.form_fields.specs.declared.told.FormFault.{FormFault}
 use Rattle.form_fields.specs.Form.{IsForm, FirstFormFault}
 use Rattle.office_forms.specs.Manifest.{manifest_form}
@@ -69,7 +69,7 @@ FailsAt IsName (Err Memory) = Unit {0}
 
 -- the manifest says so many DEX files, or is not of its form
 abbrev pub CountsDex : List ℕ → Result ℕ Halt → Type 0
-CountsDex text (Ok count) = (manifest : Manifest) × IsForm manifest_form text manifest × (manifest.dex_files ≡ count)
+CountsDex text (Ok count) = (m : AppManifest) × IsForm manifest_form text m × (m.manifest.dex_files ≡ count)
 CountsDex text (Err (Refused part reason)) = (fault : FormFault) × FirstFormFault manifest_form text fault × (part ≡ parts.Manifest) × (reason ≡ Form fault)
 CountsDex text (Err (ReadFault name)) = ⊥
 CountsDex text (Err Memory) = Unit {0}

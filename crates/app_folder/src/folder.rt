@@ -132,7 +132,7 @@ fn dex_count(alloc: Global, manifest: &[u8]) -> Result<u32, Halt>
     ensures { CountsDex manifest.now result }
 {
     match read_manifest(alloc, manifest) {
-        Ok(manifest) => Ok(manifest.dex_files),
+        Ok(manifest) => Ok(manifest.manifest.dex_files),
         Err(FormFault::Memory) => Err(Halt::Memory),
         Err(fault) => Err(Halt::Refused(Part::Manifest, Reason::Form(fault))),
     }

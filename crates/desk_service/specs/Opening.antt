@@ -4,7 +4,7 @@ use Rattle.std.specs.declared.alloc.Global.{Global}
 use Rattle.sha2.specs.Sha256.{sha256}
 use Rattle.vet_base.specs.Outside.{HasRisen, Told, held_by}
 use Rattle.vet_base.specs.declared.outside.FailedCall.TheVariants.{Read}
-use Rattle.app_machine.specs.declared.lists.Lists.{Lists as SaidLists}
+use Rattle.store_lists.specs.declared.lists.StoreLists.{StoreLists as SaidLists}
 use Rattle.store_office.specs.declared.office.Office.{Office as SaidOffice}
 use Rattle.desk_serving.specs.declared.judge.Desk.{Desk}
 use Rattle.form_fields.specs.declared.told.FormFault.{FormFault}

@@ -11,4 +11,4 @@ mod serving;
 pub use judge::{Desk, Judge, Judged};
 pub use obeying::obey;
 pub use run::serve_door;
-pub use serving::{Served, serve_one};
+pub use serving::{Served, serve_one, unasked};

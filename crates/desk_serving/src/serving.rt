@@ -80,8 +80,9 @@ fn answered<K: Keeper, L: Link, J: Judge>(
     sent(alloc, link, &due)
 }
 
-/// How a connection went where nothing was asked and nothing is to be answered.
-fn unasked(request: &Result<Asked, HttpFault>) -> Option<Served>
+/// How a connection went where nothing was asked and nothing is to be answered: it ended before anything came, or a
+/// read failed. None where there is a request to answer, or a fault to reply to.
+pub fn unasked(request: &Result<Asked, HttpFault>) -> Option<Served>
     ensures { result ≡ unasked request.now }
 {
     match request {

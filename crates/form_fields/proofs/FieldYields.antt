@@ -11,7 +11,7 @@ use Rattle.form_fields.specs.declared.spelling.Spelling.{Spelling}
 use Rattle.form_fields.specs.declared.shape.Shape.TheVariants as shape
 use Rattle.form_fields.specs.Shape.{all_have}
 use Rattle.form_fields.specs.Tree.{items_in}
-use Rattle.form_fields.specs.Fields.{at_key, number_due, number_at, texts_in, all_fit, texts_due, texts_at, tables_among, tables_in, tables_at}
+use Rattle.form_fields.specs.Fields.{at_key, number_due, number_at, texts_in, all_fit, texts_due, texts_at, texts_free, maybe_texts_at, tables_among, tables_in, tables_at}
 use Rattle.form_fields.proofs.Yields.{Yields, yields_value, yields_tested, yields_never, yields_past}
 
 due_within : (s : Section) (k : Key) (low high : ℕ) (o : Option Data) → Yields (λ n. (low ≤ n) × (n ≤ high)) (number_due s k low high o)
@@ -58,3 +58,11 @@ texts_due_few s k spelling most (Some d) =
 pub texts_few : (s : Section) (k : Key) (spelling : Spelling) (most : ℕ) (t : Members) → Yields (λ ns. length ns ≤ most) (texts_at s k spelling most t)
 unfolding texts_at
 texts_few s k spelling most t = texts_due_few s k spelling most (at_key k t)
+
+free_few : (s : Section) (k : Key) (spelling : Spelling) (most : ℕ) (o : Option Data) → Yields (λ ns. length ns ≤ most) (texts_free s k spelling most o)
+free_few s k spelling most None = yields_value _ [] (omega arith)
+free_few s k spelling most (Some d) = texts_due_few s k spelling most (Some d)
+
+pub maybe_texts_few : (s : Section) (k : Key) (spelling : Spelling) (most : ℕ) (t : Members) → Yields (λ ns. length ns ≤ most) (maybe_texts_at s k spelling most t)
+unfolding maybe_texts_at
+maybe_texts_few s k spelling most t = free_few s k spelling most (at_key k t)

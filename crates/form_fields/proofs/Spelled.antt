@@ -2,7 +2,7 @@
 use Rattle.std.proofs.Common.{◌≡◌, ℕ, Bool, true, false, cond, List, [], ◌∷◌, ◌++◌, length, Option, Some, None, IfSome}
 use Rattle.std.specs.Prelude.{IsTrue, nat_le, is_some}
 use Rattle.std.specs.List.{All}
-use Rattle.std.proofs.lemmas.List.Elements.{All-push, All-head, All-tail}
+use Rattle.std.proofs.lemmas.List.Elements.{All-nil, All-push, All-head, All-tail}
 use Rattle.std.proofs.lemmas.List.Sums.{AllPass-from_list_all}
 use Rattle.toml.specs.Data.{Data, string, integer, float, boolean, datetime, array, table, Members}
 use Rattle.vet_base.specs.Script.{test}
@@ -14,7 +14,7 @@ use Rattle.form_fields.specs.declared.spelling.Spelling.{Spelling}
 use Rattle.form_fields.specs.Spelling.{fits}
 use Rattle.form_fields.specs.Places.{place_of}
 use Rattle.form_fields.specs.Once.{with_one, with_new}
-use Rattle.form_fields.specs.Fields.{at_key, text_in, text_of_value, text_due, text_at, text_free, maybe_text_at, texts_in, all_fit, texts_due, texts_at}
+use Rattle.form_fields.specs.Fields.{at_key, text_in, text_of_value, text_due, text_at, text_free, maybe_text_at, texts_in, all_fit, texts_due, texts_at, texts_free, maybe_texts_at}
 use Rattle.form_fields.proofs.Yields.{Yields, yields_value, yields_test, yields_tested, yields_never, yields_then, yields_past}
 
 abbrev pub Fits : Spelling → Name → Type 0
@@ -63,6 +63,14 @@ texts_due_fit s k spelling most (Some d) =
 pub texts_fit : (s : Section) (k : Key) (spelling : Spelling) (most : ℕ) (t : Members) → Yields (All (Fits spelling)) (texts_at s k spelling most t)
 unfolding texts_at
 texts_fit s k spelling most t = texts_due_fit s k spelling most (at_key k t)
+
+free_texts_fit : (s : Section) (k : Key) (spelling : Spelling) (most : ℕ) (o : Option Data) → Yields (All (Fits spelling)) (texts_free s k spelling most o)
+free_texts_fit s k spelling most None = yields_value _ [] (All-nil (Fits spelling))
+free_texts_fit s k spelling most (Some d) = texts_due_fit s k spelling most (Some d)
+
+pub maybe_texts_fit : (s : Section) (k : Key) (spelling : Spelling) (most : ℕ) (t : Members) → Yields (All (Fits spelling)) (maybe_texts_at s k spelling most t)
+unfolding maybe_texts_at
+maybe_texts_fit s k spelling most t = free_texts_fit s k spelling most (at_key k t)
 
 -- what holds of some names and of those of a list holds of both together
 module _ (P : Name → Type 0) where

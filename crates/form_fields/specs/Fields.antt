@@ -113,6 +113,14 @@ texts_due s k spelling most (Some d) = do
 unfoldable pub texts_at : Section → Key → Spelling → ℕ → Members → Script Fault (List Name)
 texts_at s k spelling most t = texts_due s k spelling most (at_key k t)
 
+-- such a list, which may be missing: then it has none
+abbrev pub texts_free : Section → Key → Spelling → ℕ → Option Data → Script Fault (List Name)
+texts_free s k spelling most None = Value []
+texts_free s k spelling most (Some d) = texts_due s k spelling most (Some d)
+
+unfoldable pub maybe_texts_at : Section → Key → Spelling → ℕ → Members → Script Fault (List Name)
+maybe_texts_at s k spelling most t = texts_free s k spelling most (at_key k t)
+
 -- an array of tables, at most so many, which may be missing
 abbrev pub tables_among : Section → Key → ℕ → Option (List Data) → Script Fault (List Data)
 tables_among s k most None = Test false (Wrong s k) (Value [])

@@ -15,6 +15,10 @@ is_short s = nat_le 1 (length s) && nat_le (length s) 255
 unfoldable pub is_class : Name → Bool
 is_class s = nat_le 3 (length s) && nat_le (length s) 255 && (slice_index s 0 == 76) && (slice_index s (length s - 1) == 59)
 
+-- the beginning of the descriptor of a class: `L` and more, of 1 to 255 bytes
+unfoldable pub is_prefix : Name → Bool
+is_prefix s = nat_le 1 (length s) && nat_le (length s) 255 && (slice_index s 0 == 76)
+
 -- `a` to `z`, `0` to `9` and `_`
 unfoldable pub is_category_byte : ℕ → Bool
 is_category_byte b = (nat_le 97 b && nat_le b 122) || (nat_le 48 b && nat_le b 57) || (b == 95)
@@ -41,6 +45,7 @@ unfoldable pub fits : Spelling → Name → Bool
 fits spelling.Any s = true
 fits spelling.Text s = is_short s
 fits spelling.Class s = is_class s
+fits spelling.Prefix s = is_prefix s
 fits spelling.Category s = is_category s
 fits spelling.Reference s = is_reference s
 fits spelling.Token s = is_token s

@@ -1,7 +1,7 @@
 //! What stands at a key: one reader for each kind of value.
 ghost use Rattle.std.specs.Prelude.{◌≡◌, ◌≤◌, map, length, IfOk};
 ghost use Rattle.std.specs.Option.{option_copied};
-ghost use Rattle.form_fields.specs.Fields.{text_at, maybe_text_at, word_at, text_of_value, number_at, texts_at, texts_in, text_items, text_item, all_fit, tables_at, table_in};
+ghost use Rattle.form_fields.specs.Fields.{text_at, maybe_text_at, word_at, text_of_value, number_at, texts_at, maybe_texts_at, texts_in, text_items, text_item, all_fit, tables_at, table_in};
 ghost use Rattle.toml.specs.View.{table_view, view};
 ghost use Rattle.vet_base.specs.Script.{Gives};
 
@@ -136,6 +136,25 @@ pub fn texts_at(
         return Err(Stop::Fault(Fault::Range(section, key)));
     }
     Ok(texts)
+}
+
+/// As `texts_at`, where the list may be missing: then it has no texts.
+#[tactic(auto, unfolding(crate::specs::Fields::maybe_texts_at, crate::specs::Fields::texts_at))]
+pub fn maybe_texts_at(
+    alloc: Global,
+    table: &Table,
+    section: Section,
+    key: Key,
+    spelling: Spelling,
+    most: usize,
+) -> Result<Vec<Name>, Stop<Fault>>
+    ensures value { Gives (λ v. v.items) result (maybe_texts_at section key spelling most (table_view table.now)) }
+    ensures few { IfOk result (λ v. length v.items ≤ most) }
+{
+    if value_at(table, key).is_none() {
+        return Ok(Vec::new(alloc));
+    }
+    texts_at(alloc, table, section, key, spelling, most)
 }
 
 /// The texts of a list: `Wrong` of the key where it is none, or one of its items is no text.

@@ -15,7 +15,8 @@ mod words;
 pub use distinct::{names_once, once, with_new};
 pub use fault::Fault;
 pub use fields::{
-    maybe_text_at, number_at, table_in, tables_at, text_at, texts_at, texts_in, word_at,
+    maybe_text_at, maybe_texts_at, number_at, table_in, tables_at, text_at, texts_at, texts_in,
+    word_at,
 };
 pub use index::Index;
 pub use shape::{Shape, all_have, item_at};

@@ -1,6 +1,6 @@
 //! How the texts of the forms are spelled.
 ghost use Rattle.std.specs.Prelude.{◌≡◌};
-ghost use Rattle.form_fields.specs.Spelling.{fits, is_short, is_class, is_category, are_category_bytes, is_category_byte, is_token, are_visible, is_visible};
+ghost use Rattle.form_fields.specs.Spelling.{fits, is_short, is_class, is_prefix, is_category, are_category_bytes, is_category_byte, is_token, are_visible, is_visible};
 ghost use Rattle.store_office.specs.Reference.{is_reference};
 
 use store_office::is_reference;
@@ -14,6 +14,8 @@ pub enum Spelling {
     Text,
     /// The descriptor of a class, `L..;`, of 3 to 255 bytes.
     Class,
+    /// The beginning of such a descriptor: `L` and more, of 1 to 255 bytes.
+    Prefix,
     /// 1 to 255 of `a` to `z`, `0` to `9` and `_`.
     Category,
     /// 1 to 64 of `A` to `Z`, `a` to `z`, `0` to `9`, `.`, `_` and `-`.
@@ -32,6 +34,7 @@ impl Spelling {
             Spelling::Any => true,
             Spelling::Text => is_short(text),
             Spelling::Class => is_class(text),
+            Spelling::Prefix => is_prefix(text),
             Spelling::Category => is_category(text),
             Spelling::Reference => is_reference(text),
             Spelling::Token => is_token(text),
@@ -52,6 +55,13 @@ fn is_class(text: &[u8]) -> bool
 {
     let size = text.len();
     3 <= size && size <= 255 && text[0] == b'L' && text[size - 1] == b';'
+}
+
+#[tactic(auto, unfolding(crate::specs::Spelling::is_prefix))]
+fn is_prefix(text: &[u8]) -> bool
+    ensures { result ≡ is_prefix text.now }
+{
+    1 <= text.len() && text.len() <= 255 && text[0] == b'L'
 }
 
 #[tactic(auto, unfolding(crate::specs::Spelling::is_category))]

@@ -1,5 +1,5 @@
 -- How the lists are read from small trees. Behind each fact stands what code would answer that does otherwise.
-use Rattle.std.specs.Prelude.{◌≡◌, pos, [], ◌∷◌, Some, codes, Ok, Err}
+use Rattle.std.specs.Prelude.{◌≡◌, false, pos, [], ◌∷◌, Some, codes, Ok, Err}
 use Rattle.toml.specs.Data.{Data, string, integer, Members}
 use Rattle.vet_base.specs.Script.{run}
 use Rattle.app_machine.specs.Names.{Name}
@@ -70,12 +70,15 @@ pub record ReadsLists : Type 0 where
   pub category : run (lists_form in_capitals) ≡ Err (Range section.Lists key.Categories)
   -- the default `mixed` is mixed; it is no joined one
   pub mixed_default : run (lists_form of_mixed_class) ≡ Ok (record {
-    rows = 1;
-    categories = codes "sms" ∷ [];
-    classes = record { name = codes "La;"; above = codes "La;" ∷ []; fallback = Some Mixed } ∷ [];
-    shared = [];
-    methods = [];
-    callbacks = [];
+    lists = record {
+      rows = 1;
+      categories = codes "sms" ∷ [];
+      classes = record { name = codes "La;"; above = codes "La;" ∷ []; fallback = Some Mixed } ∷ [];
+      shared = [];
+      methods = [];
+      callbacks = [];
+    };
+    device = record { strict = false; platform = []; bundled = []; statics = [] };
   })
   -- positions that are no list are wrong; where the type is tested at another key, they are out of range, as there is no sink
   pub positions_type : run (lists_form of_strange_positions) ≡ Err (Wrong section.Method key.Positions)

@@ -9,9 +9,10 @@ use std::str::from_utf8;
 use std::{fs, io};
 
 fn tell_manifest<W: Write>(out: &mut W, alloc: Global) -> io::Result<()> {
-    let Ok(manifest) = read_manifest(alloc, manifest_text()) else {
+    let Ok(read) = read_manifest(alloc, manifest_text()) else {
         return writeln!(out, "no manifest");
     };
+    let manifest = &read.manifest;
     let package = text_of(&manifest.package);
     let files = manifest.dex_files;
     let has_application = manifest.application.is_some();
@@ -41,9 +42,10 @@ fn tell_empty<W: Write>(out: &mut W, alloc: Global) -> io::Result<()> {
 }
 
 fn tell_lists<W: Write>(out: &mut W, alloc: Global) -> io::Result<()> {
-    let Ok(lists) = read_lists(alloc, lists_text()) else {
+    let Ok(read) = read_lists(alloc, lists_text()) else {
         return writeln!(out, "no lists");
     };
+    let lists = &read.lists;
     let (classes, methods) = (lists.classes.len(), lists.methods.len());
     let callbacks = lists.callbacks.len();
     writeln!(

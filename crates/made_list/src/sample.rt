@@ -11,7 +11,7 @@ use vet_base::Name;
 pub fn print_lists(rt: &HostRuntime, name: &str) -> io::Result<()> {
     let text = fs::read_to_string(rt, name)?;
     match read_lists(rt.alloc(), text.as_bytes()) {
-        Ok(lists) => print_rows(rt, &lists),
+        Ok(read) => print_rows(rt, &read.lists),
         Err(_) => println!(rt; "{name}: not read"),
     }
 }

@@ -5,7 +5,7 @@ use Rattle.vet_base.specs.Script.{Script, Value, ◌>>=◌, test, each}
 use Rattle.app_machine.specs.Names.{Name}
 use Rattle.app_machine.specs.declared.call.Proto.{Proto}
 use Rattle.form_fields.specs.declared.fault.Fault.{Fault}
-use Rattle.form_fields.specs.declared.fault.Fault.TheVariants.{Twice}
+use Rattle.form_fields.specs.declared.fault.Fault.TheVariants.{Twice, Range}
 use Rattle.form_fields.specs.declared.words.Section.{Section}
 use Rattle.form_fields.specs.declared.words.Key.TheVariants as key
 use Rattle.form_fields.specs.declared.spelling.Spelling.TheVariants as spelling
@@ -14,7 +14,7 @@ use Rattle.method_fields.specs.declared.signature.Signature.{Signature}
 use Rattle.method_fields.specs.SameKey.{same_row}
 use Rattle.form_fields.specs.Places.{place_of}
 use Rattle.form_fields.specs.Fields.{text_at}
-use Rattle.method_fields.specs.Descriptor.{proto_of}
+use Rattle.method_fields.specs.Descriptor.{is_type, proto_of}
 
 -- what tells one method row from another
 abbrev pub same_key : MethodKey → MethodKey → Bool
@@ -35,6 +35,13 @@ proto_at s t = do
   descriptor ← text_at s key.Proto spelling.Any t
   proto ← proto_of s key.Proto descriptor
   Value (proto, descriptor)
+
+-- the type of a field
+unfoldable pub type_at : Section → Members → Script Fault Name
+type_at s t = do
+  text ← text_at s key.Type spelling.Text t
+  _ ← test (is_type text) (Range s key.Type)
+  Value text
 
 unfoldable pub key_of : Signature → MethodKey
 key_of at = record { class = at.class; name = at.name; descriptor = at.descriptor; is_static = at.is_static }

@@ -175,8 +175,9 @@ fn is_void(text: &[u8]) -> bool
     text.len() == 1 && text[0] == b'V'
 }
 
+/// Whether the text is the descriptor of a type other than `V`.
 #[tactic(auto, unfolding(crate::specs::Descriptor::is_type))]
-fn is_type(text: &[u8]) -> bool
+pub fn is_type(text: &[u8]) -> bool
     ensures { result ≡ is_type text.now }
 {
     match type_length(text) {

@@ -13,4 +13,4 @@ pub use positions::{
     are_two, flag_at, has_key, items_at, listed_at, name_at, named_at, pairs_at, position_at,
     positions_at,
 };
-pub use signature::{MethodKey, Signature, keys_once, position_count, proto_at};
+pub use signature::{MethodKey, Signature, keys_once, position_count, proto_at, type_at};

@@ -2,12 +2,12 @@
 ghost use Rattle.std.specs.Prelude.{◌≡◌, ◌+◌, length, IfOk};
 ghost use Rattle.std.proofs.Common.{rules};
 ghost use Rattle.std.specs.Cmp.Rules.{comparing};
-ghost use Rattle.method_fields.specs.Signature.{same_key, key_once, keys_once, proto_at, key_of};
+ghost use Rattle.method_fields.specs.Signature.{same_key, key_once, keys_once, proto_at, type_at, key_of};
 ghost use Rattle.app_machine.specs.Summaries.{position_count};
 ghost use Rattle.toml.specs.View.{table_view};
 ghost use Rattle.vet_base.specs.Script.{Gives};
 
-use crate::descriptor::proto_of;
+use crate::descriptor::{is_type, proto_of};
 use app_machine::Proto;
 use form_fields::{Fault, Index, Key, Section, Spelling, text_at};
 use std::alloc::Global;
@@ -91,6 +91,19 @@ pub fn proto_at(
     let descriptor = text_at(alloc, table, section, Key::Proto, Spelling::Any)?;
     let proto = proto_of(alloc, descriptor.as_bytes(), section, Key::Proto)?;
     Ok((proto, descriptor))
+}
+
+/// The type of a field: `Missing` where there is none, `Wrong` where it is no text, `Range` where the text is no
+/// descriptor of a type of 1 to 255 bytes.
+#[tactic(auto, unfolding(crate::specs::Signature::type_at), using(vet_base::proofs::Scripts::run_bind))]
+pub fn type_at(alloc: Global, table: &Table, section: Section) -> Result<Name, Stop<Fault>>
+    ensures { Gives (λ n. n) result (type_at section (table_view table.now)) }
+{
+    let text = text_at(alloc, table, section, Key::Type, Spelling::Text)?;
+    if !is_type(text.as_bytes()) {
+        return Err(Stop::Fault(Fault::Range(section, Key::Type)));
+    }
+    Ok(text)
 }
 
 /// How many positions a call has: its parameters, and the receiver of a method that is not static.

@@ -7,7 +7,6 @@ use Rattle.toml.specs.Data.{Data, Members}
 use Rattle.vet_base.specs.Script.{run}
 use Rattle.app_machine.specs.Names.{Name}
 use Rattle.app_machine.specs.declared.papers.Word.{Word}
-use Rattle.app_machine.specs.declared.papers.Manifest.{Manifest}
 use Rattle.app_machine.specs.declared.papers.Layouts.{Layouts}
 use Rattle.app_machine.specs.declared.papers.Declaration.{Declaration}
 use Rattle.form_fields.specs.declared.words.Section.TheVariants as section
@@ -15,15 +14,16 @@ use Rattle.form_fields.specs.declared.words.Key.TheVariants as key
 use Rattle.form_fields.specs.declared.spelling.Spelling.TheVariants as spelling
 use Rattle.form_fields.specs.Spelling.{is_short, is_class, fits}
 use Rattle.form_fields.specs.Once.{with_new, names_once}
-use Rattle.form_fields.specs.Fields.{known, text_at, maybe_text_at, number_at, texts_at, tables_at, table_in}
+use Rattle.form_fields.specs.Fields.{known, text_at, maybe_text_at, maybe_texts_at, number_at, texts_at, tables_at, table_in}
+use Rattle.office_forms.specs.declared.manifest.AppManifest.{AppManifest}
 use Rattle.office_forms.specs.Manifest.{kind_at, component_row, components_of, classes_once, manifest_form}
 use Rattle.office_forms.specs.Layouts.{Seen, layout_row, layouts_of, layouts_form}
 use Rattle.office_forms.specs.Declaration.{use_row, uses_of, declaration_form}
-use Rattle.office_forms.specs.Sound.{SoundManifest, SoundLayouts, SoundDeclaration}
+use Rattle.office_forms.specs.Sound.{SoundManifest, SoundNamed, SoundLayouts, SoundDeclaration}
 use Rattle.form_fields.proofs.Adding.{with_new_few}
 use Rattle.form_fields.proofs.Yields.{Yields, yields_value, yields_then, yields_past, yields_both, yields_walk, yields_walk_all}
-use Rattle.form_fields.proofs.FieldYields.{number_within, tables_few, texts_few}
-use Rattle.form_fields.proofs.Spelled.{Fits, text_fits, maybe_text_fits, texts_fit, all_new}
+use Rattle.form_fields.proofs.FieldYields.{number_within, tables_few, texts_few, maybe_texts_few}
+use Rattle.form_fields.proofs.Spelled.{Fits, text_fits, maybe_text_fits, texts_fit, maybe_texts_fit, all_new}
 
 use_spelled : (d : Data) (u : Unit {0}) → Yields (λ r. IsTrue (is_short r.0.0) × IsTrue (is_short r.0.1)) (use_row d u)
 unfolding use_row fits
@@ -76,7 +76,11 @@ components_counted : (ds : List Data) → Yields (λ r. (length r.0 ≡ length d
 unfolding components_of
 components_counted ds = yields_walk (λ n s. Unit {0}) component_row (λ n x s h. record { at = λ y e. tt }) ds 0 tt tt
 
-manifest_sound : (t : Members) → Yields SoundManifest (manifest_form t)
+record SoundBoth (d : AppManifest) : Type 0 where
+  manifest : SoundManifest d.manifest
+  named : SoundNamed d.named
+
+manifest_sound : (t : Members) → Yields SoundBoth (manifest_form t)
 unfolding manifest_form fits
 manifest_sound t =
     yields_past _ (known section.Manifest t) _
@@ -85,20 +89,28 @@ manifest_sound t =
     (λ dex_files within. yields_then (λ o. IfSome o (Fits spelling.Class)) _ (maybe_text_at section.Manifest key.Application spelling.Class t) _
     (maybe_text_fits section.Manifest key.Application spelling.Class t)
     (λ application spelled. yields_then _ _ (tables_at section.Manifest key.Component 4096 t) _ (tables_few section.Manifest key.Component 4096 t)
-    (λ tables few. yields_then (λ r. ((length r.0 ≡ length tables) × Unit {0}) × All HasClass r.0) _ (components_of tables) _
+    (λ tables few. yields_then (λ ns. (length ns ≤ 4096) × All (Fits spelling.Class) ns) _ (maybe_texts_at section.Manifest key.Named spelling.Class 4096 t) _
+    (yields_both _ _ _ (maybe_texts_few section.Manifest key.Named spelling.Class 4096 t) (maybe_texts_fit section.Manifest key.Named spelling.Class 4096 t))
+    (λ named names. yields_then (λ r. ((length r.0 ≡ length tables) × Unit {0}) × All HasClass r.0) _ (components_of tables) _
     (yields_both _ _ (components_of tables) (components_counted tables) (components_spelled tables))
     (λ components many. yields_past _ (classes_once application components.0) _
     (λ _. yields_value _ _ (record {
-      short_name = short;
-      one_file = within.0;
-      few_files = within.1;
-      application = spelled;
-      few_components = omega (arith, few, many.0.0);
-      components = many.1;
-    }))))))))
+      manifest = record {
+        short_name = short;
+        one_file = within.0;
+        few_files = within.1;
+        application = spelled;
+        few_components = omega (arith, few, many.0.0);
+        components = many.1;
+      };
+      named = record { few = names.0; classes = names.1 };
+    })))))))))
 
-pub sound_manifest : (t : Members) (d : Manifest) → run (manifest_form t) ≡ Ok d → SoundManifest d
-sound_manifest t d e = (manifest_sound t).at d e
+pub sound_manifest : (t : Members) (d : AppManifest) → run (manifest_form t) ≡ Ok d → SoundManifest d.manifest
+sound_manifest t d e = ((manifest_sound t).at d e).manifest
+
+pub sound_named : (t : Members) (d : AppManifest) → run (manifest_form t) ≡ Ok d → SoundNamed d.named
+sound_named t d e = ((manifest_sound t).at d e).named
 
 -- so many layouts have at most 4,096 clicks and 4,096 classes each, all of them spelled so
 record FewSeen (n : ℕ) (seen : Seen) : Type 0 where

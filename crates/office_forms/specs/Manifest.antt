@@ -1,11 +1,11 @@
--- The manifest: the package, how many DEX files there are, and the components of the app.
+-- The manifest: the package, how many DEX files there are, the components of the app, and the classes that are named besides.
 -- Android documentation, "App manifest overview": `<manifest>`, `<application>` and the elements of components.
 use Rattle.std.specs.Prelude.{false, codes, List, [], Option, Some, None, if◌then◌else◌}
 use Rattle.std.specs.Str.{bytes_eq}
 use Rattle.toml.specs.Data.{Data, Members}
 use Rattle.vet_base.specs.Script.{Script, Value, Test, ◌>>=◌, walk, each}
 use Rattle.app_machine.specs.Names.{Name}
-use Rattle.app_machine.specs.declared.papers.Manifest.{Manifest}
+use Rattle.office_forms.specs.declared.manifest.AppManifest.{AppManifest}
 use Rattle.app_machine.specs.declared.papers.Word.{Word}
 use Rattle.app_machine.specs.declared.papers.Word.TheVariants.{Activity, Service, Receiver, Provider}
 use Rattle.form_fields.specs.declared.fault.Fault.{Fault}
@@ -14,7 +14,7 @@ use Rattle.form_fields.specs.declared.words.Section.TheVariants as section
 use Rattle.form_fields.specs.declared.words.Key.TheVariants as key
 use Rattle.form_fields.specs.declared.spelling.Spelling.TheVariants.{Text, Class}
 use Rattle.form_fields.specs.Once.{once}
-use Rattle.form_fields.specs.Fields.{known, text_at, maybe_text_at, number_at, word_at, tables_at, table_in}
+use Rattle.form_fields.specs.Fields.{known, text_at, maybe_text_at, maybe_texts_at, number_at, word_at, tables_at, table_in}
 
 -- the kind of component that a word names
 unfoldable pub kind_of : Name → Option Word
@@ -66,13 +66,17 @@ classes_once application components = do
   seen ← application_once application
   components_once components seen
 
-unfoldable pub manifest_form : Members → Script Fault Manifest
+unfoldable pub manifest_form : Members → Script Fault AppManifest
 manifest_form t = do
   _ ← known section.Manifest t
   name ← text_at section.Manifest key.Package Text t
   dex_files ← number_at section.Manifest key.DexFiles 1 16 t
   application ← maybe_text_at section.Manifest key.Application Class t
   tables ← tables_at section.Manifest key.Component 4096 t
+  named ← maybe_texts_at section.Manifest key.Named Class 4096 t
   components ← components_of tables
   _ ← classes_once application components.0
-  Value (record { «package» = name; dex_files = dex_files; application = application; components = components.0 })
+  Value (record {
+    manifest = record { «package» = name; dex_files = dex_files; application = application; components = components.0 };
+    named = named;
+  })

@@ -1,7 +1,8 @@
 -- What was read keeps to the numbers, lengths and spellings of its form.
-use Rattle.std.specs.Prelude.{◌≤◌, length, map, IsTrue, IfSome}
+use Rattle.std.specs.Prelude.{◌≤◌, List, length, map, IsTrue, IfSome}
 use Rattle.std.specs.List.{All}
 use Rattle.vet_base.specs.Apart.{Apart}
+use Rattle.app_machine.specs.Names.{Name}
 use Rattle.app_machine.specs.declared.papers.Manifest.{Manifest}
 use Rattle.app_machine.specs.declared.papers.Layouts.{Layouts}
 use Rattle.app_machine.specs.declared.papers.Declaration.{Declaration}
@@ -18,6 +19,11 @@ pub record SoundManifest (manifest : Manifest) : Type 0 where
   pub application : IfSome manifest.application (λ class. IsTrue (is_class class))
   pub few_components : length manifest.components ≤ 4096
   pub components : All (λ component. IsTrue (is_class component.1)) manifest.components
+
+-- at most 4,096 names, each spelled as a class
+pub record SoundNamed (named : List Name) : Type 0 where
+  pub few : length named ≤ 4096
+  pub classes : All (λ class. IsTrue (is_class class)) named
 
 -- at most 4,096 layouts, each with at most 4,096 clicks of 1 to 255 bytes and 4,096 classes
 pub record SoundLayouts (layouts : Layouts) : Type 0 where

@@ -12,6 +12,6 @@ pub use declaration::read_declaration;
 pub use form_fields::{Fault, FormFault, Key, Section};
 pub use law::one_form_or_fault;
 pub use layouts::read_layouts;
-pub use manifest::read_manifest;
+pub use manifest::{AppManifest, read_manifest};
 pub use office::read_office;
-pub use store_lists::read_lists;
+pub use store_lists::{StoreLists, read_lists};

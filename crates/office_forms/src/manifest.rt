@@ -2,26 +2,37 @@
 ghost use Rattle.std.specs.Prelude.{◌≡◌, ◌≢◌, IfOk, IfErr, map};
 ghost use Rattle.form_fields.specs.Form.{IsForm, FirstFormFault};
 ghost use Rattle.office_forms.specs.Manifest.{manifest_form, components_of, component_row, kind_at, kind_of, classes_once, components_once, component_once};
-ghost use Rattle.office_forms.specs.Sound.{SoundManifest};
+ghost use Rattle.office_forms.specs.Sound.{SoundManifest, SoundNamed};
 ghost use Rattle.toml.specs.View.{table_view, view};
 ghost use Rattle.vet_base.specs.Script.{Gives};
 
 use app_machine::{Manifest, Word};
 use form_fields::{
-    Fault, FormFault, Index, Key, Section, Spelling, known, maybe_text_at, number_at, once,
-    read_tree, table_in, tables_at, text_at, told_of, word_at,
+    Fault, FormFault, Index, Key, Section, Spelling, known, maybe_text_at, maybe_texts_at,
+    number_at, once, read_tree, table_in, tables_at, text_at, told_of, word_at,
 };
 use std::alloc::Global;
 use toml::{Table, Value};
 use vet_base::{Name, Seq, Stop};
 
+/// What a manifest says.
+#[derive(Drop)]
+pub struct AppManifest {
+    /// What the machine is told.
+    pub manifest: Manifest,
+    /// The classes that other attributes of the manifest or resources name.
+    pub named: Seq<Name>,
+}
+
 /// Reads a manifest: the text `package`, the number `dex_files` from 1 to 16, the class
-/// `application` where there is one, and at most 4,096 tables `[[component]]`, each with a `kind`
-/// (`activity`, `service`, `receiver` or `provider`) and a `class`. No class stands twice.
+/// `application` where there is one, at most 4,096 tables `[[component]]`, each with a `kind`
+/// (`activity`, `service`, `receiver` or `provider`) and a `class`, and the list `named` of at most
+/// 4,096 classes, which may be missing. No class stands twice among application and components.
 #[tactic(auto, using(form_fields::proofs::Forms::is_form, form_fields::proofs::Forms::is_fault, form_fields::proofs::Forms::is_unread))]
-pub fn read_manifest(alloc: Global, text: &[u8]) -> Result<Manifest, FormFault>
+pub fn read_manifest(alloc: Global, text: &[u8]) -> Result<AppManifest, FormFault>
     ensures ok { IfOk result (λ d. IsForm manifest_form text.now d) }
-    ensures sound { IfOk result SoundManifest }
+    ensures sound { IfOk result (λ d. SoundManifest d.manifest) }
+    ensures named { IfOk result (λ d. SoundNamed d.named) }
     ensures err { IfErr result (λ e. e ≢ FormFault.Memory → FirstFormFault manifest_form text.now e) }
 {
     let tree = match read_tree(alloc, text) {
@@ -35,7 +46,7 @@ pub fn read_manifest(alloc: Global, text: &[u8]) -> Result<Manifest, FormFault>
 }
 
 #[tactic(auto, unfolding(crate::specs::Manifest::manifest_form), using(vet_base::proofs::Scripts::run_bind))]
-fn manifest_in(alloc: Global, tree: &Table) -> Result<Manifest, Stop<Fault>>
+fn manifest_in(alloc: Global, tree: &Table) -> Result<AppManifest, Stop<Fault>>
     ensures { Gives (λ d. d) result (manifest_form (table_view tree.now)) }
 {
     known(alloc, tree, Section::Manifest)?;
@@ -49,13 +60,25 @@ fn manifest_in(alloc: Global, tree: &Table) -> Result<Manifest, Stop<Fault>>
         Spelling::Class,
     )?;
     let tables = tables_at(tree, Section::Manifest, Key::Component, 4096)?;
+    let named = maybe_texts_at(
+        alloc,
+        tree,
+        Section::Manifest,
+        Key::Named,
+        Spelling::Class,
+        4096,
+    )?;
     let components = components_of(alloc, tables)?;
     classes_once(alloc, &application, &components)?;
-    Ok(Manifest {
+    let manifest = Manifest {
         package,
         dex_files,
         application,
         components: Seq::from_vec(components),
+    };
+    Ok(AppManifest {
+        manifest,
+        named: Seq::from_vec(named),
     })
 }
 

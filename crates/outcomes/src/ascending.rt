@@ -7,7 +7,7 @@ use std::alloc::Global;
 use std::collections::BTreeSet;
 use vet_base::Memory;
 
-/// The set of the items.
+/// The set of the items. Want of memory is the only error.
 #[tactic(auto, using(crate::proofs::Sorting::none_yet, crate::proofs::Sorting::one_more))]
 pub fn set_of<K: Ord + Drop>(alloc: Global, items: Vec<K>) -> Result<BTreeSet<K>, Memory>
     ensures { IfOk result (λ s. s.keys ≡ ascending K.cmp items.items) }
@@ -19,7 +19,7 @@ pub fn set_of<K: Ord + Drop>(alloc: Global, items: Vec<K>) -> Result<BTreeSet<K>
     Ok(set)
 }
 
-/// The items in ascending order, each once.
+/// The items in ascending order, each once. Want of memory is the only error.
 pub fn ascending_of<K: Ord + Drop>(alloc: Global, items: Vec<K>) -> Result<Vec<K>, Memory>
     ensures { IfOk result (λ v. v.items ≡ ascending K.cmp items.items) }
 {

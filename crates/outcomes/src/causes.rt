@@ -118,8 +118,8 @@ fn providers(alloc: Global, app: &App) -> Result<Vec<Cause>, Memory>
     Ok(causes)
 }
 
-/// The names of the classes.
-fn class_names(alloc: Global, classes: &[Class]) -> Result<Vec<Name>, Memory>
+/// The names of the classes. Want of memory is the only error.
+pub fn class_names(alloc: Global, classes: &[Class]) -> Result<Vec<Name>, Memory>
     ensures { IfOk result (λ v. v.items ≡ map (λ c. c.name) classes.now) }
 {
     let mut names = Vec::new(alloc);

@@ -11,9 +11,12 @@ mod names;
 mod outcome;
 mod places;
 
-pub use causes::{causes_of, causes_too_large};
+pub use ascending::{ascending_of, set_of};
+pub use causes::{causes_of, causes_too_large, class_names};
 pub use findings::findings_of;
-pub use outcome::{Cause, Finding, Place};
+pub use names::copied;
+pub use outcome::{Cause, Finding, MethodName, Place};
+pub use places::place_in;
 
 /// The pair of each arrival that rows of an app tell of is declared, or the arrival is among the findings;
 /// and each place where they say that a run may come to what is not modelled is among the causes.

@@ -5,7 +5,7 @@ ghost use Rattle.std.specs.Prelude.{◌≡◌, IfOk, take};
 use std::alloc::Global;
 use vet_base::{Memory, Name};
 
-/// The same names.
+/// The same names. Want of memory is the only error.
 pub fn copied(alloc: Global, names: &[Name]) -> Result<Vec<Name>, Memory>
     ensures { IfOk result (λ v. v.items ≡ names.now) }
 {

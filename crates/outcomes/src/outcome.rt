@@ -10,6 +10,9 @@ pub struct Place {
     pub pc: u32,
 }
 
+/// A method by its class, its name and the text of its descriptor.
+pub type MethodName = (Name, Name, Name);
+
 /// Data of a source category may come to a sink category at a place. The declaration does not name the pair.
 #[derive(Debug, Drop)]
 pub struct Finding {
@@ -33,4 +36,18 @@ pub enum Cause {
     LayoutClass(Name),
     /// More than so many rows follow.
     TooLarge(u32),
+    /// This method has the name of one further up, which a device runs in its place.
+    Hidden(MethodName),
+    /// An interface of the app has this method with code.
+    InterfaceCode(MethodName),
+    /// A class of the app has this name of one of the platform.
+    PlatformClass(Name),
+    /// A class of the app is below this class, which neither the app nor the lists have.
+    UnlistedClass(Name),
+    /// A static field that no class of the app defines is written here, or read here and not listed.
+    LibraryStatic(Place),
+    /// A click may come to this method of what is no activity, or of a menu.
+    Click(MethodName),
+    /// The manifest says that this class of the app is named elsewhere.
+    NamedClass(Name),
 }

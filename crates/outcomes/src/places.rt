@@ -37,7 +37,8 @@ fn no_method(alloc: Global) -> Result<MethodRef, Memory>
     })
 }
 
-/// The instruction at the address in the method of that number.
+/// The instruction at the address in the method of that number, and of no class and name where there is none. Want of
+/// memory is the only error.
 #[tactic(auto, unfolding(crate::specs::Places::place_in))]
 pub fn place_in(alloc: Global, app: &App, method: u32, pc: u32) -> Result<Place, Memory>
     ensures { IfOk result (λ p. p ≡ place_in app.now method pc) }

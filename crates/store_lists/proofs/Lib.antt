@@ -1,4 +1,5 @@
 pub mod Above
+pub mod DeviceSound
 pub mod ListsSound
 pub mod ListsSpelled
 pub mod SinkSound

@@ -7,7 +7,6 @@ use Rattle.std.proofs.lemmas.List.Elements.{All-nil, All-push}
 use Rattle.toml.specs.Data.{Data, Members}
 use Rattle.vet_base.specs.Script.{run, test}
 use Rattle.app_machine.specs.Names.{Name}
-use Rattle.app_machine.specs.declared.lists.Lists.{Lists}
 use Rattle.app_machine.specs.SoundLists.{SoundLists}
 use Rattle.app_machine.specs.declared.lists.LibClass.{LibClass}
 use Rattle.app_machine.specs.declared.summary.Summary.{Summary}
@@ -21,15 +20,17 @@ use Rattle.store_lists.specs.declared.methods.MethodRows.{MethodRows}
 use Rattle.store_lists.specs.declared.callbacks.CallbackRows.{CallbackRows}
 use Rattle.store_lists.specs.declared.lists.SharedRows.{SharedRows}
 use Rattle.store_lists.specs.declared.lists.Rows.{Rows}
+use Rattle.store_lists.specs.declared.lists.StoreLists.{StoreLists}
 use Rattle.form_fields.specs.Once.{with_new}
 use Rattle.form_fields.specs.Fields.{known, text_at, texts_at, number_at, tables_at, table_in}
 use Rattle.store_lists.specs.Classes.{above_in, parent_row, parents_at, parents_above, fallback_at, class_at, class_row, classes_of, class_name}
 use Rattle.method_fields.specs.Positions.{flag_at, pairs_at, named_at, listed_at}
 use Rattle.app_machine.specs.Summaries.{position_count}
 use Rattle.method_fields.specs.Gives.{gives_at}
-use Rattle.method_fields.specs.Signature.{proto_at}
+use Rattle.method_fields.specs.Signature.{proto_at, keys_once}
 use Rattle.store_lists.specs.Methods.{sink_at, signature_at, summary_of, method_row, methods_of}
 use Rattle.store_lists.specs.Callbacks.{callback_at, callback_row, callbacks_of}
+use Rattle.store_lists.specs.Device.{device_at, statics_of}
 use Rattle.store_lists.specs.Lists.{are_categories, categories_at, shared_row, shared_of, rows_of, rows_once, arrays_at, lists_form}
 use Rattle.app_machine.specs.SoundLists.{SoundGives, TwoPositions, NamedPosition, SoundSink, SoundClass, SoundSummary, SoundCallback, SoundLists}
 use Rattle.form_fields.proofs.Yields.{Yields, yields_value, yields_tested, yields_then, yields_past, yields_each}
@@ -245,15 +246,18 @@ arrays_few t =
     (λ ms few_methods. yields_then _ _ (tables_at section.Lists key.Callback 65536 t) _ (tables_few section.Lists key.Callback 65536 t)
     (λ ks few_callbacks. yields_value _ _ (record { classes = few_classes; shared = few_shared; methods = few_methods; callbacks = few_callbacks })))))
 
-lists_sound : (t : Members) → Yields SoundLists (lists_form t)
+lists_sound : (t : Members) → Yields (λ d. SoundLists d.lists) (lists_form t)
 unfolding lists_form
 lists_sound t =
     yields_past _ (known section.Lists t) _
     (λ _. yields_then _ _ (number_at section.Lists key.Rows 1 4000000 t) _ (number_within section.Lists key.Rows 1 4000000 t)
     (λ most within. yields_then _ _ (categories_at t) _ (categories_few t)
     (λ categories named. yields_then _ _ (arrays_at t) _ (arrays_few t)
-    (λ arrays few. yields_then _ _ (rows_of categories arrays.0.0 arrays.0.1 arrays.1.0 arrays.1.1) _ (rows_counted categories arrays.0.0 arrays.0.1 arrays.1.0 arrays.1.1)
-    (λ rows counted. yields_past _ (rows_once rows) _
+    (λ arrays few. yields_past _ (device_at t) _
+    (λ device. yields_then _ _ (rows_of categories arrays.0.0 arrays.0.1 arrays.1.0 arrays.1.1) _ (rows_counted categories arrays.0.0 arrays.0.1 arrays.1.0 arrays.1.1)
+    (λ rows counted. yields_past _ (statics_of device.1) _
+    (λ statics. yields_past _ (rows_once rows) _
+    (λ _. yields_past _ (keys_once statics.keys) _
     (λ _. yields_value _ _ (record {
       one_row = within.0;
       few_rows = within.1;
@@ -266,7 +270,7 @@ lists_sound t =
       classes = counted.sound_classes;
       methods = subst (λ (n : ℕ). All (SoundSummary n (length rows.shared)) rows.methods.rows) (sym (ap length counted.same)) counted.sound_methods;
       callbacks = subst (λ (n : ℕ). All (SoundCallback n) rows.callbacks.rows) (sym (ap length counted.same)) counted.sound_callbacks;
-    })))))))
+    }))))))))))
 
-pub sound_lists : (t : Members) (d : Lists) → run (lists_form t) ≡ Ok d → SoundLists d
+pub sound_lists : (t : Members) (d : StoreLists) → run (lists_form t) ≡ Ok d → SoundLists d.lists
 sound_lists t d e = (lists_sound t).at d e

@@ -7,7 +7,6 @@ use Rattle.toml.specs.Data.{Data, Members}
 use Rattle.vet_base.specs.Script.{run, test}
 use Rattle.app_machine.specs.Names.{Name, same_name}
 use Rattle.app_machine.specs.Summaries.{position_count}
-use Rattle.app_machine.specs.declared.lists.Lists.{Lists}
 use Rattle.app_machine.specs.declared.lists.LibClass.{LibClass}
 use Rattle.app_machine.specs.declared.lists.Callback.{Callback}
 use Rattle.app_machine.specs.declared.summary.Summary.{Summary}
@@ -21,6 +20,7 @@ use Rattle.store_lists.specs.declared.methods.MethodRows.{MethodRows}
 use Rattle.store_lists.specs.declared.callbacks.CallbackRows.{CallbackRows}
 use Rattle.store_lists.specs.declared.lists.SharedRows.{SharedRows}
 use Rattle.store_lists.specs.declared.lists.Rows.{Rows}
+use Rattle.store_lists.specs.declared.lists.StoreLists.{StoreLists}
 use Rattle.form_fields.specs.Spelling.{is_class, fits}
 use Rattle.form_fields.specs.Places.{place_of}
 use Rattle.form_fields.specs.Once.{with_new}
@@ -28,9 +28,10 @@ use Rattle.form_fields.specs.Fields.{known, text_at, texts_at, number_at, table_
 use Rattle.store_lists.specs.Classes.{above_in, parent_row, parents_at, parents_above, fallback_at, class_at, class_row, classes_of, class_name}
 use Rattle.method_fields.specs.Positions.{flag_at, pairs_at, named_at, listed_at}
 use Rattle.method_fields.specs.Gives.{gives_at}
-use Rattle.method_fields.specs.Signature.{proto_at}
+use Rattle.method_fields.specs.Signature.{proto_at, keys_once}
 use Rattle.store_lists.specs.Methods.{sink_at, listed_class, signature_at, summary_of, method_row, methods_of}
 use Rattle.store_lists.specs.Callbacks.{callback_at, callback_row, callbacks_of}
+use Rattle.store_lists.specs.Device.{device_at, statics_of}
 use Rattle.store_lists.specs.Lists.{are_categories, categories_at, shared_row, shared_of, rows_of, rows_once, arrays_at, lists_form}
 use Rattle.method_fields.specs.Spelled.{SpelledProto}
 use Rattle.store_lists.specs.Spelled.{SpelledClass, SpelledShared, SpelledMethod, SpelledLists}
@@ -201,22 +202,25 @@ rows_spelled categories cs ss ms ks =
     (λ methods m. yields_then (λ r. All Called r.rows) _ (callbacks_of categories ks) _ (callbacks_spelled categories ks)
     (λ callbacks k. yields_value _ _ (record { same = refl; classes = c; shared = s; methods = m; callbacks = k })))))
 
-lists_spelled : (t : Members) → Yields SpelledLists (lists_form t)
+lists_spelled : (t : Members) → Yields (λ d. SpelledLists d.lists) (lists_form t)
 unfolding lists_form fits
 lists_spelled t =
     yields_past _ (known section.Lists t) _
     (λ _. yields_past _ (number_at section.Lists key.Rows 1 4000000 t) _
     (λ most. yields_then (All (Fits spelling.Category)) _ (categories_at t) _ (categories_spelled t)
     (λ categories named. yields_past _ (arrays_at t) _
-    (λ arrays. yields_then (SpelledRows categories) _ (rows_of categories arrays.0.0 arrays.0.1 arrays.1.0 arrays.1.1) _ (rows_spelled categories arrays.0.0 arrays.0.1 arrays.1.0 arrays.1.1)
-    (λ rows spelled. yields_past _ (rows_once rows) _
+    (λ arrays. yields_past _ (device_at t) _
+    (λ device. yields_then (SpelledRows categories) _ (rows_of categories arrays.0.0 arrays.0.1 arrays.1.0 arrays.1.1) _ (rows_spelled categories arrays.0.0 arrays.0.1 arrays.1.0 arrays.1.1)
+    (λ rows spelled. yields_past _ (statics_of device.1) _
+    (λ statics. yields_past _ (rows_once rows) _
+    (λ _. yields_past _ (keys_once statics.keys) _
     (λ _. yields_value _ _ (record {
       categories = subst (λ (names : List Name). All (Fits spelling.Category) names) (sym spelled.same) named;
       classes = spelled.classes;
       shared = spelled.shared;
       methods = spelled.methods;
       callbacks = spelled.callbacks;
-    })))))))
+    }))))))))))
 
-pub spelled_lists : (t : Members) (d : Lists) → run (lists_form t) ≡ Ok d → SpelledLists d
+pub spelled_lists : (t : Members) (d : StoreLists) → run (lists_form t) ≡ Ok d → SpelledLists d.lists
 spelled_lists t d e = (lists_spelled t).at d e

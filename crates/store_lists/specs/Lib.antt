@@ -1,5 +1,6 @@
 pub mod Callbacks
 pub mod Classes
+pub mod Device
 pub mod Lists
 pub mod Methods
 pub mod Spelled

@@ -1,9 +1,8 @@
--- The lists of the office: the limit of rows, the categories, and what is said of the library.
+-- The lists of the office: the limit of rows, the categories, what is said of the library, and what of a device.
 use Rattle.std.specs.Prelude.{◌==◌, ◌&&◌, nat_le, Bool, List, [], ◌∷◌, ◌++◌, length, map}
 use Rattle.toml.specs.Data.{Data, Members}
 use Rattle.vet_base.specs.Script.{Script, Value, ◌>>=◌, test, each}
 use Rattle.app_machine.specs.Names.{Name}
-use Rattle.app_machine.specs.declared.lists.Lists.{Lists}
 use Rattle.form_fields.specs.declared.fault.Fault.{Fault}
 use Rattle.form_fields.specs.declared.fault.Fault.TheVariants.{Range}
 use Rattle.form_fields.specs.declared.words.Section.TheVariants as section
@@ -11,12 +10,14 @@ use Rattle.form_fields.specs.declared.words.Key.TheVariants as key
 use Rattle.form_fields.specs.declared.spelling.Spelling.TheVariants as spelling
 use Rattle.store_lists.specs.declared.lists.SharedRows.{SharedRows}
 use Rattle.store_lists.specs.declared.lists.Rows.{Rows}
+use Rattle.store_lists.specs.declared.lists.StoreLists.{StoreLists}
 use Rattle.form_fields.specs.Once.{names_once, with_new}
 use Rattle.form_fields.specs.Fields.{known, text_at, texts_at, number_at, tables_at, table_in}
 use Rattle.store_lists.specs.Classes.{classes_of, class_name}
 use Rattle.method_fields.specs.Signature.{keys_once}
 use Rattle.store_lists.specs.Methods.{methods_of}
 use Rattle.store_lists.specs.Callbacks.{callbacks_of}
+use Rattle.store_lists.specs.Device.{device_at, statics_of}
 
 -- one category at least, and none of them twice
 unfoldable pub are_categories : List Name → List Name → Bool
@@ -74,12 +75,18 @@ arrays_at t = do
   callbacks ← tables_at section.Lists key.Callback 65536 t
   Value ((classes, shared), (methods, callbacks))
 
-unfoldable pub lists_form : Members → Script Fault Lists
+unfoldable pub lists_form : Members → Script Fault StoreLists
 lists_form t = do
   _ ← known section.Lists t
   most ← number_at section.Lists key.Rows 1 4000000 t
   categories ← categories_at t
   arrays ← arrays_at t
+  device ← device_at t
   rows ← rows_of categories arrays.0.0 arrays.0.1 arrays.1.0 arrays.1.1
+  statics ← statics_of device.1
   _ ← rows_once rows
-  Value (record { rows = most; categories = rows.listed.categories; classes = rows.classes; shared = rows.shared; methods = rows.methods.rows; callbacks = rows.callbacks.rows })
+  _ ← keys_once statics.keys
+  Value (record {
+    lists = record { rows = most; categories = rows.listed.categories; classes = rows.classes; shared = rows.shared; methods = rows.methods.rows; callbacks = rows.callbacks.rows };
+    device = record { strict = device.0.strict; platform = device.0.platform; bundled = device.0.bundled; statics = statics.rows };
+  })

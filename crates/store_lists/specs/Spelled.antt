@@ -1,11 +1,12 @@
 -- The texts of lists that were read keep to their spellings.
-use Rattle.std.specs.Prelude.{IsTrue}
+use Rattle.std.specs.Prelude.{◌≤◌, IsTrue, length}
 use Rattle.std.specs.List.{All}
 use Rattle.app_machine.specs.Names.{Name}
 use Rattle.app_machine.specs.declared.call.Proto.{Proto}
 use Rattle.app_machine.specs.declared.lists.Lists.{Lists}
 use Rattle.app_machine.specs.declared.lists.LibClass.{LibClass}
-use Rattle.form_fields.specs.Spelling.{is_short, is_class, is_category}
+use Rattle.device_lists.specs.declared.DeviceLists.{DeviceLists}
+use Rattle.form_fields.specs.Spelling.{is_short, is_class, is_prefix, is_category}
 use Rattle.method_fields.specs.Spelled.{SpelledProto}
 
 -- a class of the library and those above it are spelled as classes
@@ -31,3 +32,11 @@ pub record SpelledLists (lists : Lists) : Type 0 where
   pub shared : All (λ shared. SpelledShared shared.0 shared.1) lists.shared
   pub methods : All (λ method. SpelledMethod method.class method.name method.proto) lists.methods
   pub callbacks : All (λ callback. SpelledMethod callback.class callback.name callback.proto) lists.callbacks
+
+-- at most 4,096 beginnings of names in each list, and at most 65,536 static fields
+pub record SoundDevice (device : DeviceLists) : Type 0 where
+  pub few_platform : length device.platform ≤ 4096
+  pub few_bundled : length device.bundled ≤ 4096
+  pub platform : All (λ start. IsTrue (is_prefix start)) device.platform
+  pub bundled : All (λ start. IsTrue (is_prefix start)) device.bundled
+  pub few_statics : length device.statics ≤ 65536

@@ -1,16 +1,18 @@
-//! The lists of the office: categories, classes, shared objects, methods and callbacks.
+//! The lists of the office: categories, classes, shared objects, methods and callbacks; and what is said of a device.
 ghost use Rattle.std.specs.Prelude.{◌≡◌, ◌≢◌, ◌≤◌, ◌+◌, IsTrue, IfOk, IfErr, length, map};
 ghost use Rattle.form_fields.specs.Form.{IsForm, FirstFormFault};
 ghost use Rattle.store_lists.specs.Lists.{are_categories, categories_at, shared_row, shared_of, rows_of, rows_once, arrays_at, lists_form};
 ghost use Rattle.app_machine.specs.SoundLists.{SoundLists};
-ghost use Rattle.store_lists.specs.Spelled.{SpelledLists};
+ghost use Rattle.store_lists.specs.Spelled.{SpelledLists, SoundDevice};
 ghost use Rattle.toml.specs.View.{table_view, view};
 ghost use Rattle.vet_base.specs.Script.{Gives};
 
 use crate::callbacks::{CallbackRows, callbacks_of};
 use crate::classes::classes_of;
+use crate::device::{DeviceKeys, StaticRows, device_at, statics_of};
 use crate::methods::{Listed, MethodRows, methods_of};
 use app_machine::{LibClass, Lists};
+use device_lists::DeviceLists;
 use form_fields::{
     Fault, FormFault, Index, Key, Section, Spelling, known, names_once, number_at, read_tree,
     table_in, tables_at, text_at, texts_at, told_of, with_new,
@@ -19,6 +21,15 @@ use method_fields::keys_once;
 use std::alloc::Global;
 use toml::{Table, Value};
 use vet_base::{Name, Seq, Stop};
+
+/// What the lists say.
+#[derive(Drop)]
+pub struct StoreLists {
+    /// Of the library: what the machine is told.
+    pub lists: Lists,
+    /// Of a device.
+    pub device: DeviceLists,
+}
 
 /// Reads the lists of the office: the number `rows` from 1 to 4,000,000, the list `categories` of
 /// 1 to 200 distinct texts, and at most 65,536 tables each of `[[class]]`, `[[shared]]`,
@@ -31,11 +42,16 @@ use vet_base::{Name, Seq, Stop};
 /// call does. A callback has a `class`, a `name`, a `proto` and `sources`. Positions count arguments,
 /// a wide one once, the receiver being 0. No class, shared name, method row or callback row stands
 /// twice.
+///
+/// Of a device they say by `strict`, `false` where it is missing, by the lists `platform` and
+/// `bundled` of at most 4,096 beginnings of class descriptors, none twice and none in both, and by at
+/// most 65,536 tables `[[static]]`, each with a `class`, a `name` and a `type`, no two the same.
 #[tactic(auto, using(form_fields::proofs::Forms::is_form, form_fields::proofs::Forms::is_fault, form_fields::proofs::Forms::is_unread))]
-pub fn read_lists(alloc: Global, text: &[u8]) -> Result<Lists, FormFault>
+pub fn read_lists(alloc: Global, text: &[u8]) -> Result<StoreLists, FormFault>
     ensures ok { IfOk result (λ d. IsForm lists_form text.now d) }
-    ensures sound { IfOk result SoundLists }
-    ensures spelled { IfOk result SpelledLists }
+    ensures sound { IfOk result (λ d. SoundLists d.lists) }
+    ensures spelled { IfOk result (λ d. SpelledLists d.lists) }
+    ensures device { IfOk result (λ d. SoundDevice d.device) }
     ensures err { IfErr result (λ e. e ≢ FormFault.Memory → FirstFormFault lists_form text.now e) }
 {
     let tree = match read_tree(alloc, text) {
@@ -49,16 +65,44 @@ pub fn read_lists(alloc: Global, text: &[u8]) -> Result<Lists, FormFault>
 }
 
 #[tactic(auto, unfolding(crate::specs::Lists::lists_form), using(vet_base::proofs::Scripts::run_bind))]
-fn lists_in(alloc: Global, tree: &Table) -> Result<Lists, Stop<Fault>>
+fn lists_in(alloc: Global, tree: &Table) -> Result<StoreLists, Stop<Fault>>
     ensures { Gives (λ d. d) result (lists_form (table_view tree.now)) }
 {
     known(alloc, tree, Section::Lists)?;
     let most = number_at(tree, Section::Lists, Key::Rows, 1, 4_000_000)?;
     let categories = categories_at(alloc, tree)?;
     let ((classes, shared), (methods, callbacks)) = arrays_at(tree)?;
+    let (keys, static_tables) = device_at(alloc, tree)?;
     let rows = rows_of(alloc, categories, classes, shared, methods, callbacks)?;
+    let statics = statics_of(alloc, static_tables)?;
     rows_once(alloc, &rows)?;
-    Ok(lists_of(most, rows))
+    keys_once(alloc, statics.keys.as_slice())?;
+    Ok(StoreLists {
+        lists: lists_of(most, rows),
+        device: device_of(keys, statics),
+    })
+}
+
+/// What these say of a device.
+fn device_of(keys: DeviceKeys, statics: StaticRows) -> DeviceLists
+    ensures { result ≡ record {
+      strict = keys.strict;
+      platform = keys.platform;
+      bundled = keys.bundled;
+      statics = statics.rows;
+    } }
+{
+    let DeviceKeys {
+        strict,
+        platform,
+        bundled,
+    } = keys;
+    DeviceLists {
+        strict,
+        platform,
+        bundled,
+        statics: statics.rows,
+    }
 }
 
 /// The lists of these rows.

@@ -15,13 +15,13 @@ use Rattle.app_link.specs.FirstLinkFault.{FirstLinkFault}
 use Rattle.app_link.specs.IsApp.{IsApp}
 use Rattle.app_link.specs.OneAnswer.{OnlyApp}
 use Rattle.app_machine.specs.declared.app.App.{App}
-use Rattle.app_machine.specs.declared.lists.Lists.{Lists}
 use Rattle.app_machine.specs.declared.papers.Manifest.{Manifest}
 use Rattle.app_machine.specs.declared.papers.Layouts.{Layouts}
 use Rattle.app_machine.specs.declared.papers.Declaration.{Declaration}
 use Rattle.form_fields.specs.declared.told.FormFault.{FormFault}
 use Rattle.form_fields.specs.declared.told.FormFault.TheVariants as told
 use Rattle.form_fields.specs.Form.{IsForm, FirstFormFault}
+use Rattle.office_forms.specs.declared.manifest.AppManifest.{AppManifest}
 use Rattle.office_forms.specs.Manifest.{manifest_form}
 use Rattle.office_forms.specs.Layouts.{layouts_form}
 use Rattle.office_forms.specs.Declaration.{declaration_form}
@@ -45,21 +45,21 @@ pub of_manifest : (laws : LowerLaws) (parts : Parts) (e : FormFault) (h : Stop R
 of_manifest laws parts e stops.Memory first halts = tt
 of_manifest laws parts e (stops.Fault r) first halts = is_this parts r _ halts.1 (fault_only laws parts part.Manifest (reason.Form e) (bad_manifest e (first halts.0)))
 
-pub of_count : (laws : LowerLaws) (parts : Parts) (m : Manifest) (key : List ℕ) → IsForm manifest_form parts.manifest m → m.dex_files ≢ length parts.dex → key ≡ codes "dex_files" → RefusesOnly parts part.Manifest (reason.Form (told.Range key))
+pub of_count : (laws : LowerLaws) (parts : Parts) (m : AppManifest) (key : List ℕ) → IsForm manifest_form parts.manifest m → m.manifest.dex_files ≢ length parts.dex → key ≡ codes "dex_files" → RefusesOnly parts part.Manifest (reason.Form (told.Range key))
 of_count laws parts m key form other is =
     let P : List ℕ → Type 0 = λ k. RefusesOnly parts part.Manifest (reason.Form (told.Range k)) in
     subst P (sym is) (fault_only laws parts part.Manifest (reason.Form (told.Range (codes "dex_files"))) (other_count m form other))
 
-pub of_layouts : (laws : LowerLaws) (parts : Parts) (m : Manifest) (e : FormFault) (h : Stop Refusal) → HasManifest parts m → (e ≢ told.Memory → FirstFormFault layouts_form parts.layouts e) → HaltsForm part.Layouts e h → Halts (RefusesOnly parts) h
+pub of_layouts : (laws : LowerLaws) (parts : Parts) (m : AppManifest) (e : FormFault) (h : Stop Refusal) → HasManifest parts m → (e ≢ told.Memory → FirstFormFault layouts_form parts.layouts e) → HaltsForm part.Layouts e h → Halts (RefusesOnly parts) h
 of_layouts laws parts m e stops.Memory manifest first halts = tt
 of_layouts laws parts m e (stops.Fault r) manifest first halts = is_this parts r _ halts.1 (fault_only laws parts part.Layouts (reason.Form e) (bad_layouts m e manifest (first halts.0)))
 
-pub of_declaration : (laws : LowerLaws) (parts : Parts) (m : Manifest) (l : Layouts) (e : FormFault) (h : Stop Refusal) → HasManifest parts m → IsForm layouts_form parts.layouts l
+pub of_declaration : (laws : LowerLaws) (parts : Parts) (m : AppManifest) (l : Layouts) (e : FormFault) (h : Stop Refusal) → HasManifest parts m → IsForm layouts_form parts.layouts l
     → (e ≢ told.Memory → FirstFormFault declaration_form parts.declaration e) → HaltsForm part.Declaration e h → Halts (RefusesOnly parts) h
 of_declaration laws parts m l e stops.Memory manifest layouts first halts = tt
 of_declaration laws parts m l e (stops.Fault r) manifest layouts first halts = is_this parts r _ halts.1 (fault_only laws parts part.Declaration (reason.Form e) (bad_declaration m l e manifest layouts (first halts.0)))
 
-pub of_lists : (laws : LowerLaws) (parts : Parts) (m : Manifest) (l : Layouts) (d : Declaration) (e : FormFault) (h : Stop Refusal) → HasManifest parts m → IsForm layouts_form parts.layouts l → IsForm declaration_form parts.declaration d
+pub of_lists : (laws : LowerLaws) (parts : Parts) (m : AppManifest) (l : Layouts) (d : Declaration) (e : FormFault) (h : Stop Refusal) → HasManifest parts m → IsForm layouts_form parts.layouts l → IsForm declaration_form parts.declaration d
     → (e ≢ told.Memory → FirstFormFault lists_form parts.lists e) → HaltsForm part.Lists e h → Halts (RefusesOnly parts) h
 of_lists laws parts m l d e stops.Memory manifest layouts declaration first halts = tt
 of_lists laws parts m l d e (stops.Fault r) manifest layouts declaration first halts = is_this parts r _ halts.1 (fault_only laws parts part.Lists (reason.Form e) (bad_lists m l d e manifest layouts declaration (first halts.0)))

@@ -26,18 +26,20 @@ use Rattle.outcomes.specs.NothingLeftOut.{EachIsFound, EachIsNamed}
 use Rattle.outcomes.specs.Places.{place_in}
 use Rattle.outcomes.specs.Within.{IsWithin, AreWithin}
 use Rattle.vet_base.specs.Members.{In}
-use Rattle.vet_base.proofs.Members.{in_back, in_filter_map}
+use Rattle.vet_base.proofs.Members.{in_front, in_back, in_filter_map}
 use Rattle.verdict.specs.declared.linking.Linked.{Linked}
 use Rattle.verdict.specs.declared.outcome.Judged.{Judged}
 use Rattle.verdict.specs.declared.outcome.Outcome.{Outcome}
 use Rattle.verdict.specs.declared.outcome.Outcome.TheVariants.{Clear, Refused}
 use Rattle.verdict.specs.declared.papers.Refusal.{Refusal}
 use Rattle.verdict.specs.declared.parts.Parts.{Parts}
-use Rattle.verdict.specs.Linked.{IsLinked}
+use Rattle.device_causes.specs.DeviceCauses.{device_causes}
+use Rattle.link_access.specs.Access.{Accesses}
+use Rattle.verdict.specs.Linked.{IsLinked, causes_beside}
 use Rattle.verdict.specs.OneVerdict.{RefusesOnly}
 use Rattle.verdict.specs.Outcome.{causes_in, findings_in, outcome_of}
 use Rattle.verdict.specs.Tells.{IsFollowed, TellsAll, TellsOfApp}
-use Rattle.verdict.specs.Verdict.{ComesTo, Judgement, refused, linked, refusal, IsSafeApp, judged_by}
+use Rattle.verdict.specs.Verdict.{ComesTo, Judgement, refused, linked, refusal, IsSafeApp, judged_by, told_beside}
 
 -- a row in the app names methods of the app
 is_within : (app : App) (lists : Lists) (row : Row) → InApp app lists row → IsWithin app row
@@ -56,9 +58,9 @@ pub never_refused : {T : Type 0} (found : Option T) (Good : Type 0) → IfNone f
 never_refused None Good denied none good = denied good
 never_refused (Some x) Good denied none good = absurd cc
 
-pub judged_there : (app : App) (lists : Lists) (declaration : Declaration) (flow : Flow) (found : Option Judged) (j : Judged) →
-    IfSome found (λ k. k ≡ judged_by app lists declaration flow) → found ≡ Some j → j ≡ judged_by app lists declaration flow
-judged_there app lists declaration flow found j same is = subst (λ (o : Option Judged). IfSome o (λ k. k ≡ judged_by app lists declaration flow)) is same
+pub judged_there : (app : App) (lists : Lists) (declaration : Declaration) (beside : List Cause) (flow : Flow) (found : Option Judged) (j : Judged) →
+    IfSome found (λ k. k ≡ judged_by app lists declaration beside flow) → found ≡ Some j → j ≡ judged_by app lists declaration beside flow
+judged_there app lists declaration beside flow found j same is = subst (λ (o : Option Judged). IfSome o (λ k. k ≡ judged_by app lists declaration beside flow)) is same
 
 -- what the checker says of the rows of a flow
 pub clear_by_checker : (app : App) (lists : Lists) (flow : Flow) (rows : List Row) (outcome : Outcome) → flow ≡ Rows rows →
@@ -100,38 +102,43 @@ stands_at app rows method pc cause there =
     in_filter_map (place_of app cause) rows (Unknown there.node cause) (place_in app method pc) there.holds (gives ∙ ap (λ (p : Place). Some p) same)
 
 -- the outcome of a good table tells of every run
-pub rows_tell : EachIsFound → EachIsNamed → (app : App) (lists : Lists) (declaration : Declaration) (rows : List Row) → SoundApp app → GoodTable app lists rows → CoversEveryRun app lists (λ row. In row rows)
-    → TellsAll app lists declaration (outcome_of (causes_of app rows) (findings_of app lists declaration rows))
-rows_tell found named app lists declaration rows sound good covers = record {
+pub rows_tell : EachIsFound → EachIsNamed → (app : App) (lists : Lists) (declaration : Declaration) (beside : List Cause) (rows : List Row) → SoundApp app → GoodTable app lists rows → CoversEveryRun app lists (λ row. In row rows)
+    → TellsAll app lists declaration (outcome_of (causes_of app rows ++ beside) (findings_of app lists declaration rows))
+rows_tell found named app lists declaration beside rows sound good covers = record {
   arrivals = λ w fs run a is_in.
       let told = found app lists declaration rows sound within a (arrives rows a (covers.arrivals w fs run a is_in)) in
-      elim told [ inl declared ↦ inl declared | inr there ↦ inr (subst (In (finding_of app lists a)) (sym (findings_told (causes_of app rows) (findings_of app lists declaration rows))) there) ];
+      elim told [ inl declared ↦ inl declared | inr there ↦ inr (subst (In (finding_of app lists a)) (sym (findings_told (causes_of app rows ++ beside) (findings_of app lists declaration rows))) there) ];
   stands = λ w fs run method pc cause stands.
       let there = covers.stands w fs run method pc cause stands in
       let bounds = (good.in_app (Unknown there.node cause) there.holds).1.0 in
-      subst (In _) (sym (causes_told (causes_of app rows) (findings_of app lists declaration rows)))
-      (named app rows sound within cause bounds.0 bounds.1 (place_in app method pc) (stands_at app rows method pc cause there));
+      subst (In _) (sym (causes_told (causes_of app rows ++ beside) (findings_of app lists declaration rows)))
+      (in_front _ (causes_of app rows) beside (named app rows sound within cause bounds.0 bounds.1 (place_in app method pc) (stands_at app rows method pc cause there)));
 }
   where
     within : AreWithin app rows
     within = good_is_within app lists rows good
 
-by_flow : EachIsFound → EachIsNamed → EveryGoodTableCoversEveryRun → (app : App) (lists : Lists) (declaration : Declaration) (flow : Flow) → SoundApp app → IsGoodFlow app lists flow
-    → IsFollowed (judged_by app lists declaration flow).outcome → TellsAll app lists declaration (judged_by app lists declaration flow).outcome
+by_flow : EachIsFound → EachIsNamed → EveryGoodTableCoversEveryRun → (app : App) (lists : Lists) (declaration : Declaration) (beside : List Cause) (flow : Flow) → SoundApp app → IsGoodFlow app lists flow
+    → IsFollowed (judged_by app lists declaration beside flow).outcome → TellsAll app lists declaration (judged_by app lists declaration beside flow).outcome
 unfolding causes_too_large
-by_flow found named covers app lists declaration (Rows rows) sound good followed = rows_tell found named app lists declaration rows sound good (covers app lists rows sound good)
-by_flow found named covers app lists declaration (TooLarge limit) sound good followed =
-    absurd (followed.not_too_large limit (in_back (causes.TooLarge limit) (providers app ++ layout_classes app) (causes.TooLarge limit ∷ []) (inl refl)))
+by_flow found named covers app lists declaration beside (Rows rows) sound good followed = rows_tell found named app lists declaration beside rows sound good (covers app lists rows sound good)
+by_flow found named covers app lists declaration beside (TooLarge limit) sound good followed =
+    absurd (followed.not_too_large limit (in_front (causes.TooLarge limit) (causes_too_large app limit) beside (in_back (causes.TooLarge limit) (providers app ++ layout_classes app) (causes.TooLarge limit ∷ []) (inl refl))))
 
-pub flow_tells : EachIsFound → EachIsNamed → EveryGoodTableCoversEveryRun → (app : App) (lists : Lists) (declaration : Declaration) (flow : Flow) (j : Judged) → SoundApp app → IsGoodFlow app lists flow
-    → j ≡ judged_by app lists declaration flow → IsFollowed j.outcome → TellsAll app lists declaration j.outcome
-flow_tells found named covers app lists declaration flow j sound good same followed =
-    let told = by_flow found named covers app lists declaration flow sound good (subst (λ (k : Judged). IsFollowed k.outcome) same followed) in
+pub flow_tells : EachIsFound → EachIsNamed → EveryGoodTableCoversEveryRun → (app : App) (lists : Lists) (declaration : Declaration) (beside : List Cause) (flow : Flow) (j : Judged) → SoundApp app → IsGoodFlow app lists flow
+    → j ≡ judged_by app lists declaration beside flow → IsFollowed j.outcome → TellsAll app lists declaration j.outcome
+flow_tells found named covers app lists declaration beside flow j sound good same followed =
+    let told = by_flow found named covers app lists declaration beside flow sound good (subst (λ (k : Judged). IsFollowed k.outcome) same followed) in
     subst (λ (k : Judged). TellsAll app lists declaration k.outcome) (sym same) told
 
+-- the causes beside are those of the files
+pub as_told : (parts : Parts) (l : Linked) (is : IsLinked parts l) → causes_beside l ≡ told_beside l.papers is.dexes l.app
+as_told parts l is = ap (λ (access : Accesses). device_causes l.app access l.papers.lists l.papers.device l.papers.named) is.access
+
 -- what is said of the app is said of the parts
-pub judgement_on : (parts : Parts) (l : Linked) (j : Judged) → IsLinked parts l → ComesTo l.app l.papers.lists l.papers.declaration j → Judgement parts j
-judgement_on parts l j is comes = linked l.papers is.dexes l.app is.reads is.is_app comes
+pub judgement_on : (parts : Parts) (l : Linked) (j : Judged) → IsLinked parts l → ComesTo l.app l.papers.lists l.papers.declaration (causes_beside l) j → Judgement parts j
+judgement_on parts l j is comes =
+    linked l.papers is.dexes l.app is.reads is.is_app (subst (λ (beside : List Cause). ComesTo l.app l.papers.lists l.papers.declaration beside j) (as_told parts l is) comes)
 
 pub tells_of_parts : (parts : Parts) (l : Linked) (outcome : Outcome) → IsLinked parts l → (IsFollowed outcome → TellsAll l.app l.papers.lists l.papers.declaration outcome) → IsFollowed outcome → TellsOfApp parts outcome
 tells_of_parts parts l outcome is tells followed = record { papers = l.papers; dexes = is.dexes; reads = is.reads; app = l.app; is_app = is.is_app; tells = tells followed }

@@ -14,27 +14,32 @@ use Rattle.verdict.specs.declared.outcome.Outcome.{Outcome}
 use Rattle.verdict.specs.declared.outcome.Outcome.TheVariants as outcomes
 use Rattle.verdict.specs.declared.outcome.Rechecked.{Rechecked}
 use Rattle.verdict.specs.declared.outcome.Rechecked.TheVariants.{Refused, Defect, By}
+use Rattle.verdict.specs.declared.papers.Papers.{Papers}
 use Rattle.verdict.specs.declared.papers.Refusal.{Refusal}
 use Rattle.verdict.specs.declared.parts.Parts.{Parts}
-use Rattle.verdict.specs.Linked.{IsLinked}
+use Rattle.dex_tables.specs.declared.dex.Dex.{Dex}
+use Rattle.outcomes.specs.declared.outcome.Cause.{Cause}
+use Rattle.verdict.specs.Linked.{IsLinked, causes_beside}
 use Rattle.verdict.specs.OneVerdict.{LowerLaws, RefusesOnly}
 use Rattle.verdict.specs.Recheck.{OnlyRejudgement, RechecksTo, Rejudgement, TellsAllBy, TellsBy, refused, linked}
 use Rattle.verdict.specs.Tells.{TellsAll, TellsOfApp}
-use Rattle.verdict.specs.Verdict.{IsSafeApp, refusal, refused as refused_judgement}
-use Rattle.verdict.proofs.OneVerdict.{as_read, no_app_of}
-use Rattle.verdict.proofs.Outcomes.{clear_is_safe, rows_tell}
+use Rattle.verdict.specs.Verdict.{IsSafeApp, refusal, told_beside, refused as refused_judgement}
+use Rattle.verdict.proofs.OneReading.{one_list}
+use Rattle.verdict.proofs.OneVerdict.{as_read, no_app_of, one_papers}
+use Rattle.verdict.proofs.Outcomes.{as_told, clear_is_safe, rows_tell}
 
 -- where the rows are good, the outcome by them tells of every run
-pub recheck_tells : EachIsFound → EachIsNamed → EveryGoodTableCoversEveryRun → (app : App) (lists : Lists) (declaration : Declaration) (rows : List Row) (r : Rechecked) → SoundApp app
-    → RechecksTo app lists declaration rows r → TellsAllBy app lists declaration r
-recheck_tells found named covers app lists declaration rows (Refused part reason) sound to = tt
-recheck_tells found named covers app lists declaration rows (Defect defect) sound to = tt
-recheck_tells found named covers app lists declaration rows (By outcome) sound to =
-    subst (TellsAll app lists declaration) (sym to.1) (rows_tell found named app lists declaration rows sound to.0 (covers app lists rows sound to.0))
+pub recheck_tells : EachIsFound → EachIsNamed → EveryGoodTableCoversEveryRun → (app : App) (lists : Lists) (declaration : Declaration) (beside : List Cause) (rows : List Row) (r : Rechecked) → SoundApp app
+    → RechecksTo app lists declaration beside rows r → TellsAllBy app lists declaration r
+recheck_tells found named covers app lists declaration beside rows (Refused part reason) sound to = tt
+recheck_tells found named covers app lists declaration beside rows (Defect defect) sound to = tt
+recheck_tells found named covers app lists declaration beside rows (By outcome) sound to =
+    subst (TellsAll app lists declaration) (sym to.1) (rows_tell found named app lists declaration beside rows sound to.0 (covers app lists rows sound to.0))
 
 -- what is said of the app is said of the parts
-pub rejudgement_on : (parts : Parts) (l : Linked) (rows : List Row) (r : Rechecked) → IsLinked parts l → RechecksTo l.app l.papers.lists l.papers.declaration rows r → Rejudgement parts rows r
-rejudgement_on parts l rows r is to = linked l.papers is.dexes l.app is.reads is.is_app to
+pub rejudgement_on : (parts : Parts) (l : Linked) (rows : List Row) (r : Rechecked) → IsLinked parts l → RechecksTo l.app l.papers.lists l.papers.declaration (causes_beside l) rows r → Rejudgement parts rows r
+rejudgement_on parts l rows r is to =
+    linked l.papers is.dexes l.app is.reads is.is_app (subst (λ (beside : List Cause). RechecksTo l.app l.papers.lists l.papers.declaration beside rows r) (as_told parts l is) to)
 
 pub tells_by_parts : (parts : Parts) (l : Linked) (r : Rechecked) → IsLinked parts l → TellsAllBy l.app l.papers.lists l.papers.declaration r → TellsBy parts r
 tells_by_parts parts l (Refused part reason) is tells = tt
@@ -47,22 +52,22 @@ clear_by_is_safe parts r tells clear =
     clear_is_safe parts outcomes.Clear (λ followed. told) refl
 
 -- an app comes to one thing by rows
-one_recheck : OneDefect → (app : App) (lists : Lists) (declaration : Declaration) (rows : List Row) (one other : Rechecked) → RechecksTo app lists declaration rows one → RechecksTo app lists declaration rows other → one ≡ other
-one_recheck law app lists declaration rows (Refused part reason) other a b = absurd a
-one_recheck law app lists declaration rows one (Refused part reason) a b = absurd b
-one_recheck law app lists declaration rows (Defect d) (Defect e) a b = same_defect (law app lists rows (Some d) (Some e) a b)
+one_recheck : OneDefect → (app : App) (lists : Lists) (declaration : Declaration) (beside : List Cause) (rows : List Row) (one other : Rechecked) → RechecksTo app lists declaration beside rows one → RechecksTo app lists declaration beside rows other → one ≡ other
+one_recheck law app lists declaration beside rows (Refused part reason) other a b = absurd a
+one_recheck law app lists declaration beside rows one (Refused part reason) a b = absurd b
+one_recheck law app lists declaration beside rows (Defect d) (Defect e) a b = same_defect (law app lists rows (Some d) (Some e) a b)
   where
     same_defect : Some d ≡ Some e → Defect d ≡ Defect e
     same_defect same = let equal : d ≡ e = cc in ap Defect equal
-one_recheck law app lists declaration rows (Defect d) (By outcome) a b = absurd (not_both (law app lists rows (Some d) None a b.0))
+one_recheck law app lists declaration beside rows (Defect d) (By outcome) a b = absurd (not_both (law app lists rows (Some d) None a b.0))
   where
     not_both : Some d ≡ None → ⊥
     not_both same = cc
-one_recheck law app lists declaration rows (By outcome) (Defect d) a b = absurd (not_both (law app lists rows None (Some d) a.0 b))
+one_recheck law app lists declaration beside rows (By outcome) (Defect d) a b = absurd (not_both (law app lists rows None (Some d) a.0 b))
   where
     not_both : None ≡ Some d → ⊥
     not_both same = cc
-one_recheck law app lists declaration rows (By one) (By other) a b = ap By (a.1 ∙ sym b.1)
+one_recheck law app lists declaration beside rows (By one) (By other) a b = ap By (a.1 ∙ sym b.1)
 
 -- the outcome of a judgement, as what a refusal comes to by any rows
 abbrev as_rechecked : Outcome → Rechecked
@@ -79,16 +84,20 @@ module _ (laws : LowerLaws) (parts : Parts) (rows : List Row) where
   only_refused r this other (linked papers dexes app reads is to) = absurd (no_app_of laws parts r.part r.reason this.refuses papers dexes app reads is)
 
   -- and a linked app comes to one thing
-  pub only_rejudged : OneDefect → (l : Linked) (r : Rechecked) → IsLinked parts l → RechecksTo l.app l.papers.lists l.papers.declaration rows r → OnlyRejudgement parts rows r
+  pub only_rejudged : OneDefect → (l : Linked) (r : Rechecked) → IsLinked parts l → RechecksTo l.app l.papers.lists l.papers.declaration (causes_beside l) rows r → OnlyRejudgement parts rows r
   only_rejudged law l r is to _ (refused part why refuses) = absurd (no_app_of laws parts part why refuses l.papers is.dexes l.app is.reads is.is_app)
   only_rejudged law l r is to other (linked papers dexes app reads is_app too) =
       let same_app : app ≡ l.app = is.only.only app (as_read laws parts papers l.papers dexes is.dexes app reads is.reads is_app) in
-      let same_lists : papers.lists ≡ l.papers.lists = (laws.forms.lists parts.lists).one_form papers.lists l.papers.lists reads.forms.lists is.reads.forms.lists in
-      let same_declaration : papers.declaration ≡ l.papers.declaration = (laws.forms.declaration parts.declaration).one_form papers.declaration l.papers.declaration reads.forms.declaration is.reads.forms.declaration in
-      let first : RechecksTo l.app papers.lists papers.declaration rows other = subst (λ (a : App). RechecksTo a papers.lists papers.declaration rows other) same_app too in
-      let second : RechecksTo l.app l.papers.lists papers.declaration rows other = subst (λ (ls : Lists). RechecksTo l.app ls papers.declaration rows other) same_lists first in
-      let third : RechecksTo l.app l.papers.lists l.papers.declaration rows other = subst (λ (d : Declaration). RechecksTo l.app l.papers.lists d rows other) same_declaration second in
-      one_recheck law l.app l.papers.lists l.papers.declaration rows other r third to
+      let same_papers : papers ≡ l.papers = one_papers laws parts papers l.papers reads.forms is.reads.forms in
+      let same_dexes : dexes ≡ is.dexes = one_list laws.files parts.dex dexes is.dexes reads.files is.reads.files in
+      let first : RechecksTo l.app papers.lists papers.declaration (told_beside papers dexes l.app) rows other = subst (λ (a : App). RechecksTo a papers.lists papers.declaration (told_beside papers dexes a) rows other) same_app too in
+      let second : RechecksTo l.app l.papers.lists l.papers.declaration (told_beside l.papers dexes l.app) rows other =
+          subst (λ (p : Papers). RechecksTo l.app p.lists p.declaration (told_beside p dexes l.app) rows other) same_papers first in
+      let third : RechecksTo l.app l.papers.lists l.papers.declaration (told_beside l.papers is.dexes l.app) rows other =
+          subst (λ (ds : List Dex). RechecksTo l.app l.papers.lists l.papers.declaration (told_beside l.papers ds l.app) rows other) same_dexes second in
+      let fourth : RechecksTo l.app l.papers.lists l.papers.declaration (causes_beside l) rows other =
+          subst (λ (beside : List Cause). RechecksTo l.app l.papers.lists l.papers.declaration beside rows other) (sym (as_told parts l is)) third in
+      one_recheck law l.app l.papers.lists l.papers.declaration (causes_beside l) rows other r fourth to
 
 pub refused_anyway : (parts : Parts) (rows : List Row) (r : Refusal) → RefusesOnly parts r.part r.reason → Rejudgement parts rows (Refused r.part r.reason)
 refused_anyway parts rows r this = refused r.part r.reason this.refuses

@@ -8,6 +8,7 @@ use Rattle.app_flow.specs.InOrder.{tells}
 use Rattle.fact_rows.specs.declared.row.Row.{Row}
 use Rattle.fact_rows.specs.declared.row.Row.TheVariants.{Arrive, Unknown}
 use Rattle.outcomes.specs.Ascending.{ascending}
+use Rattle.outcomes.specs.declared.outcome.Cause.{Cause}
 use Rattle.outcomes.specs.Causes.{causes_of, layout_classes, natives, no_summaries, place_of, providers, reflectives, unknown_places}
 use Rattle.outcomes.specs.Findings.{arrival_of, arrivals_in, findings_of}
 use Rattle.outcomes.specs.Within.{AreWithin}
@@ -38,12 +39,12 @@ same_findings : (app : App) (lists : Lists) (declaration : Declaration) (rows : 
 unfolding findings_of
 same_findings app lists declaration rows = rw (same_arrivals rows) refl
 
-pub outcome_by_telling : (app : App) (lists : Lists) (declaration : Declaration) (rows telling : List Row) (o : Outcome) → telling ≡ filter tells rows →
-    o ≡ outcome_of (causes_of app telling) (findings_of app lists declaration telling) → o ≡ outcome_of (causes_of app rows) (findings_of app lists declaration rows)
-outcome_by_telling app lists declaration rows telling o is told =
+pub outcome_by_telling : (app : App) (lists : Lists) (declaration : Declaration) (beside : List Cause) (rows telling : List Row) (o : Outcome) → telling ≡ filter tells rows →
+    o ≡ outcome_of (causes_of app telling ++ beside) (findings_of app lists declaration telling) → o ≡ outcome_of (causes_of app rows ++ beside) (findings_of app lists declaration rows)
+outcome_by_telling app lists declaration beside rows telling o is told =
     told
-    ∙ ap (λ (xs : List Row). outcome_of (causes_of app xs) (findings_of app lists declaration xs)) is
-    ∙ (λ i. outcome_of (same_causes app rows i) (same_findings app lists declaration rows i))
+    ∙ ap (λ (xs : List Row). outcome_of (causes_of app xs ++ beside) (findings_of app lists declaration xs)) is
+    ∙ (λ i. outcome_of (same_causes app rows i ++ beside) (same_findings app lists declaration rows i))
 
 pub telling_within : (app : App) (rows telling : List Row) → telling ≡ filter tells rows → AreWithin app rows → AreWithin app telling
 telling_within app rows telling is within = subst (AreWithin app) (sym is) (λ row at. within row (from_filter tells row rows at).1)

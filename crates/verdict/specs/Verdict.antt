@@ -1,5 +1,5 @@
 -- What the parts of an app come to, and when they make an app that is safe.
-use Rattle.std.specs.Prelude.{◌≡◌, List, [], Option, Some, None}
+use Rattle.std.specs.Prelude.{◌≡◌, List, [], ◌++◌, Option, Some, None}
 use Rattle.dex_tables.specs.declared.dex.Dex.{Dex}
 use Rattle.app_machine.specs.declared.app.App.{App}
 use Rattle.app_machine.specs.declared.lists.Lists.{Lists}
@@ -9,6 +9,9 @@ use Rattle.app_flow.specs.declared.flow.Flow.{Flow}
 use Rattle.app_flow.specs.declared.flow.Flow.TheVariants.{Rows, TooLarge}
 use Rattle.app_flow.specs.Flow.{IsFlow}
 use Rattle.app_link.specs.IsApp.{IsApp}
+use Rattle.device_causes.specs.DeviceCauses.{device_causes}
+use Rattle.link_access.specs.Access.{accesses_in}
+use Rattle.outcomes.specs.declared.outcome.Cause.{Cause}
 use Rattle.fact_rows.specs.declared.row.Row.{Row}
 use Rattle.outcomes.specs.Causes.{causes_of, causes_too_large}
 use Rattle.outcomes.specs.Findings.{findings_of}
@@ -22,17 +25,21 @@ use Rattle.verdict.specs.declared.parts.Parts.{Parts}
 use Rattle.verdict.specs.Outcome.{outcome_of}
 use Rattle.verdict.specs.Refuses.{Refuses, Reads}
 
--- What the causes and findings of the rows that follow make of an app, and these rows as its table. Of an app that is too large
--- nothing is found, and there is no table.
-abbrev pub judged_by : App → Lists → Declaration → Flow → Judged
-judged_by app lists declaration (Rows rows) = record { outcome = outcome_of (causes_of app rows) (findings_of app lists declaration rows); table = Some rows }
-judged_by app lists declaration (TooLarge limit) = record { outcome = Undecided (causes_too_large app limit) []; table = None }
+-- What the causes and findings of the rows that follow make of an app, with the causes beside them, and these rows as its table.
+-- Of an app that is too large nothing is found, and there is no table.
+abbrev pub judged_by : App → Lists → Declaration → List Cause → Flow → Judged
+judged_by app lists declaration beside (Rows rows) = record { outcome = outcome_of (causes_of app rows ++ beside) (findings_of app lists declaration rows); table = Some rows }
+judged_by app lists declaration beside (TooLarge limit) = record { outcome = Undecided (causes_too_large app limit ++ beside) []; table = None }
 
--- what an app comes to, by its flow
-pub record ComesTo (app : App) (lists : Lists) (declaration : Declaration) (j : Judged) : Type 0 where
+-- what an app comes to, by its flow and the causes beside it
+pub record ComesTo (app : App) (lists : Lists) (declaration : Declaration) (beside : List Cause) (j : Judged) : Type 0 where
   pub flow : Flow
   pub is_flow : IsFlow app lists flow
-  pub same : j ≡ judged_by app lists declaration flow
+  pub same : j ≡ judged_by app lists declaration beside flow
+
+-- why a device may do more than the machine, as far as the files, the lists and the manifest tell
+abbrev pub told_beside : Papers → List Dex → App → List Cause
+told_beside papers dexes app = device_causes app (accesses_in dexes) papers.lists papers.device papers.named
 
 -- a refusal, without a table
 abbrev pub refusal : Part → Reason → Judged
@@ -41,7 +48,7 @@ refusal part reason = record { outcome = Refused part reason; table = None }
 -- the first refusal, or else what the app comes to
 pub data Judgement (parts : Parts) : Judged → Type 0 where
   refused : (part : Part) (reason : Reason) → Refuses parts part reason → Judgement parts (refusal part reason)
-  linked : {j : Judged} (papers : Papers) (dexes : List Dex) (app : App) → Reads parts papers dexes → IsApp dexes papers.manifest papers.layouts app → ComesTo app papers.lists papers.declaration j → Judgement parts j
+  linked : {j : Judged} (papers : Papers) (dexes : List Dex) (app : App) → Reads parts papers dexes → IsApp dexes papers.manifest papers.layouts app → ComesTo app papers.lists papers.declaration (told_beside papers dexes app) j → Judgement parts j
 
 -- the outcome of the parts, with whatever table
 abbrev pub Verdict : Parts → Outcome → Type 0

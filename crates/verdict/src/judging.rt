@@ -1,6 +1,6 @@
 //! What the bytes of all parts of an app come to.
 
-ghost use Rattle.std.specs.Prelude.{◌≡◌, ◌⊎◌, IfOk, IfErr, IfNone, IfSome, IsErr, IsTrue, List};
+ghost use Rattle.std.specs.Prelude.{◌≡◌, ◌⊎◌, ◌++◌, IfOk, IfErr, IfNone, IfSome, IsErr, IsTrue, List};
 ghost use Rattle.app_machine.specs.SoundLists.{SoundLists};
 ghost use Rattle.app_machine.specs.Sound.{SoundApp};
 ghost use Rattle.app_flow.specs.Flow.{IsGoodFlow};
@@ -10,6 +10,7 @@ ghost use Rattle.outcomes.specs.Causes.{causes_of};
 ghost use Rattle.outcomes.specs.Findings.{findings_of};
 ghost use Rattle.outcomes.specs.Within.{AreWithin};
 ghost use Rattle.verdict.specs.Halts.{Halts};
+ghost use Rattle.verdict.specs.Linked.{causes_beside};
 ghost use Rattle.verdict.specs.OneVerdict.{OnlyJudgement, RefusesOnly};
 ghost use Rattle.verdict.specs.Outcome.{outcome_of};
 ghost use Rattle.verdict.specs.Table.{IsTable};
@@ -18,10 +19,11 @@ ghost use Rattle.verdict.specs.Verdict.{ComesTo, Judgement, IsSafeApp, judged_by
 
 use crate::laws::lower_laws;
 use crate::linking::{Linked, linked_parts};
-use crate::papers::{Halt, Papers};
+use crate::papers::Halt;
 use crate::{Cause, Finding, Judged, Outcome, Parts};
 use app_flow::{Flow, FlowRows, flow_of, is_good};
 use app_model::{App, Lists};
+use device_causes::device_causes;
 use fact_rows::Row;
 use flow_proof::every_good_table_covers_every_run;
 use outcomes::{causes_of, causes_too_large, findings_of, nothing_is_left_out};
@@ -44,37 +46,51 @@ fn outcome_with(causes: Vec<Cause>, findings: Vec<Finding>) -> Outcome
     }
 }
 
-/// What an app comes to by rows.
-pub fn outcome_of_rows(
-    alloc: Global,
-    app: &App,
-    papers: &Papers,
-    rows: &[Row],
-) -> Result<Outcome, Memory>
-    requires sound { SoundApp app.now }
-    requires within { AreWithin app.now rows.now }
-    ensures { IfOk result (λ o. o ≡ outcome_of (causes_of app.now rows.now)
-        (findings_of app.now papers.now.lists papers.now.declaration rows.now)) }
+/// Why a device may do more than the machine.
+fn causes_beside(alloc: Global, linked: &Linked) -> Result<Vec<Cause>, Memory>
+    requires { SoundApp linked.now.app }
+    ensures { IfOk result (λ v. v.items ≡ causes_beside linked.now) }
 {
-    let causes = causes_of(alloc, app, rows)?;
-    let findings = findings_of(alloc, app, &papers.lists, &papers.declaration, rows)?;
+    let papers = &linked.papers;
+    device_causes(
+        alloc,
+        &linked.app,
+        &linked.access,
+        &papers.lists,
+        &papers.device,
+        papers.named.as_slice(),
+    )
+}
+
+/// What an app comes to by rows.
+pub fn outcome_of_rows(alloc: Global, linked: &Linked, rows: &[Row]) -> Result<Outcome, Memory>
+    requires sound { SoundApp linked.now.app }
+    requires within { AreWithin linked.now.app rows.now }
+    ensures { IfOk result (λ o. o ≡ outcome_of (causes_of linked.now.app rows.now ++ causes_beside linked.now)
+        (findings_of linked.now.app linked.now.papers.lists linked.now.papers.declaration rows.now)) }
+{
+    let papers = &linked.papers;
+    let mut causes = causes_of(alloc, &linked.app, rows)?;
+    causes.append(&mut causes_beside(alloc, linked)?)?;
+    let findings = findings_of(
+        alloc,
+        &linked.app,
+        &papers.lists,
+        &papers.declaration,
+        rows,
+    )?;
     Ok(outcome_with(causes, findings))
 }
 
 /// What an app comes to by the rows of its flow. Those that tell something by themselves are enough for that.
-fn outcome_of_flow(
-    alloc: Global,
-    app: &App,
-    papers: &Papers,
-    rows: &FlowRows,
-) -> Result<Outcome, Memory>
-    requires sound { SoundApp app.now }
-    requires within { AreWithin app.now rows.now }
-    ensures { IfOk result (λ o. o ≡ outcome_of (causes_of app.now rows.now)
-        (findings_of app.now papers.now.lists papers.now.declaration rows.now)) }
+fn outcome_of_flow(alloc: Global, linked: &Linked, rows: &FlowRows) -> Result<Outcome, Memory>
+    requires sound { SoundApp linked.now.app }
+    requires within { AreWithin linked.now.app rows.now }
+    ensures { IfOk result (λ o. o ≡ outcome_of (causes_of linked.now.app rows.now ++ causes_beside linked.now)
+        (findings_of linked.now.app linked.now.papers.lists linked.now.papers.declaration rows.now)) }
 {
     let telling = rows.telling(alloc)?;
-    let outcome = outcome_of_rows(alloc, app, papers, telling.as_slice())?;
+    let outcome = outcome_of_rows(alloc, linked, telling.as_slice())?;
     Ok(outcome)
 }
 
@@ -112,22 +128,29 @@ fn confirmed<T: Threads + Sync, L>(
 /// clear, it is so by the checker's word. None only where the checker refuses the rows.
 fn outcome_by<T: Threads + Sync, L>(
     alloc: Global,
-    app: &App,
-    papers: &Papers,
+    linked: &Linked,
     rows: &FlowRows,
     crew: &Crew<'_, T, L>,
 ) -> Result<Option<Outcome>, Memory>
-    requires sound { SoundApp app.now }
-    requires lists { SoundLists papers.now.lists }
-    requires within { AreWithin app.now rows.now }
-    ensures some { IfOk result (λ found. IfSome found (λ o. o ≡ outcome_of (causes_of app.now rows.now)
-        (findings_of app.now papers.now.lists papers.now.declaration rows.now))) }
-    ensures clear { IfOk result (λ found. IfSome found (λ o. o ≡ Outcome.Clear → GoodTable app.now papers.now.lists
-        rows.now)) }
-    ensures none { IfOk result (λ found. IfNone found (GoodTable app.now papers.now.lists rows.now → ⊥)) }
+    requires sound { SoundApp linked.now.app }
+    requires lists { SoundLists linked.now.papers.lists }
+    requires within { AreWithin linked.now.app rows.now }
+    ensures some { IfOk result (λ found. IfSome found (λ o. o ≡ outcome_of
+        (causes_of linked.now.app rows.now ++ causes_beside linked.now)
+        (findings_of linked.now.app linked.now.papers.lists linked.now.papers.declaration rows.now))) }
+    ensures clear { IfOk result (λ found. IfSome found (λ o. o ≡ Outcome.Clear → GoodTable linked.now.app
+        linked.now.papers.lists rows.now)) }
+    ensures none { IfOk result (λ found. IfNone found (GoodTable linked.now.app linked.now.papers.lists rows.now → ⊥)) }
 {
-    let outcome = outcome_of_flow(alloc, app, papers, rows)?;
-    confirmed(alloc, app, &papers.lists, rows, outcome, crew)
+    let outcome = outcome_of_flow(alloc, linked, rows)?;
+    confirmed(
+        alloc,
+        &linked.app,
+        &linked.papers.lists,
+        rows,
+        outcome,
+        crew,
+    )
 }
 
 /// What an app comes to by its flow: as its rows say, or that they are too many. None only where the checker refuses
@@ -135,22 +158,21 @@ fn outcome_by<T: Threads + Sync, L>(
 #[tactic(auto, using(crate::proofs::Outcomes::clear_by_checker, crate::proofs::Outcomes::refused_by_checker, crate::proofs::Outcomes::too_large_is_good))]
 fn judged_by<T: Threads + Sync, L>(
     alloc: Global,
-    app: &App,
-    papers: &Papers,
+    linked: &Linked,
     flow: Flow,
     crew: &Crew<'_, T, L>,
 ) -> Result<Option<Judged>, Memory>
-    requires sound { SoundApp app.now }
-    requires lists { SoundLists papers.now.lists }
-    requires within { (rows : List FactRow) → flow ≡ Flow.Rows rows → AreWithin app.now rows }
-    ensures some { IfOk result (λ found. IfSome found (λ j. j ≡ judged_by app.now papers.now.lists
-        papers.now.declaration flow)) }
-    ensures clear { IfOk result (λ found. IfSome found (λ j. j.outcome ≡ Outcome.Clear → IsGoodFlow app.now
-        papers.now.lists flow)) }
-    ensures none { IfOk result (λ found. IfNone found (IsGoodFlow app.now papers.now.lists flow → ⊥)) }
+    requires sound { SoundApp linked.now.app }
+    requires lists { SoundLists linked.now.papers.lists }
+    requires within { (rows : List FactRow) → flow ≡ Flow.Rows rows → AreWithin linked.now.app rows }
+    ensures some { IfOk result (λ found. IfSome found (λ j. j ≡ judged_by linked.now.app linked.now.papers.lists
+        linked.now.papers.declaration (causes_beside linked.now) flow)) }
+    ensures clear { IfOk result (λ found. IfSome found (λ j. j.outcome ≡ Outcome.Clear → IsGoodFlow linked.now.app
+        linked.now.papers.lists flow)) }
+    ensures none { IfOk result (λ found. IfNone found (IsGoodFlow linked.now.app linked.now.papers.lists flow → ⊥)) }
 {
     match flow {
-        Flow::Rows(rows) => match outcome_by(alloc, app, papers, &rows, crew)? {
+        Flow::Rows(rows) => match outcome_by(alloc, linked, &rows, crew)? {
             Some(outcome) => Ok(Some(Judged {
                 outcome,
                 table: Some(rows),
@@ -158,7 +180,8 @@ fn judged_by<T: Threads + Sync, L>(
             None => Ok(None),
         },
         Flow::TooLarge(limit) => {
-            let causes = causes_too_large(alloc, app, limit)?;
+            let mut causes = causes_too_large(alloc, &linked.app, limit)?;
+            causes.append(&mut causes_beside(alloc, linked)?)?;
             let none = Vec::new(alloc);
             Ok(Some(Judged {
                 outcome: Outcome::Undecided(Seq::from_vec(causes), Seq::from_vec(none)),
@@ -177,7 +200,8 @@ pub fn judge_linked<T: Threads + Wait + Sync, L: Lookout>(
 ) -> Result<Judged, Memory>
     requires sound { SoundApp linked.now.app }
     requires lists { SoundLists linked.now.papers.lists }
-    ensures value { IfOk result (λ j. ComesTo linked.now.app linked.now.papers.lists linked.now.papers.declaration j) }
+    ensures value { IfOk result (λ j. ComesTo linked.now.app linked.now.papers.lists
+        linked.now.papers.declaration (causes_beside linked.now) j) }
 
     // Unless the app is too large, the outcome leaves out nothing that a run does.
     ensures told { IfOk result (λ j. IsFollowed j.outcome → TellsAll linked.now.app linked.now.papers.lists
@@ -187,7 +211,7 @@ pub fn judge_linked<T: Threads + Wait + Sync, L: Lookout>(
     nothing_is_left_out();
     every_good_table_covers_every_run();
     let flow = flow_of(alloc, &linked.app, &linked.papers.lists, crew)?;
-    match judged_by(alloc, &linked.app, &linked.papers, flow, crew)? {
+    match judged_by(alloc, linked, flow, crew)? {
         Some(judged) => Ok(judged),
         // The checker refuses nothing that the crew finds.
         None => unreachable!(),
@@ -219,14 +243,15 @@ fn judged_parts<T: Threads + Wait + Sync, L: Lookout>(
 /// Refused with the first fault: that of the manifest's form, a number of DEX files that is not the manifest's (a range
 /// fault of its `dex_files`), those of the forms of layouts, declaration and lists, that of each DEX file, and then
 /// that of the app that they are. Else undecided where a run may come to a call without a row of the lists, to native
-/// code or to reflection, where there is a content provider, where a layout names a class of the app, or where more
-/// rows follow than the lists allow; else flagged where a value of a source may come to a sink and the declaration does
+/// code or to reflection, where there is a content provider, where a layout names a class of the app, where more rows
+/// follow than the lists allow, where the manifest says that a class of the app is named elsewhere, or where strict
+/// lists ask about what a device may do besides (`device_causes`); else flagged where a value of a source may come to a sink and the declaration does
 /// not name the pair; else clear, and then no run of the app brings one there.
 ///
 /// Causes and findings stand in ascending order and each once: places by cause, providers and classes by name; findings
 /// by the names of source and sink and then by place. A place goes by class, name and descriptor of the method, and
-/// address. Of an app that is too large only that, its providers and its layouts' classes are told, and there is no
-/// table; nor is there one where the parts are refused. Else the table is there, with all rows that follow and no
+/// address. Of an app that is too large only that, its providers, its layouts' classes and what a device may do besides
+/// are told, and there is no table; nor is there one where the parts are refused. Else the table is there, with all rows that follow and no
 /// others. Nothing of this depends on the crew that finds what follows.
 #[tactic(auto, using(crate::proofs::Outcomes::refused_with, crate::proofs::Outcomes::no_followed_refusal, crate::proofs::Outcomes::clear_is_safe))]
 pub fn judge<T: Threads + Wait + Sync, L: Lookout>(

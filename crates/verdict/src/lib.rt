@@ -15,7 +15,7 @@ pub use judging::{judge, judge_linked};
 pub use laws::a_clear_verdict_is_of_a_safe_app;
 pub use linking::{Linked, linked_parts};
 pub use outcome::{Judged, Outcome, Part, Reason, Rechecked, status_for};
-pub use outcomes::{Cause, Finding, Place};
+pub use outcomes::{Cause, Finding, MethodName, Place};
 pub use papers::{Halt, Papers, Refusal};
 pub use parts::Parts;
 pub use rejudging::judge_table;

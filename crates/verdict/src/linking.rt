@@ -19,6 +19,7 @@ use crate::{Part, Parts, Reason};
 use app_link::{LinkFault, link};
 use app_model::App;
 use dex_tables::Dex;
+use link_access::{Accesses, accesses_of};
 use std::alloc::Global;
 use vet_base::Stop;
 
@@ -27,6 +28,8 @@ use vet_base::Stop;
 pub struct Linked {
     pub papers: Papers,
     pub app: App,
+    /// Who sees the members of its classes.
+    pub access: Accesses,
 }
 
 fn halt_of(fault: LinkFault) -> Halt
@@ -71,5 +74,10 @@ pub fn linked_parts(alloc: Global, parts: &Parts) -> Result<Linked, Halt>
     let papers = papers_of(alloc, parts)?;
     let dexes = dexes_of(alloc, parts, &papers)?;
     let app = linked_app(alloc, parts, &papers, &dexes)?;
-    Ok(Linked { papers, app })
+    let access = accesses_of(alloc, &dexes)?;
+    Ok(Linked {
+        papers,
+        app,
+        access,
+    })
 }

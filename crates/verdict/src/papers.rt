@@ -15,9 +15,12 @@ ghost use Rattle.verdict.specs.Refuses.{HasManifest, HasPapers};
 use crate::laws::lower_laws;
 use crate::{Part, Parts, Reason};
 use app_model::{Declaration, Layouts, Lists, Manifest};
-use office_forms::{FormFault, read_declaration, read_layouts, read_lists, read_manifest};
+use device_lists::DeviceLists;
+use office_forms::{
+    AppManifest, FormFault, StoreLists, read_declaration, read_layouts, read_lists, read_manifest,
+};
 use std::alloc::Global;
-use vet_base::{Name, Stop};
+use vet_base::{Name, Seq, Stop};
 
 /// What the forms say.
 #[derive(Drop)]
@@ -26,6 +29,10 @@ pub struct Papers {
     pub layouts: Layouts,
     pub declaration: Declaration,
     pub lists: Lists,
+    /// What the lists say of a device.
+    pub device: DeviceLists,
+    /// The classes that the manifest says are named elsewhere.
+    pub named: Seq<Name>,
 }
 
 /// What is refused, and why.
@@ -50,9 +57,9 @@ fn halt_of(part: Part, fault: FormFault) -> Halt
 }
 
 #[tactic(auto, using(crate::proofs::Halting::of_manifest))]
-fn manifest_form_of(alloc: Global, parts: &Parts) -> Result<Manifest, Halt>
+fn manifest_form_of(alloc: Global, parts: &Parts) -> Result<AppManifest, Halt>
     ensures ok { IfOk result (λ m. IsForm manifest_form parts.now.manifest m) }
-    ensures sound { IfOk result SoundManifest }
+    ensures sound { IfOk result (λ m. SoundManifest m.manifest) }
     ensures err { IfErr result (λ h. Halts (RefusesOnly parts.now) h) }
 {
     lower_laws();
@@ -64,14 +71,14 @@ fn manifest_form_of(alloc: Global, parts: &Parts) -> Result<Manifest, Halt>
 
 /// The manifest, which tells the number of DEX files.
 #[tactic(auto, using(crate::proofs::Halting::of_count))]
-fn manifest_of(alloc: Global, parts: &Parts) -> Result<Manifest, Halt>
+fn manifest_of(alloc: Global, parts: &Parts) -> Result<AppManifest, Halt>
     ensures ok { IfOk result (λ m. HasManifest parts.now m) }
-    ensures sound { IfOk result SoundManifest }
+    ensures sound { IfOk result (λ m. SoundManifest m.manifest) }
     ensures err { IfErr result (λ h. Halts (RefusesOnly parts.now) h) }
 {
     lower_laws();
     let manifest = manifest_form_of(alloc, parts)?;
-    if manifest.dex_files as usize != parts.dex.len() {
+    if manifest.manifest.dex_files as usize != parts.dex.len() {
         let key = Name::from_bytes(alloc, b"dex_files".as_slice())?;
         return Err(Stop::Fault(Refusal {
             part: Part::Manifest,
@@ -81,7 +88,7 @@ fn manifest_of(alloc: Global, parts: &Parts) -> Result<Manifest, Halt>
     Ok(manifest)
 }
 
-fn layouts_of(alloc: Global, parts: &Parts, manifest: &Manifest) -> Result<Layouts, Halt>
+fn layouts_of(alloc: Global, parts: &Parts, manifest: &AppManifest) -> Result<Layouts, Halt>
     requires { HasManifest parts.now manifest.now }
     ensures ok { IfOk result (λ l. IsForm layouts_form parts.now.layouts l) }
     ensures sound { IfOk result SoundLayouts }
@@ -97,7 +104,7 @@ fn layouts_of(alloc: Global, parts: &Parts, manifest: &Manifest) -> Result<Layou
 fn declaration_of(
     alloc: Global,
     parts: &Parts,
-    manifest: &Manifest,
+    manifest: &AppManifest,
     layouts: &Layouts,
 ) -> Result<Declaration, Halt>
     requires manifest { HasManifest parts.now manifest.now }
@@ -115,15 +122,15 @@ fn declaration_of(
 fn lists_of(
     alloc: Global,
     parts: &Parts,
-    manifest: &Manifest,
+    manifest: &AppManifest,
     layouts: &Layouts,
     declaration: &Declaration,
-) -> Result<Lists, Halt>
+) -> Result<StoreLists, Halt>
     requires manifest { HasManifest parts.now manifest.now }
     requires layouts { IsForm layouts_form parts.now.layouts layouts.now }
     requires declaration { IsForm declaration_form parts.now.declaration declaration.now }
     ensures ok { IfOk result (λ ls. IsForm lists_form parts.now.lists ls) }
-    ensures lists { IfOk result SoundLists }
+    ensures lists { IfOk result (λ ls. SoundLists ls.lists) }
     ensures err { IfErr result (λ h. Halts (RefusesOnly parts.now) h) }
 {
     lower_laws();
@@ -145,10 +152,14 @@ pub fn papers_of(alloc: Global, parts: &Parts) -> Result<Papers, Halt>
     let layouts = layouts_of(alloc, parts, &manifest)?;
     let declaration = declaration_of(alloc, parts, &manifest, &layouts)?;
     let lists = lists_of(alloc, parts, &manifest, &layouts, &declaration)?;
+    let AppManifest { manifest, named } = manifest;
+    let StoreLists { lists, device } = lists;
     Ok(Papers {
         manifest,
         layouts,
         declaration,
         lists,
+        device,
+        named,
     })
 }

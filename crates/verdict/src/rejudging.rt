@@ -5,17 +5,17 @@ ghost use Rattle.app_flow.specs.Defect.{IsChecked};
 ghost use Rattle.app_machine.specs.Sound.{SoundApp};
 ghost use Rattle.app_machine.specs.SoundLists.{SoundLists};
 ghost use Rattle.verdict.specs.Halts.{Halts};
+ghost use Rattle.verdict.specs.Linked.{causes_beside};
 ghost use Rattle.verdict.specs.OneVerdict.{RefusesOnly};
 ghost use Rattle.verdict.specs.Recheck.{OnlyRejudgement, RechecksTo, Rejudgement, TellsAllBy, TellsBy};
 ghost use Rattle.verdict.specs.Verdict.{IsSafeApp};
 
 use crate::judging::outcome_of_rows;
 use crate::laws::lower_laws;
-use crate::linking::linked_parts;
-use crate::papers::{Halt, Papers};
+use crate::linking::{Linked, linked_parts};
+use crate::papers::Halt;
 use crate::{Outcome, Parts, Rechecked};
 use app_flow::{TableDefect, defect_of, one_defect};
-use app_model::App;
 use fact_rows::Row;
 use flow_proof::every_good_table_covers_every_run;
 use outcomes::nothing_is_left_out;
@@ -25,19 +25,19 @@ use vet_base::{Memory, Stop};
 /// What an app comes to by rows of which the checker has said this.
 fn rechecked_by(
     alloc: Global,
-    app: &App,
-    papers: &Papers,
+    linked: &Linked,
     rows: &[Row],
     found: Option<TableDefect<Row>>,
 ) -> Result<Rechecked, Memory>
-    requires sound { SoundApp app.now }
-    requires found { IsChecked app.now papers.now.lists rows.now found }
-    ensures { IfOk result (λ r. RechecksTo app.now papers.now.lists papers.now.declaration rows.now r) }
+    requires sound { SoundApp linked.now.app }
+    requires found { IsChecked linked.now.app linked.now.papers.lists rows.now found }
+    ensures { IfOk result (λ r. RechecksTo linked.now.app linked.now.papers.lists linked.now.papers.declaration
+        (causes_beside linked.now) rows.now r) }
 {
     match found {
         Some(defect) => Ok(Rechecked::Defect(defect)),
         None => {
-            let outcome = outcome_of_rows(alloc, app, papers, rows)?;
+            let outcome = outcome_of_rows(alloc, linked, rows)?;
             Ok(Rechecked::By(outcome))
         }
     }
@@ -47,20 +47,20 @@ fn rechecked_by(
 #[tactic(auto, using(crate::proofs::Rechecks::recheck_tells))]
 fn rejudged_app(
     alloc: Global,
-    app: &App,
-    papers: &Papers,
+    linked: &Linked,
     rows: &[Row],
     seed: u64,
 ) -> Result<Rechecked, Memory>
-    requires sound { SoundApp app.now }
-    requires lists { SoundLists papers.now.lists }
-    ensures value { IfOk result (λ r. RechecksTo app.now papers.now.lists papers.now.declaration rows.now r) }
-    ensures told { IfOk result (λ r. TellsAllBy app.now papers.now.lists papers.now.declaration r) }
+    requires sound { SoundApp linked.now.app }
+    requires lists { SoundLists linked.now.papers.lists }
+    ensures value { IfOk result (λ r. RechecksTo linked.now.app linked.now.papers.lists linked.now.papers.declaration
+        (causes_beside linked.now) rows.now r) }
+    ensures told { IfOk result (λ r. TellsAllBy linked.now.app linked.now.papers.lists linked.now.papers.declaration r) }
 {
     nothing_is_left_out();
     every_good_table_covers_every_run();
-    let found = defect_of(alloc, app, &papers.lists, rows, seed)?;
-    let rechecked = rechecked_by(alloc, app, papers, rows, found)?;
+    let found = defect_of(alloc, &linked.app, &linked.papers.lists, rows, seed)?;
+    let rechecked = rechecked_by(alloc, linked, rows, found)?;
     Ok(rechecked)
 }
 
@@ -74,7 +74,7 @@ fn rejudged_parts(alloc: Global, parts: &Parts, rows: &[Row], seed: u64) -> Resu
     lower_laws();
     one_defect();
     let linked = linked_parts(alloc, parts)?;
-    Ok(rejudged_app(alloc, &linked.app, &linked.papers, rows, seed)?)
+    Ok(rejudged_app(alloc, &linked, rows, seed)?)
 }
 
 /// What the parts of an app come to by rows that anyone made, as those of a certificate.

@@ -25,6 +25,10 @@ place_line word place = word ++ place_text place ++ codes "\n"
 unfoldable pub class_line : List ℕ → Name → List ℕ
 class_line word name = word ++ escaped name ++ codes "\n"
 
+-- the line of a cause that names a method
+unfoldable pub method_line : List ℕ → Name × Name × Name → List ℕ
+method_line word m = word ++ escaped m.0 ++ codes "->" ++ escaped m.1 ++ escaped m.2 ++ codes "\n"
+
 -- a word of the report with a number
 unfoldable pub counted_line : List ℕ → ℕ → List ℕ
 counted_line word n = word ++ decimal n ++ codes "\n"

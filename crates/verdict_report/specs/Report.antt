@@ -2,13 +2,13 @@
 use Rattle.std.specs.Prelude.{ℕ, List, ◌++◌, length, codes}
 use Rattle.std.specs.List.{flat_map}
 use Rattle.outcomes.specs.declared.outcome.Cause.{Cause}
-use Rattle.outcomes.specs.declared.outcome.Cause.TheVariants.{NoSummary, Native, Reflective, Provider, LayoutClass, TooLarge}
+use Rattle.outcomes.specs.declared.outcome.Cause.TheVariants.{NoSummary, Native, Reflective, Provider, LayoutClass, TooLarge, Hidden, InterfaceCode, PlatformClass, UnlistedClass, LibraryStatic, Click, NamedClass}
 use Rattle.outcomes.specs.declared.outcome.Finding.{Finding}
 use Rattle.verdict.specs.declared.outcome.Outcome.{Outcome}
 use Rattle.verdict.specs.declared.outcome.Outcome.TheVariants.{Clear, Flagged, Undecided, Refused}
 use Rattle.verdict.specs.declared.outcome.Part.{Part}
 use Rattle.verdict.specs.declared.outcome.Reason.{Reason}
-use Rattle.verdict_report.specs.Printed.{finding_line, place_line, class_line, counted_line}
+use Rattle.verdict_report.specs.Printed.{finding_line, place_line, class_line, method_line, counted_line}
 use Rattle.verdict_report.specs.Reasons.{part_name, reason_text}
 
 unfoldable pub cause_line : Cause → List ℕ
@@ -18,6 +18,13 @@ cause_line (Reflective place) = place_line (codes "reflective: ") place
 cause_line (Provider class) = class_line (codes "provider: ") class
 cause_line (LayoutClass class) = class_line (codes "layout class: ") class
 cause_line (TooLarge limit) = counted_line (codes "too large: ") limit
+cause_line (Hidden method) = method_line (codes "hidden: ") method
+cause_line (InterfaceCode method) = method_line (codes "interface code: ") method
+cause_line (PlatformClass class) = class_line (codes "platform class: ") class
+cause_line (UnlistedClass class) = class_line (codes "unlisted class: ") class
+cause_line (LibraryStatic place) = place_line (codes "library static: ") place
+cause_line (Click method) = method_line (codes "click: ") method
+cause_line (NamedClass class) = class_line (codes "named class: ") class
 
 unfoldable pub cause_lines : List Cause → List ℕ
 cause_lines causes = flat_map cause_line causes

@@ -4,12 +4,12 @@
 ghost use Rattle.std.specs.Prelude.{◌≡◌, ◌++◌, codes, take, OnOk};
 ghost use Rattle.app_machine.specs.Names.{joined, descriptor_of};
 ghost use Rattle.printed_text.specs.Printed.{escaped};
-ghost use Rattle.verdict_report.specs.Printed.{method_text, place_text, finding_line, place_line, class_line, counted_line};
+ghost use Rattle.verdict_report.specs.Printed.{method_text, place_text, finding_line, place_line, class_line, method_line, counted_line};
 
 use app_model::{MethodRef, Proto};
 use printed_text::{put, put_name, put_number};
 use std::alloc::Global;
-use verdict::{Finding, Place};
+use verdict::{Finding, MethodName, Place};
 use vet_base::{Memory, Name};
 
 type Text = Vec<u8>;
@@ -90,6 +90,19 @@ pub fn put_class_line(text: &mut Text, word: &[u8], class: &Name) -> Result<(), 
 {
     put(text, word)?;
     put_name(text, class.as_bytes())?;
+    put(text, b"\n".as_slice())
+}
+
+/// Adds the line of a cause that names a method.
+#[tactic(auto, unfolding(crate::specs::Printed::method_line))]
+pub fn put_method_line(text: &mut Text, word: &[u8], method: &MethodName) -> Result<(), Memory>
+    ensures { OnOk result (text.new.items ≡ text.old.items ++ method_line word.now method.now) }
+{
+    put(text, word)?;
+    put_name(text, method.0.as_bytes())?;
+    put(text, b"->".as_slice())?;
+    put_name(text, method.1.as_bytes())?;
+    put_name(text, method.2.as_bytes())?;
     put(text, b"\n".as_slice())
 }
 

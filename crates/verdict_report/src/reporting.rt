@@ -3,7 +3,9 @@
 ghost use Rattle.std.specs.Prelude.{◌≡◌, ◌++◌, length, take, codes, OnOk, IfOk};
 ghost use Rattle.verdict_report.specs.Report.{cause_line, cause_lines, finding_lines, clear_text, flagged_text, undecided_text, refused_text, report_text};
 
-use crate::printed::{put_class_line, put_counted, put_finding, put_place_line};
+use crate::printed::{
+    put_class_line, put_counted, put_finding, put_method_line, put_place_line,
+};
 use crate::reasons::{put_part, put_reason};
 use printed_text::put;
 use std::alloc::Global;
@@ -38,6 +40,17 @@ fn put_cause(alloc: Global, text: &mut Text, cause: &Cause) -> Result<(), Memory
             b"too large: ".as_slice(),
             *limit as usize,
         ),
+        Cause::Hidden(method) => put_method_line(text, b"hidden: ".as_slice(), method),
+        Cause::InterfaceCode(method) => {
+            put_method_line(text, b"interface code: ".as_slice(), method)
+        }
+        Cause::PlatformClass(class) => put_class_line(text, b"platform class: ".as_slice(), class),
+        Cause::UnlistedClass(class) => put_class_line(text, b"unlisted class: ".as_slice(), class),
+        Cause::LibraryStatic(place) => {
+            put_place_line(alloc, text, b"library static: ".as_slice(), place)
+        }
+        Cause::Click(method) => put_method_line(text, b"click: ".as_slice(), method),
+        Cause::NamedClass(class) => put_class_line(text, b"named class: ".as_slice(), class),
     }
 }
 

@@ -1,3 +1,4 @@
+use Rattle.verdict.specs.Linked.{causes_beside}
 use Rattle.verdict.proofs.Outcomes.{flow_is_within, flow_tells, judged_there, never_refused}
 use Rattle.verdict.proofs.Tables.{judged_table}
 use Rattle.verdict.proofs.judging.judge_linked.Goals as goal
@@ -13,14 +14,16 @@ returns-clause-told g c =
     let app = c.args.linked.now.app in
     let lists = c.args.linked.now.papers.lists in
     let declaration = c.args.linked.now.papers.declaration in
+    let beside = causes_beside c.args.linked.now in
     let laws = c.nothing_is_left_out.ensures in
-    flow_tells laws.findings laws.causes c.every_good_table_covers_every_run.ensures app lists declaration c.in_ok-flow.flow c.in-Some.judged c.requires.sound c.in_ok-flow.ensures.good
-    (judged_there app lists declaration c.in_ok-flow.flow c.in_ok-judged.field-0 c.in-Some.judged c.in_ok-judged.ensures.some c.in-Some.is)
+    flow_tells laws.findings laws.causes c.every_good_table_covers_every_run.ensures app lists declaration beside c.in_ok-flow.flow c.in-Some.judged c.requires.sound c.in_ok-flow.ensures.good
+    (judged_there app lists declaration beside c.in_ok-flow.flow c.in_ok-judged.field-0 c.in-Some.judged c.in_ok-judged.ensures.some c.in-Some.is)
 
 pub returns-clause-table : goal.returns-clause-table
 returns-clause-table g c =
     let app = c.args.linked.now.app in
     let lists = c.args.linked.now.papers.lists in
     let declaration = c.args.linked.now.papers.declaration in
-    judged_table app lists declaration c.in_ok-flow.flow c.in-Some.judged c.in_ok-flow.ensures.flow c.in_ok-flow.ensures.good c.requires.lists
-    (judged_there app lists declaration c.in_ok-flow.flow c.in_ok-judged.field-0 c.in-Some.judged c.in_ok-judged.ensures.some c.in-Some.is)
+    let beside = causes_beside c.args.linked.now in
+    judged_table app lists declaration beside c.in_ok-flow.flow c.in-Some.judged c.in_ok-flow.ensures.flow c.in_ok-flow.ensures.good c.requires.lists
+    (judged_there app lists declaration beside c.in_ok-flow.flow c.in_ok-judged.field-0 c.in-Some.judged c.in_ok-judged.ensures.some c.in-Some.is)

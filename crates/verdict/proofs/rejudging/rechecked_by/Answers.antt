@@ -5,5 +5,5 @@ use Rattle.verdict.proofs.rejudging.rechecked_by.Goals as goal
 
 pub outcome_of_rows-requires-clause-within : goal.outcome_of_rows-requires-clause-within
 outcome_of_rows-requires-clause-within c =
-    let good = subst (IsChecked c.args.app.now c.args.papers.now.lists c.args.rows.now) c.in-None.is c.requires.found in
-    good_is_within c.args.app.now c.args.papers.now.lists c.args.rows.now good
+    let good = subst (IsChecked c.args.linked.now.app c.args.linked.now.papers.lists c.args.rows.now) c.in-None.is c.requires.found in
+    good_is_within c.args.linked.now.app c.args.linked.now.papers.lists c.args.rows.now good

@@ -1,0 +1,6 @@
+use Rattle.std.proofs.Common.{◌≡◌, map}
+use Rattle.outcomes.specs.declared.outcome.Cause.TheVariants.{Hidden}
+use Rattle.device_causes.proofs.causes.hidden_causes.Given as goal
+
+abbrev pub invariant-loop-method : goal.invariant-loop-method
+invariant-loop-method l = l.causes.items ≡ map Hidden l.yielded

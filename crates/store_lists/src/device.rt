@@ -1,0 +1,123 @@
+//! What the lists say of a device.
+ghost use Rattle.std.specs.Prelude.{◌≡◌, ◌≤◌, ◌+◌, IfOk, length, map};
+ghost use Rattle.store_lists.specs.Device.{prefixes_at, device_at, static_key, static_at, static_row, statics_of};
+ghost use Rattle.toml.specs.View.{table_view, view};
+ghost use Rattle.vet_base.specs.Script.{Gives};
+
+use device_lists::StaticRow;
+use form_fields::{
+    Fault, Index, Key, Section, Spelling, known, maybe_texts_at, table_in, tables_at, text_at,
+    with_new,
+};
+use method_fields::{MethodKey, flag_at, type_at};
+use std::alloc::Global;
+use toml::{Table, Value};
+use vet_base::{Memory, Name, Seq, Stop};
+
+/// What the top table says of a device.
+#[derive(Drop)]
+pub struct DeviceKeys {
+    pub strict: bool,
+    pub platform: Seq<Name>,
+    pub bundled: Seq<Name>,
+}
+
+/// The rows of static fields so far, and what tells each from the others.
+#[derive(Drop)]
+pub struct StaticRows {
+    pub rows: Seq<StaticRow>,
+    pub keys: Seq<MethodKey>,
+}
+
+/// What the top table says of a device, and the tables of the static fields.
+#[tactic(auto, unfolding(crate::specs::Device::device_at), using(vet_base::proofs::Scripts::run_bind))]
+pub fn device_at<'a>(
+    alloc: Global,
+    tree: &'a Table,
+) -> Result<(DeviceKeys, &'a [Value]), Stop<Fault>>
+    ensures { Gives (λ x. (x.0, map view x.1.now)) result (device_at (table_view tree.now)) }
+{
+    let strict = flag_at(tree, Section::Lists, Key::Strict)?;
+    let (platform, names) = prefixes_at(alloc, tree, Key::Platform, Index::new(alloc))?;
+    let (bundled, _) = prefixes_at(alloc, tree, Key::Bundled, names)?;
+    let statics = tables_at(tree, Section::Lists, Key::Static, 65536)?;
+    let keys = DeviceKeys {
+        strict,
+        platform: Seq::from_vec(platform),
+        bundled: Seq::from_vec(bundled),
+    };
+    Ok((keys, statics))
+}
+
+/// Beginnings of names, none of them twice and none of those before; and all with those before.
+#[tactic(auto, unfolding(crate::specs::Device::prefixes_at), using(vet_base::proofs::Scripts::run_bind))]
+fn prefixes_at(
+    alloc: Global,
+    tree: &Table,
+    key: Key,
+    before: Index<Name>,
+) -> Result<(Vec<Name>, Index<Name>), Stop<Fault>>
+    requires { length before ≤ 4096 }
+    ensures value { Gives (λ x. (x.0.items, x.1)) result (prefixes_at key before (table_view tree.now)) }
+    ensures few { IfOk result (λ x. length x.1 ≤ length before + 4096) }
+{
+    let names = maybe_texts_at(alloc, tree, Section::Lists, key, Spelling::Prefix, 4096)?;
+    let count = before.len() + names.len();
+    let all = with_new(before, &names)?;
+    if all.len() != count {
+        return Err(Stop::Fault(Fault::Range(Section::Lists, key)));
+    }
+    Ok((names, all))
+}
+
+/// Reads the rows of static fields.
+#[tactic(auto, unfolding(crate::specs::Device::statics_of), using(form_fields::proofs::Eaching::eaching_begins, form_fields::proofs::Eaching::eaching_goes_on, form_fields::proofs::Eaching::eaching_fails, form_fields::proofs::Eaching::eaching_is_done))]
+pub fn statics_of(alloc: Global, tables: &[Value]) -> Result<StaticRows, Stop<Fault>>
+    ensures { Gives (λ x. x) result (statics_of (map view tables.now)) }
+{
+    let mut rows = StaticRows {
+        rows: Seq::new(alloc),
+        keys: Seq::new(alloc),
+    };
+    for value in tables {
+        rows = static_row(alloc, value, rows)?;
+    }
+    Ok(rows)
+}
+
+/// One row more.
+#[tactic(auto, unfolding(crate::specs::Device::static_row), using(vet_base::proofs::Scripts::run_bind))]
+fn static_row(alloc: Global, value: &Value, rows: StaticRows) -> Result<StaticRows, Stop<Fault>>
+    ensures { Gives (λ x. x) result (static_row (view value.now) rows) }
+{
+    let row = static_at(alloc, value)?;
+    let key = static_key(&row)?;
+    let StaticRows { mut rows, mut keys } = rows;
+    rows.push(row)?;
+    keys.push(key)?;
+    Ok(StaticRows { rows, keys })
+}
+
+#[tactic(auto, unfolding(crate::specs::Device::static_key))]
+fn static_key(row: &StaticRow) -> Result<MethodKey, Memory>
+    ensures { IfOk result (λ k. k ≡ static_key row.now) }
+{
+    Ok(MethodKey {
+        class: row.class.copy()?,
+        name: row.name.copy()?,
+        descriptor: row.kind.copy()?,
+        is_static: true,
+    })
+}
+
+#[tactic(auto, unfolding(crate::specs::Device::static_at), using(vet_base::proofs::Scripts::run_bind))]
+fn static_at(alloc: Global, value: &Value) -> Result<StaticRow, Stop<Fault>>
+    ensures { Gives (λ x. x) result (static_at (view value.now)) }
+{
+    let table = table_in(value, Section::Lists, Key::Static)?;
+    known(alloc, table, Section::Static)?;
+    let class = text_at(alloc, table, Section::Static, Key::Class, Spelling::Class)?;
+    let name = text_at(alloc, table, Section::Static, Key::Name, Spelling::Text)?;
+    let kind = type_at(alloc, table, Section::Static)?;
+    Ok(StaticRow { class, name, kind })
+}
