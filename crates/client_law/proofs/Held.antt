@@ -7,7 +7,7 @@ use Rattle.vet_base.proofs.Texts.{same_equal, same_itself}
 use Rattle.case_rules.specs.declared.case.Case.{Case}
 use Rattle.case_rules.specs.declared.case.Content.{Content}
 use Rattle.case_rules.specs.Cases.{same, is_of, is_named, rows_of, amended}
-use Rattle.client_law.specs.Tried.{Handed_in, handed_in, held_of, IsAmong}
+use Rattle.client_law.specs.Tried.{HandedIn, handed_in, held_of, IsAmong}
 
 -- a change leaves party, reference and app
 pub record Keeps (f : Case → Case) : Type 0 where
@@ -23,7 +23,7 @@ changed_first party f case cases keeps =
   where
     by : (b c : Bool) → c ≡ b → handed_in (f case) ≡ handed_in case
         → map handed_in (cond c (f case ∷ rows_of party cases) (rows_of party cases)) ≡ map handed_in (cond b (case ∷ rows_of party cases) (rows_of party cases))
-    by true true is row = ap (λ (x : Handed_in). x ∷ map handed_in (rows_of party cases)) row
+    by true true is row = ap (λ (x : HandedIn). x ∷ map handed_in (rows_of party cases)) row
     by false false is row = refl
     by true false is row = cc
     by false true is row = cc
@@ -54,11 +54,11 @@ held_without party case cases apart =
     let row : rows_of party (case ∷ []) ≡ [] = cond-false (is_of party case) (case ∷ []) [] (false_from_ne_true (is_of party case) (λ is. apart (same_equal case.party party is))) in
     ap (map handed_in) (filter-append (is_of party) cases (case ∷ []) ∙ ap (λ zs. rows_of party cases ++ zs) row ∙ append-nil (rows_of party cases))
 
-pub among_last : (x : Handed_in) (xs : List Handed_in) → IsAmong x (xs ++ x ∷ [])
+pub among_last : (x : HandedIn) (xs : List HandedIn) → IsAmong x (xs ++ x ∷ [])
 among_last x [] = inl refl
 among_last x (y ∷ xs) = inr (among_last x xs)
 
-pub among_more : (x y : Handed_in) (xs : List Handed_in) → IsAmong x xs → IsAmong x (xs ++ y ∷ [])
+pub among_more : (x y : HandedIn) (xs : List HandedIn) → IsAmong x xs → IsAmong x (xs ++ y ∷ [])
 among_more x y [] is = absurd is
 among_more x y (z ∷ xs) (inl here) = inl here
 among_more x y (z ∷ xs) (inr later) = inr (among_more x y xs later)
@@ -85,11 +85,11 @@ found_among party reference (c ∷ cases) case is = by_name (is_named party refe
     by_name false other it behind = later (behind it) (is_of party c)
 
 -- what is held has a case of this reference
-abbrev pub HasReference : List ℕ → List Handed_in → Type 0
+abbrev pub HasReference : List ℕ → List HandedIn → Type 0
 HasReference reference [] = ⊥
 HasReference reference (y ∷ ys) = (reference ≡ y.0) ⊎ HasReference reference ys
 
-pub last_has : (reference : List ℕ) (content : Content) (xs : List Handed_in) → HasReference reference (xs ++ (reference, content) ∷ [])
+pub last_has : (reference : List ℕ) (content : Content) (xs : List HandedIn) → HasReference reference (xs ++ (reference, content) ∷ [])
 last_has reference content [] = inl refl
 last_has reference content (y ∷ xs) = inr (last_has reference content xs)
 

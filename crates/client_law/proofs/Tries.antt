@@ -10,26 +10,26 @@ use Rattle.desk_http.specs.Requests.{Answers}
 use Rattle.desk_routes.specs.Turns.{party_of}
 use Rattle.desk_serving.specs.declared.serving.Served.{Served}
 use Rattle.client_http.specs.ReadAs.{IsReadAs}
-use Rattle.client_law.specs.Tried.{Handed_in, held_of, IsAmong, Visit, IsVisit, Tried, none_left, of_client, of_another, is_accepted, any_accepted, HasAtMostOneMore, ActsOnce}
+use Rattle.client_law.specs.Tried.{HandedIn, held_of, IsAmong, Visit, IsVisit, Tried, none_left, of_client, of_another, is_accepted, any_accepted, HasAtMostOneMore, ActsOnce}
 use Rattle.client_law.proofs.Held.{HasReference, among_more, last_has}
 use Rattle.client_law.proofs.Visits.{Grows, Visited, by_ending, by_another}
 
-grows_on : (x : Handed_in) (a b c : List Handed_in) → Grows x a b → Grows x b c → Grows x a c
+grows_on : (x : HandedIn) (a b c : List HandedIn) → Grows x a b → Grows x b c → Grows x a c
 grows_on x a b c (inl first) (inl second) = inl (second ∙ first)
-grows_on x a b c (inl first) (inr second) = inr (subst (λ (zs : List Handed_in). HasReference x.0 zs → ⊥) first second.0, second.1 ∙ ap (λ (zs : List Handed_in). zs ++ x ∷ []) first)
+grows_on x a b c (inl first) (inr second) = inr (subst (λ (zs : List HandedIn). HasReference x.0 zs → ⊥) first second.0, second.1 ∙ ap (λ (zs : List HandedIn). zs ++ x ∷ []) first)
 grows_on x a b c (inr first) (inl second) = inr (first.0, second ∙ first.1)
 grows_on x a b c (inr first) (inr second) = absurd (second.0 (subst (HasReference x.0) (sym first.1) (last_has x.0 x.1 a)))
 
-among_grown : (x : Handed_in) (a b : List Handed_in) → Grows x a b → IsAmong x a → IsAmong x b
+among_grown : (x : HandedIn) (a b : List HandedIn) → Grows x a b → IsAmong x a → IsAmong x b
 among_grown x a b (inl same) is = subst (IsAmong x) (sym same) is
 among_grown x a b (inr more) is = subst (IsAmong x) (sym more.1) (among_more x x a is)
 
-at_most_one : (x : Handed_in) (a b : List Handed_in) → Grows x a b → HasAtMostOneMore x a b
+at_most_one : (x : HandedIn) (a b : List HandedIn) → Grows x a b → HasAtMostOneMore x a b
 at_most_one x a b (inl same) = inl same
 at_most_one x a b (inr more) = inr more.1
 
 -- what all connections make together
-pub record Acts (x : Handed_in) (before after : List Handed_in) (said : List Served) : Type 0 where
+pub record Acts (x : HandedIn) (before after : List HandedIn) (said : List Served) : Type 0 where
   pub grows : Grows x before after
   pub accepted : any_accepted said ≡ true → IsAmong x after
 
@@ -37,8 +37,8 @@ first_or_more : (a b : Bool) → (a || b) ≡ true → (a ≡ true) ⊎ (b ≡ t
 first_or_more true b is = inl refl
 first_or_more false b is = inr is
 
-moved : (x : Handed_in) (a b c : List Handed_in) (said : List Served) → b ≡ a → Acts x b c said → Acts x a c said
-moved x a b c said same acts = subst (λ (zs : List Handed_in). Acts x zs c said) same acts
+moved : (x : HandedIn) (a b c : List HandedIn) (said : List Served) → b ≡ a → Acts x b c said → Acts x a c said
+moved x a b c said same acts = subst (λ (zs : List HandedIn). Acts x zs c said) same acts
 
 module _ (finds : Content → Judgement → Type 0) (edition : List ℕ) (office : Office) (party : Party) (token reference : List ℕ) (content : Content) (request : List ℕ)
     (read : IsReadAs token reference content request) (found : party_of office (Some token) ≡ Some party) (role : is_developer party.role ≡ true) where
@@ -53,7 +53,7 @@ module _ (finds : Content → Judgement → Type 0) (edition : List ℕ) (office
       → Acts (reference, content) (held_of party.name from.cases) (held_of party.name to.cases) said
   acts from to said (none_left passes) = record { grows = inl (ap (held_of party.name) passes.cases); accepted = λ yes. absurd (let clash : false ≡ true = yes in cc) }
   acts from to said (of_client v more n passes is front later) =
-      let x : Handed_in = (reference, content) in
+      let x : HandedIn = (reference, content) in
       let now = visited v n is front in
       let then = acts v.after to more later in
       let whole : Acts x (held_of party.name v.before.cases) (held_of party.name to.cases) (v.said ∷ more) = record {
@@ -65,7 +65,7 @@ module _ (finds : Content → Judgement → Type 0) (edition : List ℕ) (office
       } in
       moved x (held_of party.name from.cases) (held_of party.name v.before.cases) (held_of party.name to.cases) (v.said ∷ more) (ap (held_of party.name) passes.cases) whole
   acts from to said (of_another v same_said passes is apart later) =
-      let x : Handed_in = (reference, content) in
+      let x : HandedIn = (reference, content) in
       let then = acts v.after to same_said later in
       let same = by_another party.name v.before.cases v.after.cases (carried_out is.ending) is.connection.cases apart ∙ ap (held_of party.name) passes.cases in
       moved x (held_of party.name from.cases) (held_of party.name v.after.cases) (held_of party.name to.cases) same_said same then

@@ -27,20 +27,20 @@ use Rattle.desk_serving.specs.declared.serving.Served.TheVariants as served
 use Rattle.desk_serving.specs.Responding.{setting_of, IsOther}
 use Rattle.desk_serving.specs.Serving.{IsTurnOf, IsEnd}
 use Rattle.client_http.specs.ReadAs.{IsReadAs}
-use Rattle.client_law.specs.Tried.{Handed_in, held_of, IsAmong, IsAnothers, is_accepted}
+use Rattle.client_law.specs.Tried.{HandedIn, held_of, IsAmong, IsAnothers, is_accepted}
 use Rattle.client_law.proofs.Fronts.{turn_of_front}
 use Rattle.client_law.proofs.Held.{HasReference, held_with, among_last, missed_has_none}
 use Rattle.client_law.proofs.Submits.{Submits, refused, kept, added, submits, another_leaves}
 
 -- as before; or with one more, of a reference that was not there
-abbrev pub Grows : Handed_in → List Handed_in → List Handed_in → Type 0
+abbrev pub Grows : HandedIn → List HandedIn → List HandedIn → Type 0
 Grows x before after = (after ≡ before) ⊎ ((HasReference x.0 before → ⊥) × (after ≡ before ++ x ∷ []))
 
-pub record Visited (x : Handed_in) (before after : List Handed_in) (said : Served) : Type 0 where
+pub record Visited (x : HandedIn) (before after : List HandedIn) (said : Served) : Type 0 where
   pub grows : Grows x before after
   pub accepted : is_accepted said ≡ true → IsAmong x after
 
-not_accepted : (x : Handed_in) (before after : List Handed_in) (said : Served) → after ≡ before → is_accepted said ≡ false → Visited x before after said
+not_accepted : (x : HandedIn) (before after : List HandedIn) (said : Served) → after ≡ before → is_accepted said ≡ false → Visited x before after said
 not_accepted x before after said same declined = record { grows = inl same; accepted = λ yes. absurd (let clash : true ≡ false = sym yes ∙ declined in cc) }
 
 refusal_is_none : (refusal : Refusal) → ((refusal_status refusal == 200) || (refusal_status refusal == 201)) ≡ false

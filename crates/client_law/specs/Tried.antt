@@ -17,17 +17,17 @@ use Rattle.desk_serving.specs.Serving.{IsServed}
 use Rattle.client_http.specs.ReadAs.{IsReadAs}
 
 -- a case by its reference and its app; what reviewers add to it is not spoken of
-abbrev pub Handed_in : Type 0
-Handed_in = List ℕ × Content
+abbrev pub HandedIn : Type 0
+HandedIn = List ℕ × Content
 
-abbrev pub handed_in : Case → Handed_in
+abbrev pub handed_in : Case → HandedIn
 handed_in case = (case.reference, case.content)
 
 -- what the desk has of a developer, in its order
-abbrev pub held_of : List ℕ → List Case → List Handed_in
+abbrev pub held_of : List ℕ → List Case → List HandedIn
 held_of party cases = map handed_in (rows_of party cases)
 
-abbrev pub IsAmong : Handed_in → List Handed_in → Type 0
+abbrev pub IsAmong : HandedIn → List HandedIn → Type 0
 IsAmong x [] = ⊥
 IsAmong x (y ∷ ys) = (x ≡ y) ⊎ IsAmong x ys
 
@@ -73,7 +73,7 @@ any_accepted [] = false
 any_accepted (said ∷ more) = is_accepted said || any_accepted more
 
 -- as before, or with one more behind
-abbrev pub HasAtMostOneMore : Handed_in → List Handed_in → List Handed_in → Type 0
+abbrev pub HasAtMostOneMore : HandedIn → List HandedIn → List HandedIn → Type 0
 HasAtMostOneMore x before after = (after ≡ before) ⊎ (after ≡ before ++ x ∷ [])
 
 -- A request that is read as the submission of one of the office's developers acts once.
