@@ -12,7 +12,7 @@ from pathlib import Path
 from unittest import mock
 
 from vet_tools import lists_lint, make_lists
-from vet_tools.device_keys import READS_DEVICE_KEYS
+from vet_tools.device_keys import READS_GIVEN_BACK
 from vet_tools.lists_javap import NoJavap, Shape, shapes, shapes_in
 from vet_tools.lists_lookup import Lookup
 from vet_tools.lists_model import Effects, TableFault, Tables
@@ -256,6 +256,9 @@ class Reading(Case):
 WRITTEN = '''\
 rows = 1000
 categories = ["id", "net"]
+strict = true
+platform = ["La/"]
+bundled = ["La/b/"]
 
 [[class]]
 name = "Ljava/lang/Object;"
@@ -331,6 +334,11 @@ class = "La/Down;"
 name = "on"
 proto = "(Ljava/lang/Object;)Z"
 sources = [[1, "id"]]
+
+[[static]]
+class = "La/Up;"
+name = "NONE"
+type = "Ljava/lang/Object;"
 '''
 
 
@@ -352,12 +360,12 @@ class Writing(Case):
         self.assertEqual(tomllib.loads(lists_text(self.small(), False)), tomllib.loads(WRITTEN))
         self.assertEqual(lists_text(self.small(), False).split('\n', 2)[2], WRITTEN)
 
-    def test_device_keys_are_written_behind_their_switch(self) -> None:
+    def test_a_static_field_with_a_source_is_left_out_until_it_is_read(self) -> None:
+        none = {'class': 'La/Up;', 'name': 'NONE', 'type': 'Ljava/lang/Object;'}
+        named = {'class': 'La/Up;', 'name': 'ID', 'type': 'Ljava/lang/String;', 'source': 'id'}
+        self.assertEqual(tomllib.loads(lists_text(self.small(), False))['static'], [none])
         form = tomllib.loads(lists_text(self.small(), True))
-        self.assertEqual((form['strict'], form['platform'], form['bundled']), (True, ['La/'], ['La/b/']))
-        self.assertEqual(form['static'], [
-            {'class': 'La/Up;', 'name': 'ID', 'type': 'Ljava/lang/String;', 'source': 'id'},
-            {'class': 'La/Up;', 'name': 'NONE', 'type': 'Ljava/lang/Object;'}])
+        self.assertEqual(form['static'], [named, none])
         self.assertEqual([row.get('result') for row in form['method'] if row['name'] == 'app'], ['handed'])
 
 
@@ -399,7 +407,7 @@ class Android(unittest.TestCase):
     def test_the_form_keeps_to_its_limits(self) -> None:
         form = self.form
         self.assertLessEqual(len(self.text.encode()), 16_777_216)
-        self.assertEqual(set(form), {'rows', 'categories', *KEYS, *(DEVICE_KEYS if READS_DEVICE_KEYS else ())})
+        self.assertEqual(set(form), {'rows', 'categories', *KEYS, *DEVICE_KEYS})
         for array, keys in KEYS.items():
             self.assertLessEqual(len(form[array]), 65_536)
             for row in form[array]:
@@ -548,14 +556,15 @@ class Command(unittest.TestCase):
         self.assertIn('there is no javap', err)
         self.assertEqual(tomllib.loads((made / 'android.toml').read_text())['categories'], ['id', 'net'])
 
-    @unittest.skipIf(READS_DEVICE_KEYS, 'the program reads these keys')
+    @unittest.skipIf(READS_GIVEN_BACK, 'the program reads these words')
     def test_it_tells_what_the_form_cannot_carry_yet(self) -> None:
-        made = self.small(head='+strict\nplatform La/\n', statics='[a.Net]\nString ID\n',
+        made = self.small(head='+strict\nplatform La/\n', statics='[a.Net]\nString ID  source id -- a number\n',
                           methods='+a.Box by()  handed\n')
         err = self.run_tool('--tables', str(made), '-o', str(made / 'x.toml'))[2]
-        for what in ('strict', '1 static fields', '1 results that were handed', 'prefixes'):
+        for what in ('1 static fields that are sources', '1 results that were handed'):
             self.assertIn(what, err)
-        self.assertEqual(set(tomllib.loads((made / 'x.toml').read_text())), {'rows', 'categories', *KEYS})
+        self.assertEqual(set(tomllib.loads((made / 'x.toml').read_text())),
+                         {'rows', 'categories', 'strict', 'platform', *KEYS})
 
     def test_a_fault_leaves_the_made_file(self) -> None:
         made = self.small(methods='+static String id2()  source id\n')

@@ -13,10 +13,9 @@ import tomllib
 import unittest
 import zipfile
 from pathlib import Path
-from unittest import mock
 
 from tests.made_apk import ANDROID, MAIN, ROOT, RUNNABLE, TWO, dumped, entry, make, manifest, replaced, with_gaps
-from vet_tools import device_keys, unpack
+from vet_tools import unpack
 
 REAL = Path("/usr/share/doc/androguard/examples")
 LINEAR = f"<LinearLayout {ANDROID}>"
@@ -214,17 +213,18 @@ class NamedTest(UnpackTest):
     TEXT = (f'<manifest {ANDROID} package="a"><application android:backupAgent=".Later"><activity android:name=".Main" '
             'android:parentActivityName=".Main"/></application></manifest>')
 
-    def test_a_class_that_is_named_elsewhere_is_said(self) -> None:
+    def test_a_class_that_is_named_elsewhere_is_said_and_written(self) -> None:
         said = self.made(self.TEXT, None, {"classes.dex": RUNNABLE.read_bytes()})
-        self.assertIn("not carried: the class La/Later;, which is named by backupAgent in AndroidManifest.xml\n", said)
+        self.assertIn("named elsewhere: the class La/Later; by backupAgent in AndroidManifest.xml; no event comes to it, "
+                      "so the app is not clear\n", said)
         self.assertNotIn("La/Main;", said)
-        self.assertNotIn("named", self.form("manifest.toml"))
-
-    def test_where_the_program_reads_the_key_it_is_written(self) -> None:
-        with mock.patch.object(device_keys, "READS_DEVICE_KEYS", True):
-            said = self.made(self.TEXT, None, {"classes.dex": RUNNABLE.read_bytes()})
         self.assertNotIn("not carried", said)
         self.assertEqual(["La/Later;"], tomllib.loads(self.form("manifest.toml"))["named"])
+
+    def test_where_no_class_is_named_elsewhere_the_key_is_left_out(self) -> None:
+        said = self.made(manifest('<activity android:name=".Main"/>'), None, {"classes.dex": RUNNABLE.read_bytes()})
+        self.assertNotIn("named", said)
+        self.assertNotIn("named", self.form("manifest.toml"))
 
     def test_preferences_menus_and_texts_name_classes(self) -> None:
         for resources, where in [
@@ -236,7 +236,7 @@ class NamedTest(UnpackTest):
                 self.setUp()
                 said = self.made(manifest('<activity android:name=".Main"/>'), resources,
                                  {"classes.dex": RUNNABLE.read_bytes()})
-                self.assertRegex(said, rf"the class La/Later;, which is named by {where}\n")
+                self.assertRegex(said, rf"named elsewhere: the class La/Later; by {where}; ")
 
 
 class CarriedTest(UnpackTest):

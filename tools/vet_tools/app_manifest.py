@@ -9,7 +9,7 @@ from vet_tools.class_names import descriptor, full_name
 from vet_tools.refusal import Refusal
 from vet_tools.resource_table import ResourceTable
 from vet_tools.shown import shown
-from vet_tools.toml_text import checked_count, checked_form, checked_text, quoted, table
+from vet_tools.toml_text import checked_count, checked_form, checked_text, quoted, table, text_list
 
 # Numbers of the platform's attributes, as `android.R.attr` has them.
 NAME = 0x01010003
@@ -36,14 +36,15 @@ class Manifest:
         """The classes that a device makes objects of by what the manifest says: application and components."""
         return {*self.components, *([self.application] if self.application else [])}
 
-    def form(self, dex_files: int, named: list[str] | None) -> bytes:
-        """`manifest.toml`, with the key `named` where there is one to write."""
+    def form(self, dex_files: int, named: list[str]) -> bytes:
+        """`manifest.toml`, with the key `named` where a class of the app is named elsewhere."""
         checked_count(len(self.components), "components")
+        checked_count(len(named), "classes that are named elsewhere than as components")
         text = f"package = {quoted(checked_text(self.package, 'the package'))}\ndex_files = {dex_files}\n"
         if self.application:
             text += f"application = {quoted(self.application)}\n"
-        if named is not None:
-            text += "named = [\n" + "".join(f"    {quoted(it)},\n" for it in named) + "]\n"
+        if named:
+            text += text_list("named", [checked_text(it, "the named class") for it in named])
         for name, kind in self.components.items():
             text += table("component", [("kind", kind.value), ("class", name)])
         return checked_form("manifest.toml", text)

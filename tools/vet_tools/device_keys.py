@@ -1,7 +1,7 @@
-"""Which keys of the lists and the manifest the program reads besides those of `docs/FORMATS.md`."""
+"""Which words of the lists' tables the program does not read yet (`docs/FORMATS.md` has those that it reads)."""
 from __future__ import annotations
 
-# The keys `strict`, `platform`, `bundled` and `[[static]]` of the lists, the result "handed", and `named` of the
-# manifest. The program refuses keys that it does not know, so with False none of them is written, and a tool says on
-# stderr what it could not carry.
-READS_DEVICE_KEYS = False
+# The result "handed" of a method, and the source of a static field. The program refuses what it does not know, so with
+# False neither is written: such a result is blank, such a field is none that the lists have, and a tool says so on
+# stderr.
+READS_GIVEN_BACK = False

@@ -4,7 +4,7 @@ from __future__ import annotations
 import json
 from collections.abc import Iterable, Iterator
 
-from vet_tools.device_keys import READS_DEVICE_KEYS
+from vet_tools.device_keys import READS_GIVEN_BACK
 from vet_tools.lists_model import CallbackRow, Effects, LibraryClass, MethodRow, Result, StaticRow, Tables
 
 TITLE = """\
@@ -48,9 +48,9 @@ def class_lines(entry: LibraryClass) -> Iterator[str]:
         yield f"default = {text(entry.default.value)}"
 
 
-def result_lines(effects: Effects, device_keys: bool) -> Iterator[str]:
-    """The result's keys; a joined result of a source needs no word, and `handed` is a device key."""
-    if effects.result is Result.HANDED and not device_keys:
+def result_lines(effects: Effects, given_back: bool) -> Iterator[str]:
+    """The result's keys; a joined result of a source needs no word, and without `given_back` neither has `handed`."""
+    if effects.result is Result.HANDED and not given_back:
         return
     if effects.result is not Result.BLANK and not (effects.source and not effects.positions):
         yield f"result = {text(effects.result.value)}"
@@ -60,7 +60,7 @@ def result_lines(effects: Effects, device_keys: bool) -> Iterator[str]:
         yield f"shared = {text(effects.shared)}"
 
 
-def method_lines(row: MethodRow, device_keys: bool) -> Iterator[str]:
+def method_lines(row: MethodRow, given_back: bool) -> Iterator[str]:
     """The lines of a row of a method, with its reason in front."""
     effects = row.effects
     if row.reason:
@@ -71,7 +71,7 @@ def method_lines(row: MethodRow, device_keys: bool) -> Iterator[str]:
     yield f"proto = {text(row.proto)}"
     if row.static:
         yield "static = true"
-    yield from result_lines(effects, device_keys)
+    yield from result_lines(effects, given_back)
     for key, values in (("puts", effects.puts), ("stores", effects.stores), ("copies", effects.copies)):
         if values:
             yield f"{key} = {pairs(values)}"
@@ -108,36 +108,39 @@ def static_lines(row: StaticRow) -> Iterator[str]:
         yield f"source = {text(row.source)}"
 
 
-def head_lines(tables: Tables, device_keys: bool) -> Iterator[str]:
+def head_lines(tables: Tables) -> Iterator[str]:
     """The keys of the top table."""
     head = tables.head
     yield f"rows = {head.rows}"
     yield f"categories = {json.dumps(list(head.categories))}"
-    if device_keys:
-        if head.strict:
-            yield "strict = true"
+    if head.strict:
+        yield "strict = true"
+    if head.platform:
         yield f"platform = {json.dumps(head.platform)}"
+    if head.bundled:
         yield f"bundled = {json.dumps(head.bundled)}"
 
 
-def lists_text(tables: Tables, device_keys: bool = READS_DEVICE_KEYS) -> str:
-    """The whole form. Without `device_keys` nothing of those keys is written."""
-    blocks = [head_lines(tables, device_keys)]
+def lists_text(tables: Tables, given_back: bool = READS_GIVEN_BACK) -> str:
+    """The whole form. Without `given_back` no result is `handed`, and a static field with a source is left out: under
+    strict lists an app that reads it is undecided then."""
+    statics = [row for row in tables.statics if given_back or not row.source]
+    blocks = [head_lines(tables)]
     blocks += [class_lines(entry) for entry in upward(tables.classes)]
     blocks += [iter(["[[shared]]", f"name = {text(name)}", f"class = {text(owner)}"])
                for name, owner in tables.head.shared.items()]
-    blocks += [method_lines(row, device_keys) for row in tables.methods]
+    blocks += [method_lines(row, given_back) for row in tables.methods]
     blocks += [callback_lines(row) for row in tables.callbacks]
-    blocks += [static_lines(row) for row in tables.statics] if device_keys else []
+    blocks += [static_lines(row) for row in statics]
     return TITLE + "\n".join("\n".join(block) + "\n" for block in blocks)
 
 
 def not_carried(tables: Tables) -> list[str]:
-    """What the tables say and the form can't carry while the device keys are not read."""
-    if READS_DEVICE_KEYS:
+    """What the tables say and the form can't carry while results are not `handed` and static fields have no source."""
+    if READS_GIVEN_BACK:
         return []
     handed = sum(row.effects.result is Result.HANDED for row in tables.methods)
-    told = [(tables.head.strict, "strict"), (len(tables.statics), f"{len(tables.statics)} static fields"),
-            (handed, f"{handed} results that were handed (they are blank)"),
-            (len(tables.head.platform) + len(tables.head.bundled), "the prefixes of platform and bundled")]
+    sources = sum(bool(row.source) for row in tables.statics)
+    told = [(sources, f"{sources} static fields that are sources (an app that reads one is undecided)"),
+            (handed, f"{handed} results that were handed (they are blank)")]
     return [words for count, words in told if count]

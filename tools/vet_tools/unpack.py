@@ -14,7 +14,7 @@ import tempfile
 from dataclasses import dataclass
 from pathlib import Path
 
-from vet_tools import apk_archive, app_layouts, binary_xml, device_keys
+from vet_tools import apk_archive, app_layouts, binary_xml
 from vet_tools.apk_archive import Archive, Contents
 from vet_tools.app_classes import classes_of
 from vet_tools.app_layouts import AppNames, Layout
@@ -100,16 +100,19 @@ def not_carried(app: App) -> list[str]:
         if found != apk_archive.READ:
             said.append(f"{name} has version {found}, and the program reads {apk_archive.READ} alone: it will refuse "
                         "this app; build it with a min-api below 24")
-    if not device_keys.READS_DEVICE_KEYS:
-        said += _some([f"the class {shown(name)}, which is named by {shown_place(where)}"
-                       for name, where in app.named.items()])
     return said
 
 
-def _some(said: list[str]) -> list[str]:
-    """The first of what is said, each as something that was not carried, and how many more there are."""
-    more = [f"not carried: {len(said) - MOST_SAID} more of this kind"] if len(said) > MOST_SAID else []
-    return [f"not carried: {it}" for it in said[:MOST_SAID]] + more
+def named_elsewhere(app: App) -> list[str]:
+    """Where classes of the app are named to which no event of the machine comes, a sentence each."""
+    return _some([f"the class {shown(name)} by {shown_place(where)}; no event comes to it, so the app is not clear"
+                  for name, where in app.named.items()], "named elsewhere")
+
+
+def _some(said: list[str], what: str = "not carried") -> list[str]:
+    """The first of what is said, each as something of this kind, and how many more there are."""
+    more = [f"{what}: {len(said) - MOST_SAID} more of this kind"] if len(said) > MOST_SAID else []
+    return [f"{what}: {it}" for it in said[:MOST_SAID]] + more
 
 
 def shown_place(where: str) -> str:
@@ -164,8 +167,7 @@ def run(apk: Path, target: Path, lists: Path, declaration: Path | None, progress
     forms = {"lists.toml": read_form(lists, "the lists")}
     forms["declaration.toml"] = read_form(declaration, "the declaration") if declaration else b""
     app = read_app(Archive(apk), progress)
-    named = list(app.named) if device_keys.READS_DEVICE_KEYS else None
-    forms["manifest.toml"] = app.manifest.form(len(app.dex), named)
+    forms["manifest.toml"] = app.manifest.form(len(app.dex), list(app.named))
     forms["layouts.toml"] = app_layouts.form(app.layouts)
     write_folder(target, {**forms, **app.dex})
     return app
@@ -212,7 +214,7 @@ def main(words: list[str] | None = None) -> int:
     progress.end()
     if not given.lists:
         print(f"tools/unpack: took the lists {lists.relative_to(ROOT)}", file=sys.stderr)
-    for line in not_carried(app):
+    for line in not_carried(app) + named_elsewhere(app):
         print(f"tools/unpack: {line}", file=sys.stderr)
     sys.stdout.write(summary(app, given.folder))
     return 0
