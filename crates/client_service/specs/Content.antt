@@ -2,9 +2,9 @@
 use Rattle.std.specs.Prelude.{◌≡◌, ℕ, List, Option, Result, Ok, Err, IsTrue, is_some}
 use Rattle.vet_base.specs.Outside.{Told, held_by}
 use Rattle.vet_base.specs.Script.{Script, Value, ◌>>=◌, run}
-use Rattle.app_machine.specs.declared.papers.Manifest.{Manifest}
 use Rattle.form_fields.specs.declared.told.FormFault.{FormFault}
 use Rattle.form_fields.specs.Form.{IsForm, FirstFormFault}
+use Rattle.office_forms.specs.declared.manifest.AppManifest.{AppManifest}
 use Rattle.office_forms.specs.Manifest.{manifest_form}
 use Rattle.verdict.specs.declared.outcome.Part.TheVariants.{Manifest as manifest_part, Layouts, Declaration}
 use Rattle.verdict.specs.declared.outcome.Reason.TheVariants.{Form}
@@ -27,8 +27,8 @@ pub data Gathers (held : Held) (dir : List ℕ) : Result Content Refusal → Typ
   no_manifest : (refusal : Refusal) → run (part_at held dir manifest_part) ≡ Err refusal → Gathers held dir (Err refusal)
   bad_manifest : (text : List ℕ) (fault : FormFault) → run (part_at held dir manifest_part) ≡ Ok text
       → FirstFormFault manifest_form text fault → Gathers held dir (Err (manifest_part, Form fault))
-  others : (text : List ℕ) (manifest : Manifest) (gathered : Result Content Refusal) → run (part_at held dir manifest_part) ≡ Ok text
-      → IsForm manifest_form text manifest → run (content_at held dir text manifest.dex_files) ≡ gathered → Gathers held dir gathered
+  others : (text : List ℕ) (m : AppManifest) (gathered : Result Content Refusal) → run (part_at held dir manifest_part) ≡ Ok text
+      → IsForm manifest_form text m → run (content_at held dir text m.manifest.dex_files) ≡ gathered → Gathers held dir gathered
 
 -- where the files are told, this is what the folder gives
 abbrev pub GathersTold : Option Told → List ℕ → Result Content Refusal → Type 0

@@ -1,0 +1,7 @@
+.class public La/Base;
+.super Landroid/app/Activity;
+
+.method public tap(Landroid/view/View;)V
+    .registers 2
+    return-void
+.end method

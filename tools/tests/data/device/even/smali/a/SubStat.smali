@@ -1,0 +1,2 @@
+.class public La/SubStat;
+.super La/Stat;

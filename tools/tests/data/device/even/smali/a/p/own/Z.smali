@@ -1,0 +1,2 @@
+.class public La/p/own/Z;
+.super Ljava/lang/Object;

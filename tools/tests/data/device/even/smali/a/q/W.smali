@@ -1,0 +1,2 @@
+.class public La/q/W;
+.super Ljava/lang/Object;

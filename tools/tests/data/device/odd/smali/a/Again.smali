@@ -1,0 +1,3 @@
+.class public La/Again;
+.super Ljava/lang/Object;
+.implements Lx/Unlisted;

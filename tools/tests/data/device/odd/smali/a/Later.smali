@@ -1,0 +1,3 @@
+.class public La/Later;
+.super Ljava/lang/Object;
+.implements Lx/Unlisted;

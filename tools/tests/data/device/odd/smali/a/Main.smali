@@ -1,0 +1,2 @@
+.class public La/Main;
+.super Landroid/app/Activity;

@@ -1,0 +1,2 @@
+.class public La/Middle;
+.super La/Up;

@@ -1,0 +1,2 @@
+.class public La/Sooner;
+.super Lx/Base;

@@ -1,0 +1,2 @@
+.class public La/p/X;
+.super Ljava/lang/Object;

@@ -1,0 +1,2 @@
+.class public La/q/r/Y;
+.super Ljava/lang/Object;

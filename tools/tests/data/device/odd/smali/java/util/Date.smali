@@ -1,0 +1,2 @@
+.class public Ljava/util/Date;
+.super Ljava/lang/Object;
