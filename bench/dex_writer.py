@@ -1,7 +1,7 @@
 """Writes DEX files of any size, for the scripts that measure: only what a reader looks at, in the layout of the Android documentation."""
 import struct
 
-NATIVE, STATIC, PUBLIC = 0x100, 0x8, 0x1
+NATIVE, STATIC, PRIVATE, PUBLIC = 0x100, 0x8, 0x2, 0x1
 NOP, RETURN_VOID = 0x0000, 0x000E
 
 

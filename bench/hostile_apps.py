@@ -15,7 +15,7 @@ import struct
 import subprocess
 import sys
 
-from dex_writer import NATIVE, NOP, PUBLIC, RETURN_VOID, STATIC, DexFile, code_item
+from dex_writer import NATIVE, NOP, PRIVATE, PUBLIC, RETURN_VOID, STATIC, DexFile, code_item
 
 SECONDS, BYTES = 120, 6 << 30
 MAIN, BUNDLE = 'La/Main;', 'Landroid/os/Bundle;'
@@ -165,6 +165,48 @@ def listened(n, chained=60, is_chain=False):
     return with_main(dex, code_item(3, 2, b''.join(units) + unit(RETURN_VOID)), True)
 
 
+def strict(dex):
+    """The app under strict lists: the sample's, with a line in front."""
+    with open(f'{here}/../examples/lists.toml') as lists:
+        dex.lists = f'strict = true\nplatform = ["Ljava/", "Landroid/"]\n{lists.read()}'
+    return dex
+
+
+def hidden_chain(n):
+    """Classes in one chain, each with a method of one name, private in every other one."""
+    dex, above = DexFile(), 'Ljava/lang/Object;'
+    for i in range(n):
+        name = f'Lp{i % 7}/c{i};'
+        method = (dex.method(name, 'm'), [PUBLIC, PRIVATE][i % 2], code_item(1, 1, unit(RETURN_VOID)))
+        dex.add_class(name, above, methods=[method])
+        above = name
+    return strict(dex)
+
+
+def hidden_wide(n):
+    """Two classes, one below the other, with as many methods of the same names, and all of the lower one private."""
+    dex, above = DexFile(), 'Ljava/lang/Object;'
+    for name, flags in (('La;', PUBLIC), ('Lb;', PRIVATE)):
+        methods = [(dex.method(name, f'm{i}'), flags, code_item(1, 1, unit(RETURN_VOID))) for i in range(n)]
+        dex.add_class(name, above, methods=methods)
+        above = name
+    return strict(dex)
+
+
+def unlisted(n):
+    """Classes each with an interface of its own, which the lists don't have."""
+    dex = DexFile()
+    for i in range(n):
+        dex.add_class(f'Lc{i};', interfaces=[f'Lu{i};'])
+    return strict(dex)
+
+
+def library_statics(n):
+    """As many gets as static fields of a class that the lists don't have."""
+    dex = DexFile()
+    return strict(with_main(dex, gets(True, n, [dex.field('Llib/S;', f'f{i}', 'Lx;') for i in range(n)])))
+
+
 CASES = {
     'sget_missing': (20_000, missing(True)),
     'iget_missing': (20_000, missing(False)),
@@ -184,6 +226,10 @@ CASES = {
     'own_interfaces': (20_000, own_interfaces),
     'listened': (30_000, listened),
     'listened_chain': (20_000, lambda n: listened(n, is_chain=True)),
+    'hidden_chain': (30_000, hidden_chain),
+    'hidden_wide': (30_000, hidden_wide),
+    'unlisted': (30_000, unlisted),
+    'library_statics': (30_000, library_statics),
 }
 
 
