@@ -5,6 +5,7 @@ forms without a fault and empty DEX files, so a text that is accepted shows by t
 """
 from __future__ import annotations
 
+import json
 import tempfile
 import unittest
 from dataclasses import dataclass
@@ -18,12 +19,14 @@ FORMS = DATA / "forms"
 FAULTLESS = {"manifest": 'package = "a"\ndex_files = 1\n', "layouts": "", "declaration": "",
              "lists": 'rows = 1\ncategories = ["a"]\n'}
 # The form that each file has texts of, and how many.
-FILES = {"declarations": ("declaration", 18), "layouts": ("layouts", 16), "manifests": ("manifest", 34),
+FILES = {"declarations": ("declaration", 18), "layouts": ("layouts", 16), "manifests": ("manifest", 42),
          "lists": ("lists", 25), "classes": ("lists", 19), "methods": ("lists", 81), "signatures": ("lists", 22),
-         "callbacks": ("lists", 17), "device": ("lists", 44)}
+         "callbacks": ("lists", 17), "device": ("lists", 69)}
 # The answers to the greatest number of tables, each without a key.
 ENDS = (("manifest", "component", "missing component.kind"), ("layouts", "layout", "missing layout.name"),
         ("declaration", "use", "missing use.source"))
+# The lists of at most 4,096 names, each of which is another.
+NAMES = (("manifest", "named"), ("lists", "platform"), ("lists", "bundled"))
 
 
 @dataclass(frozen=True)
@@ -43,6 +46,11 @@ def cases_of(name: str, form: str) -> list[Case]:
         due, _, text = block.partition("\n")
         found.append(Case(form, f"{name} {number}", f"{head}\n{text}".encode(), due))
     return found
+
+
+def listed(key: str, count: int, first: int = 0) -> str:
+    """So many names of classes at a key, counted from the first."""
+    return f"{key} = {json.dumps([f'L{number};' for number in range(first, first + count)])}\n"
 
 
 def answer_to(case: Case) -> tuple[int, str]:
@@ -77,6 +85,19 @@ class Texts(unittest.TestCase):
     def test_an_array_has_4096_tables_at_most(self) -> None:
         self.judge([Case(form, f"{count} of {array}", (FAULTLESS[form] + f"[[{array}]]\n" * count).encode(), said)
                     for form, array, due in ENDS for count, said in ((4096, due), (4097, f"range {array}"))])
+
+    def test_a_list_has_4096_names_at_most(self) -> None:
+        self.judge([Case(form, f"{count} of {key}", f"{FAULTLESS[form]}{listed(key, count)}".encode(), said)
+                    for form, key in NAMES for count, said in ((4096, "ok"), (4097, f"range {key}"))])
+
+    def test_two_lists_have_8192_names_at_most(self) -> None:
+        text = FAULTLESS["lists"] + listed("platform", 4096)
+        self.judge([Case("lists", "4096 of each", f"{text}{listed('bundled', 4096, 4096)}".encode(), "ok"),
+                    Case("lists", "one in both", f"{text}{listed('bundled', 4096, 4095)}".encode(), "range bundled")])
+
+    def test_lists_have_65536_static_fields_at_most(self) -> None:
+        self.judge([Case("lists", f"{count} of static", (FAULTLESS["lists"] + "[[static]]\n" * count).encode(), said)
+                    for count, said in ((65536, "missing static.class"), (65537, "range static"))])
 
     def test_as_many_dex_files_are_read_as_the_manifest_says(self) -> None:
         with tempfile.TemporaryDirectory(prefix="vet-form-") as made:
