@@ -429,6 +429,7 @@ connections_end = record {
   whole = λ office edition before after cases status writes serves.
       let h = wrote office edition before after cases (codes "HTTP/") status writes serves in
       whole h.1.sent.answer h.1.sent.bytes;
+  not_asked = λ none. none-some served.Ended (sym none);
   none_taken = λ entry cases talk told one counts.
       let none : 0 ≡ min 1 (length talk.left) = counts cases talk told.cases_are told.talk_is in
       below 0 1 (lit< tt) (none ∙ ap (λ (n : ℕ). min 1 n) one);

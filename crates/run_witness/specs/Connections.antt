@@ -1,16 +1,18 @@
 -- How a connection does not end, and connections over a door. Behind each fact stands what a slip would do. But for the fact of
 -- the day the clock tells none: what does not end so under no day, does not under one.
-use Rattle.std.specs.Prelude.{◌≡◌, ℕ, false, Bool, List, [], ◌∷◌, length, Some, None, Ok, codes, replicate}
+use Rattle.std.specs.Prelude.{◌≡◌, ℕ, false, Bool, List, [], ◌∷◌, length, Some, None, Ok, Err, codes, replicate}
 use Rattle.vet_base.specs.Outside.{HasRisen}
 use Rattle.case_rules.specs.declared.case.Case.{Case}
 use Rattle.case_rules.specs.declared.case.Decision.{Decision}
 use Rattle.case_rules.specs.declared.case.OutcomeWord.TheVariants.{Flagged}
 use Rattle.case_rules.specs.Cases.{with_entry}
+use Rattle.desk_http.specs.declared.asked.HttpFault.TheVariants.{Ended}
 use Rattle.desk_http.specs.Replies.{reply_bytes}
 use Rattle.desk_links.specs.Links.{Told}
 use Rattle.desk_serving.specs.declared.serving.Served.{Served}
 use Rattle.desk_serving.specs.declared.serving.Served.TheVariants.{Replied}
 use Rattle.desk_serving.specs.Run.{CountsAll}
+use Rattle.desk_serving.specs.Sending.{unasked}
 use Rattle.desk_serving.specs.Serving.{Outside, Serves}
 use Rattle.store_office.specs.declared.office.Office.{Office}
 use Rattle.run_witness.specs.Commands.{bob, content, queued, anything}
@@ -55,6 +57,8 @@ pub record ConnectionsEnd : Type 0 where
   pub own_status : (office : Office) (edition : List ℕ) (before after : Outside) (cases : List Case) (is_text : Bool) (body : List ℕ) → Writes before after cases (reply_bytes 404 is_text body) → Serves anything office edition None before after (Replied 200) → ⊥
   -- a front of a reply is no reply (else it would be said to be one)
   pub whole : (office : Office) (edition : List ℕ) (before after : Outside) (cases : List Case) (status : ℕ) → Writes before after cases (codes "HTTP/") → Serves anything office edition None before after (Replied status) → ⊥
+  -- a connection that ended asks for nothing more (else it would be answered)
+  pub not_asked : unasked (Err Ended) ≡ None → ⊥
   -- a connection that is left and asked for is taken (else none, be it that the door fails)
   pub none_taken : (entry : Outside) (cases : List Case) (talk : Told) → Tells entry cases talk → length talk.left ≡ 1 → CountsAll 1 entry (Ok 0) → ⊥
   -- a keeper of which no call failed has not failed (else after each command, and for want of memory)
