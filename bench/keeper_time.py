@@ -1,6 +1,6 @@
 """Times the commands of the desk over a keeper in memory with 1,000, 10,000 and 100,000 cases.
 
-usage: keeper_time.py PROGRAM (the program that `rt run` built in crates/keeper_cases)
+usage: keeper_time.py PROGRAM (the program that `rt run` built in crates/desk_cases)
 
 The program puts each command as often as there are cases (lists a hundred times, the submissions of one developer five
 hundred times) and says what one takes. Prints for each command the least microseconds of three runs at each number of

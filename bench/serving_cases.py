@@ -1,6 +1,6 @@
-"""Writes the cases of crates/serving_cases: what comes on connections of the desk, and the reply that is due to each.
+"""Writes the connections of crates/desk_cases: what comes on connections of the desk, and the reply that is due to each.
 
-usage: serving_cases.py FOLDER (the folder of the crate; writes data/*.txt and stdout)
+usage: serving_cases.py FOLDER (the folder of the crate; writes files of data/, and what stdout has of them)
 
 What is due is written here by hand, by docs/CASES.md for the cases and by RFC 9110 and RFC 9112 for the bytes of HTTP;
 nothing here runs the desk. The form of the files: a line `## TITLE` begins a case, on links that give all at once, take
@@ -18,6 +18,9 @@ the byte of this number, and `\\{N*TEXT}` for a text N times.
 import json
 import pathlib
 import sys
+
+# The lines of stdout between which the counts of connections stand.
+HEAD, NEXT = "connections, over a keeper in memory\n", "databases\n"
 
 PHRASES = {
     200: "OK", 201: "Created", 400: "Bad Request", 401: "Unauthorized", 403: "Forbidden", 404: "Not Found",
@@ -805,7 +808,10 @@ def main():
         if name == "day":
             turns = cases.calls * (cases.count + 1)
             lines.append(f"{name}.txt: {turns} replies that are due where one of {cases.calls} calls fails")
-    (folder / "stdout").write_text("\n".join(lines) + "\n")
+    stdout = folder / "stdout"
+    before, after = stdout.read_text().split(HEAD)
+    behind = after[after.index(NEXT):]
+    stdout.write_text(before + HEAD + "\n".join(lines) + "\n" + behind)
 
 
 main()

@@ -1,7 +1,0 @@
-use denote.Text.{Utf8}
-use denote.Shadow.{shadow}
-use Rattle.case_rules.specs.Docket.{IsDocket}
-use Rattle.keeper_cases.proofs.commands.Given as goal
-
-abbrev pub invariant-loop-line : goal.invariant-loop-line
-invariant-loop-line g l = shadow (Utf8 l.title) × IsDocket l.keeper.cases

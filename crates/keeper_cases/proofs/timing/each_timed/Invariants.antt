@@ -1,5 +1,0 @@
-use Rattle.case_rules.specs.Docket.{IsDocket}
-use Rattle.keeper_cases.proofs.timing.each_timed.Given as goal
-
-abbrev pub invariant-loop-line : goal.invariant-loop-line
-invariant-loop-line l = IsDocket l.keeper.cases

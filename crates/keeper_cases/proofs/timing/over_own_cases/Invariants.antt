@@ -1,5 +1,0 @@
-use Rattle.case_rules.specs.Docket.{IsDocket}
-use Rattle.keeper_cases.proofs.timing.over_own_cases.Given as goal
-
-abbrev pub invariant-loop-turn : goal.invariant-loop-turn
-invariant-loop-turn l = IsDocket l.keeper.cases

@@ -1,5 +1,0 @@
-use Rattle.desk_serving.specs.Obeying.{TellsDocket}
-use Rattle.sqlite_cases.proofs.telling.put_replies.Given as goal
-
-abbrev pub invariant-loop-line : goal.invariant-loop-line
-invariant-loop-line g l = TellsDocket (g.K.Keeper.told l.keeper)

@@ -1,5 +1,0 @@
-use Rattle.desk_serving.specs.Obeying.{TellsDocket}
-use Rattle.sqlite_cases.proofs.telling.story.Given as goal
-
-abbrev pub invariant-loop-command : goal.invariant-loop-command
-invariant-loop-command g l = TellsDocket (g.K.Keeper.told l.keeper)
