@@ -1,4 +1,4 @@
-"""Writes what `insn_list` is to print of DEX files: their instructions as `dexdump -d` has them.
+"""Writes what `dex_list code` is to print of DEX files: their instructions as `dexdump -d` has them.
 
 usage: expected.py TABLE FILE..    TABLE is dalvik_formats' opcodes.rt, of which the formats of the mnemonics are taken
 """

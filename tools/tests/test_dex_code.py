@@ -16,9 +16,8 @@ REFERRING = re.compile(r"(invoke|const-string|const-class|check-cast|instance-of
 
 def files() -> list[Path]:
     """All DEX files of the repository that dexdump takes for whole."""
-    lists = [ROOT / "crates" / name / "data" for name in ("dex_list", "insn_list")]
     return sorted(EXAMPLES.glob("*/classes.dex")) + sorted(
-        path for folder in lists for path in folder.glob("*.dex") if not path.name.startswith("hostile"))
+        path for path in (ROOT / "crates" / "dex_list" / "data").glob("*.dex") if not path.name.startswith("hostile"))
 
 
 class AgainstDexdump(unittest.TestCase):

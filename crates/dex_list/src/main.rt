@@ -1,7 +1,9 @@
 //! `dex_list count FILE..` reads each DEX file and prints the sizes of its tables; `dex_list list FILE..` prints all
-//! that stands in it. For a file that is refused it prints the fault.
+//! that stands in it. For a file that is refused it prints the fault. `dex_list code FILE..` decodes each method with
+//! code, and prints its instructions. Each of these words holds for the files up to the next one.
 #![tactic(auto)]
 
+mod instructions;
 mod listing;
 
 use dex_reader::{DexFault, read_dex};
@@ -60,25 +62,80 @@ fn fault_of<W: Write>(out: &mut W, fault: &DexFault) -> io::Result<()> {
     }
 }
 
+/// What is printed of a file.
+#[derive(Clone, Copy)]
+enum What {
+    /// The sizes of its tables.
+    Sizes,
+    /// These, and all that stands in it.
+    Whole,
+    /// The instructions of its methods.
+    Code,
+}
+
+/// What a word asks for; none where it is the name of a file.
+fn asked(word: &str) -> Option<What> {
+    match word {
+        "count" => Some(What::Sizes),
+        "list" => Some(What::Whole),
+        "code" => Some(What::Code),
+        _ => None,
+    }
+}
+
+/// Prints the sizes of the tables, and all that stands in the file where it is asked for, or its fault.
+fn tables_of<W: Write>(out: &mut W, alloc: Global, bytes: &[u8], is_whole: bool) -> io::Result<()> {
+    match read_dex(alloc, bytes) {
+        Ok(dex) => {
+            counts(out, &dex)?;
+            if is_whole {
+                listing::list(out, &dex)?;
+            }
+            Ok(())
+        }
+        Err(fault) => fault_of(out, &fault),
+    }
+}
+
+/// Prints the instructions.
+fn code_of<W: Write>(out: &mut W, alloc: Global, bytes: &[u8]) -> io::Result<()> {
+    match read_dex(alloc, bytes) {
+        Ok(dex) => instructions::list(out, alloc, &dex),
+        Err(_) => writeln!(out, "no DEX file"),
+    }
+}
+
+/// Prints what is asked for of a file.
+fn told<W: Write>(
+    out: &mut W,
+    alloc: Global,
+    what: What,
+    name: &str,
+    bytes: &[u8],
+) -> io::Result<()> {
+    match what {
+        What::Sizes | What::Whole => {
+            write!(out, "{name}: ")?;
+            tables_of(out, alloc, bytes, matches!(what, What::Whole))
+        }
+        What::Code => {
+            writeln!(out, "file {name}")?;
+            code_of(out, alloc, bytes)
+        }
+    }
+}
+
 fn main(rt: HostRuntime) -> io::Result<()> {
     let alloc = rt.alloc();
     let mut out = BufWriter::new(alloc, io::writer(&rt))?;
-    let mut words = env::args(&rt)?.skip(1);
-    let whole = match words.next() {
-        Some(word) => word.as_str() == "list",
-        None => false,
-    };
-    for name in words {
-        let bytes = read_all(&rt, alloc, name.as_str())?;
-        write!(out, "{name}: ")?;
-        match read_dex(alloc, &bytes) {
-            Ok(dex) => {
-                counts(&mut out, &dex)?;
-                if whole {
-                    listing::list(&mut out, &dex)?;
-                }
+    let mut what = What::Sizes;
+    for word in env::args(&rt)?.skip(1) {
+        match asked(word.as_str()) {
+            Some(other) => what = other,
+            None => {
+                let bytes = read_all(&rt, alloc, word.as_str())?;
+                told(&mut out, alloc, what, word.as_str(), &bytes)?;
             }
-            Err(fault) => fault_of(&mut out, &fault)?,
         }
     }
     out.flush()

@@ -1,23 +1,7 @@
-//! `insn_list FILE..` reads each DEX file, decodes each method with code, and prints its lines.
-#![tactic(auto)]
-
 use dex_code::{CodeFault, Counts, Insn, decode};
-use dex_reader::read_dex;
 use dex_tables::{Body, Dex};
 use std::alloc::Global;
-use std::env::Env;
-use std::fs::File;
-use std::io::{BufWriter, Read, Write};
-use std::rt::Files;
-use std::{env, io};
-
-fn read_all<R: Files>(rt: &R, alloc: Global, name: &str) -> io::Result<Vec<u8>> {
-    let mut bytes = Vec::new(alloc);
-    File::open(rt, name)?
-        .take(16_777_216)
-        .read_to_end(&mut bytes)?;
-    Ok(bytes)
-}
+use std::io::{self, Write};
 
 fn insn_to<W: Write>(out: &mut W, insn: &Insn) -> io::Result<()> {
     match insn {
@@ -90,7 +74,8 @@ fn rows_of(count: usize) -> u32 {
     u32::try_from(count).unwrap_or(u32::MAX)
 }
 
-fn dex_to<W: Write>(out: &mut W, alloc: Global, dex: &Dex) -> io::Result<()> {
+/// The instructions of each method with code, a line each.
+pub fn list<W: Write>(out: &mut W, alloc: Global, dex: &Dex) -> io::Result<()> {
     let counts = Counts {
         strings: rows_of(dex.strings.len()),
         types: rows_of(dex.types.len()),
@@ -106,19 +91,4 @@ fn dex_to<W: Write>(out: &mut W, alloc: Global, dex: &Dex) -> io::Result<()> {
         }
     }
     Ok(())
-}
-
-fn main(rt: HostRuntime) -> io::Result<()> {
-    let alloc = rt.alloc();
-    let mut out = BufWriter::new(alloc, io::writer(&rt))?;
-    let words = env::args(&rt)?.skip(1);
-    for name in words {
-        let bytes = read_all(&rt, alloc, name.as_str())?;
-        writeln!(out, "file {name}")?;
-        match read_dex(alloc, &bytes) {
-            Ok(dex) => dex_to(&mut out, alloc, &dex)?,
-            Err(_) => writeln!(out, "no DEX file")?,
-        }
-    }
-    out.flush()
 }
