@@ -1,7 +1,5 @@
 //! Keepers whose database is not there, or not there yet.
 
-ghost use Rattle.desk_serving.specs.Obeying.{TellsDocket};
-
 use crate::databases::store::{Filed, LASTING};
 use crate::databases::telling::story;
 use case_keeper::{KeepFault, Keeper, MemKeeper};
@@ -59,9 +57,7 @@ pub fn asks_again<S: Filed>(alloc: Global, commands: &str, questions: &str) -> i
 }
 
 /// Prints whether a keeper whose folder is not there fails at each call.
-pub fn no_folder<K: Keeper + Drop>(rt: &HostRuntime, keeper: K) -> io::Result<()>
-    requires { TellsDocket (K.told keeper) }
-{
+pub fn no_folder<O: Opener + Drop>(rt: &HostRuntime, keeper: LateKeeper<O>) -> io::Result<()> {
     let mut keeper = keeper;
     let line = "1 1 ann submit r1 app > store failed";
     let due = due_in(rt, &mut keeper, "no folder", line)?;
