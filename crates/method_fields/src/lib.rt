@@ -10,7 +10,6 @@ mod signature;
 pub use descriptor::proto_of;
 pub use gives::{GivesWord, gives_at};
 pub use positions::{
-    are_two, flag_at, has_key, items_at, listed_at, name_at, named_at, pairs_at, position_at,
-    positions_at,
+    flag_at, has_key, items_at, listed_at, named_at, named_row, pairs_at, positions_at,
 };
 pub use signature::{MethodKey, Signature, keys_once, position_count, proto_at, type_at};

@@ -153,7 +153,7 @@ fn position_of(value: &Value, section: Section, key: Key, count: usize) -> Resul
 /// The position that stands at a place of a list: `Range` where there is no item, or it is no number below that
 /// of the arguments.
 #[tactic(auto, unfolding(crate::specs::Positions::position_at))]
-pub fn position_at(
+fn position_at(
     items: &[Value],
     at: usize,
     section: Section,
@@ -233,7 +233,7 @@ fn pair_row(
 
 /// Whether there are two items.
 #[tactic(auto, unfolding(crate::specs::Positions::are_two))]
-pub fn are_two(items: &[Value]) -> bool
+fn are_two(items: &[Value]) -> bool
     ensures { result ≡ are_two (map view items.now) }
 {
     items.len() == 2
@@ -242,7 +242,7 @@ pub fn are_two(items: &[Value]) -> bool
 /// The name that stands at a place of a list, by its number among some names: `Range` where there is no item,
 /// or it is none of these names.
 #[tactic(auto, unfolding(crate::specs::Positions::name_at))]
-pub fn name_at(
+fn name_at(
     alloc: Global,
     items: &[Value],
     at: usize,
@@ -294,8 +294,10 @@ fn named_rows(
     Ok(pairs)
 }
 
+/// A position with one of some names, by its number: `Range` where the item is no pair, its number is not below
+/// that of the arguments, or its text is none of the names.
 #[tactic(auto, unfolding(crate::specs::Positions::named_row), using(vet_base::proofs::Scripts::run_bind))]
-fn named_row(
+pub fn named_row(
     alloc: Global,
     value: &Value,
     section: Section,
@@ -304,7 +306,8 @@ fn named_row(
     names: &Index<Name>,
 ) -> Result<(u32, u32), Stop<Fault>>
     requires { length names.now ≤ 65536 }
-    ensures { Gives (λ p. (p, tt)) result (named_row section key count names.now (view value.now) tt) }
+    ensures value { Gives (λ p. (p, tt)) result (named_row section key count names.now (view value.now) tt) }
+    ensures within { IfOk result (λ p. p.1 < length names.now) }
 {
     let Some(parts) = items_in(value) else {
         return Err(Stop::Fault(Fault::Range(section, key)));
