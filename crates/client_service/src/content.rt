@@ -114,7 +114,7 @@ fn dex_count(alloc: Global, manifest: &[u8]) -> Result<u32, Halt>
     ensures within { IfOk result (λ count. (1 ≤ count) × (count ≤ 16)) }
 {
     match read_manifest(alloc, manifest) {
-        Ok(read) => Ok(read.manifest.dex_files),
+        Ok(manifest) => Ok(manifest.manifest.dex_files),
         Err(FormFault::Memory) => Err(Halt::Memory),
         Err(fault) => Err(Halt::Refused(Part::Manifest, Reason::Form(fault))),
     }
