@@ -1,6 +1,6 @@
 //! The files of a folder: the parts of an app, read in a fixed order.
 
-ghost use Rattle.std.specs.Prelude.{◌≡◌, ◌++◌, codes, string_bytes, IfOk, OnOk};
+ghost use Rattle.std.specs.Prelude.{◌≡◌, ◌≤◌, ◌++◌, codes, string_bytes, IfOk, OnOk};
 ghost use Rattle.std.specs.List.{AllByRecursion};
 ghost use Rattle.certificate.specs.Digests.{IsShort};
 ghost use Rattle.vet_base.specs.Outside.{held_by};
@@ -44,8 +44,9 @@ impl<T: Drop> From<AllocFailed<T>> for Halt {
     }
 }
 
+/// The name of the file of a part.
 #[tactic(auto, unfolding(crate::specs::Folder::file_name))]
-fn name_of(alloc: Global, dir: &str, part: Part) -> Result<String, AllocError>
+pub fn name_of(alloc: Global, dir: &str, part: Part) -> Result<String, AllocError>
     ensures { IfOk result (λ name. string_bytes name ≡ file_name dir.now part) }
 {
     let mut name = String::from_str(alloc, dir)?;
@@ -128,8 +129,9 @@ fn parts_with<F: Files>(
 }
 
 /// How many DEX files the manifest says that there are.
-fn dex_count(alloc: Global, manifest: &[u8]) -> Result<u32, Halt>
-    ensures { CountsDex manifest.now result }
+pub fn dex_count(alloc: Global, manifest: &[u8]) -> Result<u32, Halt>
+    ensures counts { CountsDex manifest.now result }
+    ensures within { IfOk result (λ count. (1 ≤ count) × (count ≤ 16)) }
 {
     match read_manifest(alloc, manifest) {
         Ok(manifest) => Ok(manifest.manifest.dex_files),

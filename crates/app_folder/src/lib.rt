@@ -4,4 +4,4 @@
 
 mod folder;
 
-pub use folder::{Halt, parts_in};
+pub use folder::{Halt, dex_count, name_of, parts_in};

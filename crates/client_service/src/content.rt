@@ -1,28 +1,16 @@
 //! The files of an app that are handed in, read in the order in which `check` reads them.
-ghost use Rattle.std.specs.Prelude.{◌≡◌, ◌≤◌, length, string_bytes, IfOk, IfErr};
+ghost use Rattle.std.specs.Prelude.{◌≡◌, ◌≤◌, length, IfOk, IfErr};
 ghost use Rattle.vet_base.specs.Outside.{held_by};
 ghost use Rattle.app_folder.specs.Folder.{dexes_at, file_name, part_at, IsFileIn};
-ghost use Rattle.app_folder.specs.Reading.{CountsDex, FailsAt, Leaves, ReadsAs};
+ghost use Rattle.app_folder.specs.Reading.{FailsAt, Leaves, ReadsAs};
 ghost use Rattle.client_service.specs.Content.{content_at, GathersAs};
 
-use app_folder::Halt;
+use app_folder::{Halt, dex_count, name_of};
 use case_rules::Content;
-use office_forms::{FormFault, read_manifest};
 use printed_text::FILE_LIMIT;
-use std::alloc::{AllocError, Global};
+use std::alloc::Global;
 use verdict::{Part, Reason};
-use verdict_report::push_part_name;
 use vet_base::{FileFault, Files, Shared};
-
-#[tactic(auto, unfolding(app_folder::specs::Folder::file_name))]
-fn name_of(alloc: Global, dir: &str, part: Part) -> Result<String, AllocError>
-    ensures { IfOk result (λ name. string_bytes name ≡ file_name dir.now part) }
-{
-    let mut name = String::from_str(alloc, dir)?;
-    name.push_str("/")?;
-    push_part_name(alloc, &mut name, part)?;
-    Ok(name)
-}
 
 fn listed<T: Drop>(alloc: Global, items: Vec<T>) -> Result<Shared<T>, Halt>
     ensures ok { IfOk result (λ list. list ≡ items.items) }
@@ -106,18 +94,6 @@ fn content_with<F: Files>(
         declaration,
         dex,
     })
-}
-
-/// How many DEX files the manifest says that there are.
-fn dex_count(alloc: Global, manifest: &[u8]) -> Result<u32, Halt>
-    ensures counts { CountsDex manifest.now result }
-    ensures within { IfOk result (λ count. (1 ≤ count) × (count ≤ 16)) }
-{
-    match read_manifest(alloc, manifest) {
-        Ok(manifest) => Ok(manifest.manifest.dex_files),
-        Err(FormFault::Memory) => Err(Halt::Memory),
-        Err(fault) => Err(Halt::Refused(Part::Manifest, Reason::Form(fault))),
-    }
 }
 
 /// The app in a folder, or the first refusal. It is what `check` reads but for the lists: `manifest.toml`, whose form

@@ -6,7 +6,7 @@ pub returns-in_err-manifest-clause-value : goal.returns-in_err-manifest-clause-v
 returns-in_err-manifest-clause-value g c = let p = err_from_is_err_and c.from_residual.result c.from_residual.ensures.1 in rw (p.1, p.2) (of_no_manifest _ _ _ c.in_err-manifest.ensures.value)
 
 pub returns-in_err-count-clause-value : goal.returns-in_err-count-clause-value
-returns-in_err-count-clause-value g c = let p = err_from_is_err_and c.from_residual-in_err-count.result c.from_residual-in_err-count.ensures.1 in rw (p.1, p.2) (of_bad_manifest _ _ _ _ _ c.as_slice.ensures c.in_ok-manifest.ensures.value c.in_err-count.ensures)
+returns-in_err-count-clause-value g c = let p = err_from_is_err_and c.from_residual-in_err-count.result c.from_residual-in_err-count.ensures.1 in rw (p.1, p.2) (of_bad_manifest _ _ _ _ _ c.as_slice.ensures c.in_ok-manifest.ensures.value c.in_err-count.ensures.counts)
 
 pub returns-clause-value : goal.returns-clause-value
-returns-clause-value g c = of_others _ _ _ _ _ _ _ c.in_ok-manifest.ensures.leaves.0 c.as_slice.ensures c.in_ok-manifest.ensures.value c.in_ok-count.ensures c.parts_with.ensures.value
+returns-clause-value g c = of_others _ _ _ _ _ _ _ c.in_ok-manifest.ensures.leaves.0 c.as_slice.ensures c.in_ok-manifest.ensures.value c.in_ok-count.ensures.counts c.parts_with.ensures.value
