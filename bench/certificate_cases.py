@@ -1,4 +1,4 @@
-"""Writes the cases of crates/cert_cases: changed certificates, each with the answer that is due by the page of formats.
+"""Writes the cases of crates/table_cases: changed certificates, each with the answer that is due by the page of formats.
 
 usage: certificate_cases.py DATA (the data folder of the crate, with unlisted_call.cert in it; writes each_kind.cert and the
 files of cases)

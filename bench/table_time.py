@@ -1,6 +1,6 @@
-"""Times the table of facts and measures its memory, by the built program `table_bench`.
+"""Times the table of facts and measures its memory, by the built program `table_cases`.
 
-usage: table_time.py PROGRAM [ROWS ..] (the program that `rt run` built in crates/table_bench, and numbers of rows)
+usage: table_time.py PROGRAM [ROWS ..] (the program that `rt run` built in crates/table_cases, and numbers of rows)
 
 For each order and number of rows the program fills a table, adds all rows once more, and looks up as many rows that are there as
 rows that are not. Prints the microseconds of one add of a new row, of one add of a row that is there and of one look-up: the

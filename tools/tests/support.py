@@ -20,7 +20,7 @@ TOOLS = Path(__file__).resolve().parents[1]
 ROOT = TOOLS.parent
 EXAMPLES = ROOT / "examples"
 DATA = TOOLS / "tests" / "data"
-SHIPPED = {"unlisted_call": ROOT / "crates" / "cert_cases" / "data" / "unlisted_call.cert",
+SHIPPED = {"unlisted_call": ROOT / "crates" / "table_cases" / "data" / "unlisted_call.cert",
            "other_box": DATA / "answers" / "other_box.cert"}
 
 

@@ -7,7 +7,7 @@ from typing import Iterator
 
 from vet_tools.certificate import Certificate, CertificateFault, Kind, NoCertificate, Node, node_of
 
-CASES = Path(__file__).resolve().parents[2] / "crates" / "cert_cases" / "data"
+CASES = Path(__file__).resolve().parents[2] / "crates" / "table_cases" / "data"
 
 
 def answer(data: bytes) -> str:

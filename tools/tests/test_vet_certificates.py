@@ -12,7 +12,7 @@ from tests.support import DATA, ROOT
 
 ANSWERS = DATA / "answers"
 # A certificate of 273 bytes that another program wrote, of another app.
-UNLISTED_CALL = ROOT / "crates" / "cert_cases" / "data" / "unlisted_call.cert"
+UNLISTED_CALL = ROOT / "crates" / "table_cases" / "data" / "unlisted_call.cert"
 FORMS = ("manifest.toml", "layouts.toml", "declaration.toml")
 PARTS = (*FORMS, "lists.toml", "classes.dex")
 MAGIC = b"VETCERT2"

@@ -1,4 +1,4 @@
-use Rattle.cert_cases.proofs.answer.written.Goals as goal
+use Rattle.table_cases.proofs.answer.written.Goals as goal
 
 pub write_cert-requires-clause-few : goal.write_cert-requires-clause-few
 write_cert-requires-clause-few c = rw c.as_slice.ensures c.requires.is.few

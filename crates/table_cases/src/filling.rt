@@ -1,15 +1,9 @@
 //! Fills the table of facts and looks its rows up.
-//!
-//! `table_bench` alone takes a few rows in each order and prints what it counted; `table_bench
-//! ORDER ROWS` does so with that order and number of rows, and prints the times too.
-#![tactic(auto)]
 
-mod rows;
-
+use crate::rows::{Order, mixed, number_at, row_of};
 use fact_rows::Table;
-use rows::{Order, mixed, number_at, row_of};
+use std::io;
 use std::time::Instant;
-use std::{env, io};
 use vet_base::Memory;
 
 /// Adds the rows, and says how many were new.
@@ -46,7 +40,7 @@ fn absent(table: &Table, count: u64) -> u64 {
 }
 
 /// Fills a table and looks into it; prints the counts, and the times where they are wanted.
-fn run(rt: &HostRuntime, order: Order, count: u64, timed: bool) -> io::Result<()> {
+pub fn run(rt: &HostRuntime, order: Order, count: u64, timed: bool) -> io::Result<()> {
     let mut table = Table::new(rt.alloc());
     let begin = Instant::now(rt)?;
     let new = fill(&mut table, order, count).unwrap_or(0);
@@ -66,7 +60,7 @@ fn run(rt: &HostRuntime, order: Order, count: u64, timed: bool) -> io::Result<()
 }
 
 /// The order of that name.
-fn order_named(word: &str) -> Order {
+pub fn order_named(word: &str) -> Order {
     match word {
         "ascending" => Order::Ascending,
         "descending" => Order::Descending,
@@ -74,17 +68,9 @@ fn order_named(word: &str) -> Order {
     }
 }
 
-fn main(rt: HostRuntime) -> io::Result<()> {
-    let mut words = env::args(&rt)?.skip(1);
-    match (words.next(), words.next()) {
-        (Some(order), Some(count)) => {
-            let count = count.as_str().parse().unwrap_or(1_000);
-            run(&rt, order_named(order.as_str()), count, true)
-        }
-        _ => {
-            run(&rt, Order::Ascending, 5_000, false)?;
-            run(&rt, Order::Descending, 5_000, false)?;
-            run(&rt, Order::Random, 5_000, false)
-        }
-    }
+/// A few rows in each order.
+pub fn all(rt: &HostRuntime) -> io::Result<()> {
+    run(rt, Order::Ascending, 5_000, false)?;
+    run(rt, Order::Descending, 5_000, false)?;
+    run(rt, Order::Random, 5_000, false)
 }

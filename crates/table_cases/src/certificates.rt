@@ -1,8 +1,4 @@
-//! Reads certificates that were cut, changed or spelled out, and prints how many are answered as is due.
-#![tactic(auto)]
-
-mod answer;
-mod change;
+//! Certificates that were cut, changed or spelled out, and how many are answered as is due.
 
 use crate::answer::answer_to;
 use crate::change::changed;
@@ -41,8 +37,9 @@ fn cases<R: Files + Print + AllocGlobal>(rt: &R, certificate: &str, name: &str) 
     println!(rt; "{name}: {due} answers that are due")
 }
 
-fn main(rt: HostRuntime) -> io::Result<()> {
-    cases(&rt, "unlisted_call.cert", "unlisted_call.txt")?;
-    cases(&rt, "each_kind.cert", "each_kind.txt")?;
-    cases(&rt, "each_kind.cert", "spelled.txt")
+/// Reads the cases of all files.
+pub fn all<R: Files + Print + AllocGlobal>(rt: &R) -> io::Result<()> {
+    cases(rt, "unlisted_call.cert", "unlisted_call.txt")?;
+    cases(rt, "each_kind.cert", "each_kind.txt")?;
+    cases(rt, "each_kind.cert", "spelled.txt")
 }
