@@ -1,3 +1,4 @@
+pub mod ComingOut
 pub mod Gathered
 pub mod Judging
 pub mod Rows

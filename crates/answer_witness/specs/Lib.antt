@@ -4,3 +4,4 @@ pub mod JudgingFacts
 pub mod Office
 pub mod OutcomeFacts
 pub mod RowFacts
+pub mod VerdictFacts

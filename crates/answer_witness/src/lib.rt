@@ -9,6 +9,9 @@ ghost use Rattle.answer_witness.specs.GroundFacts.{RowsAreSought};
 ghost use Rattle.answer_witness.specs.JudgingFacts.{PartsAreJudged};
 ghost use Rattle.answer_witness.specs.OutcomeFacts.{OutcomesAreTold};
 ghost use Rattle.answer_witness.specs.RowFacts.{RowsAreOfTheApp, StartsAreThere};
+ghost use Rattle.answer_witness.specs.VerdictFacts.{AppsComeOut};
+
+use app_flow::one_defect;
 
 /// Findings and causes are told each in its place, in order and by its own kind, and only where the
 /// declaration does not name the pair; and the first file that is refused is told.
@@ -35,3 +38,11 @@ pub fn rows_are_sought()
 pub fn parts_are_judged()
     ensures { PartsAreJudged }
 {}
+
+/// An app comes to what is told of it: flagged, undecided, too large with what a device may do besides; and by rows of
+/// a certificate to a defect just where they are no good table.
+pub fn apps_come_out()
+    ensures { AppsComeOut }
+{
+    one_defect();
+}

@@ -49,7 +49,7 @@ module _ (laws : LowerLaws) (found : EachIsFound) (named : EachIsNamed) (covers 
   safe_of parts l j is sound sound_lists (linked papers dexes app reads is_app comes) clear =
       let same : app ≡ l.app = is.only.only app (as_read laws parts papers l.papers dexes is.dexes app reads is.reads is_app) in
       let same_lists : papers.lists ≡ l.papers.lists =
-          ap (λ (ls : StoreLists). ls.lists) ((laws.forms.lists parts.lists).one_form (lists_of papers) (lists_of l.papers) reads.forms.lists is.reads.forms.lists) in
+      ap (λ (ls : StoreLists). ls.lists) ((laws.forms.lists parts.lists).one_form (lists_of papers) (lists_of l.papers) reads.forms.lists is.reads.forms.lists) in
       let app_sound : SoundApp app = subst SoundApp (sym same) sound in
       let lists_sound : SoundLists papers.lists = subst SoundLists (sym same_lists) sound_lists in
       let good : IsGoodFlow app papers.lists comes.flow = flow_is_good starting closing stay app papers.lists app_sound lists_sound comes.flow comes.is_flow in

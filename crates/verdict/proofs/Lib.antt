@@ -5,4 +5,3 @@ pub mod OneVerdict
 pub mod Outcomes
 pub mod Rechecks
 pub mod Tables
-pub mod Telling

@@ -183,7 +183,7 @@ module _ (laws : LowerLaws) (parts : Parts) where
   as_read papers others dexes files app one two is =
       let list : dexes ≡ files = one_list laws.files parts.dex dexes files one.files two.files in
       let manifest : papers.manifest ≡ others.manifest =
-          ap (λ (m : AppManifest). m.manifest) ((laws.forms.manifest parts.manifest).one_form (manifest_of papers) (manifest_of others) one.forms.manifest.form two.forms.manifest.form) in
+      ap (λ (m : AppManifest). m.manifest) ((laws.forms.manifest parts.manifest).one_form (manifest_of papers) (manifest_of others) one.forms.manifest.form two.forms.manifest.form) in
       let layouts : papers.layouts ≡ others.layouts = (laws.forms.layouts parts.layouts).one_form papers.layouts others.layouts one.forms.layouts two.forms.layouts in
       let first : IsApp files papers.manifest papers.layouts app = subst (λ (ds : List Dex). IsApp ds papers.manifest papers.layouts app) list is in
       let second : IsApp files others.manifest papers.layouts app = subst (λ (m : Manifest). IsApp files m papers.layouts app) manifest first in

@@ -16,6 +16,8 @@ use Rattle.fact_rows.specs.declared.row.Row.TheVariants.{Arrive, Unknown}
 use Rattle.fact_rows.specs.InApp.{InApp}
 use Rattle.flow_proof.specs.Covering.{CoversEveryRun, EveryGoodTableCoversEveryRun, InSomeContext}
 use Rattle.flow_rules.specs.Rules.{GoodTable}
+use Rattle.flow_telling.specs.declared.told.Told.{Told}
+use Rattle.flow_telling.specs.Told.{told_of, TellsNothing}
 use Rattle.outcomes.specs.declared.outcome.Cause.{Cause}
 use Rattle.outcomes.specs.declared.outcome.Cause.TheVariants as causes
 use Rattle.outcomes.specs.declared.outcome.Finding.{Finding}
@@ -62,14 +64,19 @@ pub judged_there : (app : App) (lists : Lists) (declaration : Declaration) (besi
     IfSome found (λ k. k ≡ judged_by app lists declaration beside flow) → found ≡ Some j → j ≡ judged_by app lists declaration beside flow
 judged_there app lists declaration beside flow found j same is = subst (λ (o : Option Judged). IfSome o (λ k. k ≡ judged_by app lists declaration beside flow)) is same
 
--- what the checker says of the rows of a flow
-pub clear_by_checker : (app : App) (lists : Lists) (flow : Flow) (rows : List Row) (outcome : Outcome) → flow ≡ Rows rows →
-    (outcome ≡ Clear → GoodTable app lists rows) → outcome ≡ Clear → IsGoodFlow app lists flow
-clear_by_checker app lists flow rows outcome is told clear = subst (IsGoodFlow app lists) (sym is) (told clear)
+-- an outcome by what rows tell is that of the rows, and where it is clear they tell nothing
+pub judged_as_told : (app : App) (lists : Lists) (declaration : Declaration) (beside : List Cause) (rows : List Row) (told : Told) (outcome : Outcome) → told ≡ told_of app lists declaration beside rows →
+    outcome ≡ outcome_of told.causes told.findings → record { outcome = outcome; table = Some rows } ≡ judged_by app lists declaration beside (Rows rows)
+judged_as_told app lists declaration beside rows told outcome is same =
+    ap (λ (o : Outcome). record { outcome = o; table = Some rows }) (same ∙ ap (λ (t : Told). outcome_of t.causes t.findings) is)
 
-pub refused_by_checker : (app : App) (lists : Lists) (flow : Flow) (rows : List Row) → flow ≡ Rows rows →
-    (GoodTable app lists rows → ⊥) → IsGoodFlow app lists flow → ⊥
-refused_by_checker app lists flow rows is denied good = denied (subst (IsGoodFlow app lists) is good)
+nothing_of : (causes : List Cause) (items : List Finding) → outcome_of causes items ≡ Clear → (causes ≡ []) × (items ≡ [])
+nothing_of [] [] clear = (refl, refl)
+nothing_of [] (f ∷ fs) clear = absurd cc
+nothing_of (c ∷ cs) fs clear = absurd cc
+
+pub nothing_where_clear : (told : Told) (outcome : Outcome) → outcome ≡ outcome_of told.causes told.findings → outcome ≡ Clear → TellsNothing told
+nothing_where_clear told outcome same clear = nothing_of told.causes told.findings (sym same ∙ clear)
 
 pub too_large_is_good : (app : App) (lists : Lists) (flow : Flow) (limit : ℕ) → flow ≡ TooLarge limit → IsGoodFlow app lists flow
 too_large_is_good app lists flow limit is = subst (IsGoodFlow app lists) (sym is) tt

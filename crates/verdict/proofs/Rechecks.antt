@@ -92,11 +92,11 @@ module _ (laws : LowerLaws) (parts : Parts) (rows : List Row) where
       let same_dexes : dexes ≡ is.dexes = one_list laws.files parts.dex dexes is.dexes reads.files is.reads.files in
       let first : RechecksTo l.app papers.lists papers.declaration (told_beside papers dexes l.app) rows other = subst (λ (a : App). RechecksTo a papers.lists papers.declaration (told_beside papers dexes a) rows other) same_app too in
       let second : RechecksTo l.app l.papers.lists l.papers.declaration (told_beside l.papers dexes l.app) rows other =
-          subst (λ (p : Papers). RechecksTo l.app p.lists p.declaration (told_beside p dexes l.app) rows other) same_papers first in
+      subst (λ (p : Papers). RechecksTo l.app p.lists p.declaration (told_beside p dexes l.app) rows other) same_papers first in
       let third : RechecksTo l.app l.papers.lists l.papers.declaration (told_beside l.papers is.dexes l.app) rows other =
-          subst (λ (ds : List Dex). RechecksTo l.app l.papers.lists l.papers.declaration (told_beside l.papers ds l.app) rows other) same_dexes second in
+      subst (λ (ds : List Dex). RechecksTo l.app l.papers.lists l.papers.declaration (told_beside l.papers ds l.app) rows other) same_dexes second in
       let fourth : RechecksTo l.app l.papers.lists l.papers.declaration (causes_beside l) rows other =
-          subst (λ (beside : List Cause). RechecksTo l.app l.papers.lists l.papers.declaration beside rows other) (sym (as_told parts l is)) third in
+      subst (λ (beside : List Cause). RechecksTo l.app l.papers.lists l.papers.declaration beside rows other) (sym (as_told parts l is)) third in
       one_recheck law l.app l.papers.lists l.papers.declaration (causes_beside l) rows other r fourth to
 
 pub refused_anyway : (parts : Parts) (rows : List Row) (r : Refusal) → RefusesOnly parts r.part r.reason → Rejudgement parts rows (Refused r.part r.reason)

@@ -6,6 +6,7 @@ ghost use Rattle.app_machine.specs.Sound.{SoundApp};
 ghost use Rattle.app_flow.specs.Flow.{IsGoodFlow};
 ghost use Rattle.fact_rows.specs.declared.row.Row.{Row as FactRow};
 ghost use Rattle.flow_rules.specs.Rules.{GoodTable};
+ghost use Rattle.flow_telling.specs.Told.{told_of, TellsNothing};
 ghost use Rattle.outcomes.specs.Causes.{causes_of};
 ghost use Rattle.outcomes.specs.Findings.{findings_of};
 ghost use Rattle.outcomes.specs.Within.{AreWithin};
@@ -20,13 +21,13 @@ ghost use Rattle.verdict.specs.Verdict.{ComesTo, Judgement, IsSafeApp, judged_by
 use crate::laws::lower_laws;
 use crate::linking::{Linked, linked_parts};
 use crate::papers::Halt;
-use crate::{Cause, Finding, Judged, Outcome, Parts};
-use app_flow::{Flow, FlowRows, flow_of, is_good};
-use app_model::{App, Lists};
+use crate::{Cause, Judged, Outcome, Parts};
+use app_flow::{Flow, FlowRows, flow_of};
 use device_causes::device_causes;
 use fact_rows::Row;
 use flow_proof::every_good_table_covers_every_run;
-use outcomes::{causes_of, causes_too_large, findings_of, nothing_is_left_out};
+use flow_telling::{Told, told_by_flow, told_by_rows};
+use outcomes::{causes_too_large, nothing_is_left_out};
 use std::alloc::Global;
 use std::marker::Sync;
 use std::sync::Wait;
@@ -34,13 +35,14 @@ use std::thread::Threads;
 use vet_base::{Memory, Seq, Stop};
 use worker_pool::{Crew, Lookout};
 
-fn outcome_with(causes: Vec<Cause>, findings: Vec<Finding>) -> Outcome
-    ensures { result ≡ outcome_of causes.items findings.items }
+fn outcome_with(told: Told) -> Outcome
+    ensures { result ≡ outcome_of told.causes told.findings }
 {
+    let Told { causes, findings } = told;
     if !causes.is_empty() {
-        Outcome::Undecided(Seq::from_vec(causes), Seq::from_vec(findings))
+        Outcome::Undecided(causes, findings)
     } else if !findings.is_empty() {
-        Outcome::Flagged(Seq::from_vec(findings))
+        Outcome::Flagged(findings)
     } else {
         Outcome::Clear
     }
@@ -70,92 +72,93 @@ pub fn outcome_of_rows(alloc: Global, linked: &Linked, rows: &[Row]) -> Result<O
         (findings_of linked.now.app linked.now.papers.lists linked.now.papers.declaration rows.now)) }
 {
     let papers = &linked.papers;
-    let mut causes = causes_of(alloc, &linked.app, rows)?;
-    causes.append(&mut causes_beside(alloc, linked)?)?;
-    let findings = findings_of(
+    let beside = causes_beside(alloc, linked)?;
+    let told = told_by_rows(
         alloc,
         &linked.app,
         &papers.lists,
         &papers.declaration,
+        beside,
         rows,
     )?;
-    Ok(outcome_with(causes, findings))
+    Ok(outcome_with(told))
 }
 
-/// What an app comes to by the rows of its flow. Those that tell something by themselves are enough for that.
-fn outcome_of_flow(alloc: Global, linked: &Linked, rows: &FlowRows) -> Result<Outcome, Memory>
-    requires sound { SoundApp linked.now.app }
-    requires within { AreWithin linked.now.app rows.now }
-    ensures { IfOk result (λ o. o ≡ outcome_of (causes_of linked.now.app rows.now ++ causes_beside linked.now)
-        (findings_of linked.now.app linked.now.papers.lists linked.now.papers.declaration rows.now)) }
-{
-    let telling = rows.telling(alloc)?;
-    let outcome = outcome_of_rows(alloc, linked, telling.as_slice())?;
-    Ok(outcome)
-}
-
-/// The outcome by rows, where it may be told: one that is clear where the checker accepts the rows, which it alone
-/// decides; any other without it.
-fn confirmed<T: Threads + Sync, L>(
-    alloc: Global,
-    app: &App,
-    lists: &Lists,
-    rows: &FlowRows,
-    outcome: Outcome,
-    crew: &Crew<'_, T, L>,
-) -> Result<Option<Outcome>, Memory>
-    requires sound { SoundApp app.now }
-    requires lists { SoundLists lists.now }
-    ensures some { IfOk result (λ found. IfSome found (λ o. o ≡ outcome)) }
-    ensures clear { IfOk result (λ found. IfSome found (λ o. o ≡ Outcome.Clear → GoodTable app.now lists.now rows.now)) }
-    ensures none { IfOk result (λ found. IfNone found (GoodTable app.now lists.now rows.now → ⊥)) }
-{
-    match outcome {
-        Outcome::Clear => {
-            if is_good(alloc, app, lists, rows, crew)? {
-                Ok(Some(Outcome::Clear))
-            } else {
-                Ok(None)
-            }
-        }
-        Outcome::Flagged(findings) => Ok(Some(Outcome::Flagged(findings))),
-        Outcome::Undecided(causes, findings) => Ok(Some(Outcome::Undecided(causes, findings))),
-        Outcome::Refused(part, reason) => Ok(Some(Outcome::Refused(part, reason))),
-    }
-}
-
-/// What an app comes to by the rows of its flow, of which nothing is known but what methods they name; so where that is
-/// clear, it is so by the checker's word. None only where the checker refuses the rows.
-fn outcome_by<T: Threads + Sync, L>(
+/// What the rows of a flow tell of an app. None only where the checker refuses the rows.
+fn told_in<T: Threads + Sync, L>(
     alloc: Global,
     linked: &Linked,
     rows: &FlowRows,
     crew: &Crew<'_, T, L>,
-) -> Result<Option<Outcome>, Memory>
+) -> Result<Option<Told>, Memory>
     requires sound { SoundApp linked.now.app }
     requires lists { SoundLists linked.now.papers.lists }
     requires within { AreWithin linked.now.app rows.now }
-    ensures some { IfOk result (λ found. IfSome found (λ o. o ≡ outcome_of
-        (causes_of linked.now.app rows.now ++ causes_beside linked.now)
-        (findings_of linked.now.app linked.now.papers.lists linked.now.papers.declaration rows.now))) }
-    ensures clear { IfOk result (λ found. IfSome found (λ o. o ≡ Outcome.Clear → GoodTable linked.now.app
+    ensures some { IfOk result (λ found. IfSome found (λ t. t ≡ told_of linked.now.app linked.now.papers.lists
+        linked.now.papers.declaration (causes_beside linked.now) rows.now)) }
+    ensures nothing { IfOk result (λ found. IfSome found (λ t. TellsNothing t → GoodTable linked.now.app
         linked.now.papers.lists rows.now)) }
     ensures none { IfOk result (λ found. IfNone found (GoodTable linked.now.app linked.now.papers.lists rows.now → ⊥)) }
 {
-    let outcome = outcome_of_flow(alloc, linked, rows)?;
-    confirmed(
+    let papers = &linked.papers;
+    let beside = causes_beside(alloc, linked)?;
+    told_by_flow(
         alloc,
         &linked.app,
-        &linked.papers.lists,
+        &papers.lists,
+        &papers.declaration,
+        beside,
         rows,
-        outcome,
         crew,
     )
 }
 
+/// What an app comes to by the rows of its flow, which are its table; so where that is clear, it is so by the checker's
+/// word. None only where the checker refuses the rows.
+#[tactic(auto, using(crate::proofs::Outcomes::judged_as_told, crate::proofs::Outcomes::nothing_where_clear))]
+fn judged_by_rows<T: Threads + Sync, L>(
+    alloc: Global,
+    linked: &Linked,
+    rows: FlowRows,
+    crew: &Crew<'_, T, L>,
+) -> Result<Option<Judged>, Memory>
+    requires sound { SoundApp linked.now.app }
+    requires lists { SoundLists linked.now.papers.lists }
+    requires within { AreWithin linked.now.app rows }
+    ensures some { IfOk result (λ found. IfSome found (λ j. j ≡ judged_by linked.now.app linked.now.papers.lists
+        linked.now.papers.declaration (causes_beside linked.now) (Flow.Rows rows))) }
+    ensures clear { IfOk result (λ found. IfSome found (λ j. j.outcome ≡ Outcome.Clear → GoodTable linked.now.app
+        linked.now.papers.lists rows)) }
+    ensures none { IfOk result (λ found. IfNone found (GoodTable linked.now.app linked.now.papers.lists rows → ⊥)) }
+{
+    match told_in(alloc, linked, &rows, crew)? {
+        Some(told) => Ok(Some(Judged {
+            outcome: outcome_with(told),
+            table: Some(rows),
+        })),
+        None => Ok(None),
+    }
+}
+
+/// What an app comes to from which more rows than the limit follow.
+fn judged_too_large(alloc: Global, linked: &Linked, limit: u32) -> Result<Judged, Memory>
+    requires { SoundApp linked.now.app }
+    ensures { IfOk result (λ j. j ≡ judged_by linked.now.app linked.now.papers.lists linked.now.papers.declaration
+        (causes_beside linked.now) (Flow.TooLarge limit)) }
+{
+    let mut causes = causes_too_large(alloc, &linked.app, limit)?;
+    let mut beside = causes_beside(alloc, linked)?;
+    causes.append(&mut beside)?;
+    let findings = Vec::new(alloc);
+    Ok(Judged {
+        outcome: Outcome::Undecided(Seq::from_vec(causes), Seq::from_vec(findings)),
+        table: None,
+    })
+}
+
 /// What an app comes to by its flow: as its rows say, or that they are too many. None only where the checker refuses
 /// the rows.
-#[tactic(auto, using(crate::proofs::Outcomes::clear_by_checker, crate::proofs::Outcomes::refused_by_checker, crate::proofs::Outcomes::too_large_is_good))]
+#[tactic(auto, using(crate::proofs::Outcomes::too_large_is_good))]
 fn judged_by<T: Threads + Sync, L>(
     alloc: Global,
     linked: &Linked,
@@ -172,21 +175,10 @@ fn judged_by<T: Threads + Sync, L>(
     ensures none { IfOk result (λ found. IfNone found (IsGoodFlow linked.now.app linked.now.papers.lists flow → ⊥)) }
 {
     match flow {
-        Flow::Rows(rows) => match outcome_by(alloc, linked, &rows, crew)? {
-            Some(outcome) => Ok(Some(Judged {
-                outcome,
-                table: Some(rows),
-            })),
-            None => Ok(None),
-        },
+        Flow::Rows(rows) => judged_by_rows(alloc, linked, rows, crew),
         Flow::TooLarge(limit) => {
-            let mut causes = causes_too_large(alloc, &linked.app, limit)?;
-            causes.append(&mut causes_beside(alloc, linked)?)?;
-            let none = Vec::new(alloc);
-            Ok(Some(Judged {
-                outcome: Outcome::Undecided(Seq::from_vec(causes), Seq::from_vec(none)),
-                table: None,
-            }))
+            let judged = judged_too_large(alloc, linked, limit)?;
+            Ok(Some(judged))
         }
     }
 }
@@ -245,14 +237,14 @@ fn judged_parts<T: Threads + Wait + Sync, L: Lookout>(
 /// that of the app that they are. Else undecided where a run may come to a call without a row of the lists, to native
 /// code or to reflection, where there is a content provider, where a layout names a class of the app, where more rows
 /// follow than the lists allow, where the manifest says that a class of the app is named elsewhere, or where strict
-/// lists ask about what a device may do besides (`device_causes`); else flagged where a value of a source may come to a sink and the declaration does
-/// not name the pair; else clear, and then no run of the app brings one there.
+/// lists ask about what a device may do besides (`device_causes`); else flagged where a value of a source may come to
+/// a sink and the declaration does not name the pair; else clear, and then no run of the app brings one there.
 ///
 /// Causes and findings stand in ascending order and each once: places by cause, providers and classes by name; findings
 /// by the names of source and sink and then by place. A place goes by class, name and descriptor of the method, and
 /// address. Of an app that is too large only that, its providers, its layouts' classes and what a device may do besides
-/// are told, and there is no table; nor is there one where the parts are refused. Else the table is there, with all rows that follow and no
-/// others. Nothing of this depends on the crew that finds what follows.
+/// are told, and there is no table; nor is there one where the parts are refused. Else the table is there, with all
+/// rows that follow and no others. Nothing of this depends on the crew that finds what follows.
 #[tactic(auto, using(crate::proofs::Outcomes::refused_with, crate::proofs::Outcomes::no_followed_refusal, crate::proofs::Outcomes::clear_is_safe))]
 pub fn judge<T: Threads + Wait + Sync, L: Lookout>(
     alloc: Global,

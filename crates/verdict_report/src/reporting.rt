@@ -3,9 +3,7 @@
 ghost use Rattle.std.specs.Prelude.{◌≡◌, ◌++◌, length, take, codes, OnOk, IfOk};
 ghost use Rattle.verdict_report.specs.Report.{cause_line, cause_lines, finding_lines, clear_text, flagged_text, undecided_text, refused_text, report_text};
 
-use crate::printed::{
-    put_class_line, put_counted, put_finding, put_method_line, put_place_line,
-};
+use crate::printed::{put_class_line, put_counted, put_finding, put_method_line, put_place_line};
 use crate::reasons::{put_part, put_reason};
 use printed_text::put;
 use std::alloc::Global;

@@ -6,5 +6,5 @@ returns-clause-linked c = record {
   reads = record { forms = c.in_ok-papers.ensures.ok; files = c.in_ok-dexes.ensures.ok };
   is_app = rw c.deref.ensures.value at c.in_ok-app.ensures.app;
   only = rw c.deref.ensures.value at c.in_ok-app.ensures.only;
-  access = rw c.deref.ensures.value at c.in_ok-access.ensures;
+  access = rw c.deref-2.ensures.value at c.in_ok-access.ensures;
 }

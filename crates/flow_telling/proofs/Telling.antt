@@ -14,8 +14,8 @@ use Rattle.outcomes.specs.Findings.{arrival_of, arrivals_in, findings_of}
 use Rattle.outcomes.specs.Within.{AreWithin}
 use Rattle.vet_base.specs.Members.{In}
 use Rattle.vet_base.proofs.Every.{from_filter}
-use Rattle.verdict.specs.declared.outcome.Outcome.{Outcome}
-use Rattle.verdict.specs.Outcome.{outcome_of}
+use Rattle.flow_telling.specs.declared.told.Told.{Told}
+use Rattle.flow_telling.specs.Told.{told_of}
 
 same_places : (app : App) (cause : ℕ) (rows : List Row) → unknown_places app cause (filter tells rows) ≡ unknown_places app cause rows
 unfolding unknown_places
@@ -39,12 +39,12 @@ same_findings : (app : App) (lists : Lists) (declaration : Declaration) (rows : 
 unfolding findings_of
 same_findings app lists declaration rows = rw (same_arrivals rows) refl
 
-pub outcome_by_telling : (app : App) (lists : Lists) (declaration : Declaration) (beside : List Cause) (rows telling : List Row) (o : Outcome) → telling ≡ filter tells rows →
-    o ≡ outcome_of (causes_of app telling ++ beside) (findings_of app lists declaration telling) → o ≡ outcome_of (causes_of app rows ++ beside) (findings_of app lists declaration rows)
-outcome_by_telling app lists declaration beside rows telling o is told =
+pub told_by_telling : (app : App) (lists : Lists) (declaration : Declaration) (beside : List Cause) (rows telling : List Row) (t : Told) → telling ≡ filter tells rows →
+    t ≡ told_of app lists declaration beside telling → t ≡ told_of app lists declaration beside rows
+told_by_telling app lists declaration beside rows telling t is told =
     told
-    ∙ ap (λ (xs : List Row). outcome_of (causes_of app xs ++ beside) (findings_of app lists declaration xs)) is
-    ∙ (λ i. outcome_of (same_causes app rows i ++ beside) (same_findings app lists declaration rows i))
+    ∙ ap (told_of app lists declaration beside) is
+    ∙ (λ i. record { causes = same_causes app rows i ++ beside; findings = same_findings app lists declaration rows i })
 
 pub telling_within : (app : App) (rows telling : List Row) → telling ≡ filter tells rows → AreWithin app rows → AreWithin app telling
 telling_within app rows telling is within = subst (AreWithin app) (sym is) (λ row at. within row (from_filter tells row rows at).1)
