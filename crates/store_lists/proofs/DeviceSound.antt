@@ -13,11 +13,10 @@ use Rattle.form_fields.specs.Spelling.{fits}
 use Rattle.form_fields.specs.Once.{with_new}
 use Rattle.form_fields.specs.Fields.{known, maybe_texts_at, number_at, tables_at}
 use Rattle.method_fields.specs.Positions.{flag_at}
-use Rattle.method_fields.specs.Signature.{keys_once}
 use Rattle.store_lists.specs.declared.device.StaticRows.{StaticRows}
 use Rattle.store_lists.specs.declared.device.DeviceKeys.{DeviceKeys}
 use Rattle.store_lists.specs.declared.lists.StoreLists.{StoreLists}
-use Rattle.store_lists.specs.Device.{are_new, prefixes_at, device_at, static_at, static_row, statics_of}
+use Rattle.store_lists.specs.Device.{are_counted, prefixes_at, device_at, static_at, static_row, statics_of}
 use Rattle.store_lists.specs.Lists.{categories_at, rows_of, rows_once, arrays_at, lists_form}
 use Rattle.store_lists.specs.Spelled.{SoundDevice}
 use Rattle.form_fields.proofs.Yields.{Yields, yields_value, yields_tested, yields_then, yields_past, yields_each, yields_both}
@@ -33,7 +32,7 @@ unfolding prefixes_at
 prefixes_sound k before t =
     yields_then Starts _ (maybe_texts_at section.Lists k spelling.Prefix 4096 t) _
     (yields_both _ _ _ (maybe_texts_few section.Lists k spelling.Prefix 4096 t) (maybe_texts_fit section.Lists k spelling.Prefix 4096 t))
-    (λ names start. yields_tested _ (are_new before names (with_new before names)) (Range section.Lists k) (names, with_new before names) (λ _. start))
+    (λ names start. yields_tested _ (are_counted (length before + length names) (with_new before names)) (Range section.Lists k) (names, with_new before names) (λ _. start))
 
 record SoundKeys (keys : DeviceKeys × List Data) : Type 0 where
   platform : Starts keys.0.platform
@@ -69,15 +68,14 @@ device_sound t =
     (λ arrays. yields_then SoundKeys _ (device_at t) _ (keys_sound t)
     (λ device sound. yields_past _ (rows_of categories arrays.0.0 arrays.0.1 arrays.1.0 arrays.1.1) _
     (λ rows. yields_then _ _ (statics_of device.1) _ (statics_counted device.1)
-    (λ statics counted. yields_past _ (rows_once rows) _
-    (λ _. yields_past _ (keys_once statics.keys) _
+    (λ statics counted. yields_past _ (rows_once rows statics) _
     (λ _. yields_value _ _ (record {
       few_platform = sound.platform.0;
       few_bundled = sound.bundled.0;
       platform = sound.platform.1;
       bundled = sound.bundled.1;
       few_statics = omega (arith, counted, sound.few);
-    }))))))))))
+    })))))))))
 
 pub sound_device : (t : Members) (d : StoreLists) → run (lists_form t) ≡ Ok d → SoundDevice d.device
 sound_device t d e = (device_sound t).at d e

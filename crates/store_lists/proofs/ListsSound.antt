@@ -27,11 +27,11 @@ use Rattle.store_lists.specs.Classes.{above_in, parent_row, parents_at, parents_
 use Rattle.method_fields.specs.Positions.{flag_at, pairs_at, named_at, listed_at}
 use Rattle.app_machine.specs.Summaries.{position_count}
 use Rattle.method_fields.specs.Gives.{gives_at}
-use Rattle.method_fields.specs.Signature.{proto_at, keys_once}
+use Rattle.method_fields.specs.Signature.{proto_at}
 use Rattle.store_lists.specs.Methods.{sink_at, signature_at, summary_of, method_row, methods_of}
 use Rattle.store_lists.specs.Callbacks.{callback_at, callback_row, callbacks_of}
 use Rattle.store_lists.specs.Device.{device_at, statics_of}
-use Rattle.store_lists.specs.Lists.{are_categories, categories_at, shared_row, shared_of, rows_of, rows_once, arrays_at, lists_form}
+use Rattle.store_lists.specs.Lists.{are_categories, categories_at, shared_object, shared_row, shared_of, rows_of, rows_once, arrays_at, lists_form}
 use Rattle.app_machine.specs.SoundLists.{SoundGives, TwoPositions, NamedPosition, SoundSink, SoundClass, SoundSummary, SoundCallback, SoundLists}
 use Rattle.form_fields.proofs.Yields.{Yields, yields_value, yields_tested, yields_then, yields_past, yields_each}
 use Rattle.form_fields.proofs.FieldYields.{number_within, tables_few, texts_few}
@@ -116,14 +116,11 @@ record SharedCounted (n : ℕ) (shared : SharedRows) : Type 0 where
 shared_row_counted : (n : ℕ) (d : Data) (shared : SharedRows) → SharedCounted n shared → Yields (SharedCounted (n + 1)) (shared_row d shared)
 unfolding shared_row
 shared_row_counted n d shared so_far =
-    yields_past _ (table_in section.Lists key.Shared d) _
-    (λ t. yields_past _ (known section.Shared t) _
-    (λ _. yields_past _ (text_at section.Shared key.Name spelling.Text t) _
-    (λ name. yields_past _ (text_at section.Shared key.Class spelling.Class t) _
-    (λ class. yields_value _ _ (record {
-      rows = omega (arith, so_far.rows, length-append shared.rows ((name, class) ∷ []));
-      names = omega (arith, so_far.names, length-append shared.names (name ∷ []));
-    })))))
+    yields_past _ (shared_object d) _
+    (λ new. yields_value _ _ (record {
+      rows = omega (arith, so_far.rows, length-append shared.rows (new ∷ []));
+      names = omega (arith, so_far.names, length-append shared.names (new.0 ∷ []));
+    }))
 
 shared_counted : (ds : List Data) → Yields (SharedCounted (0 + length ds)) (shared_of ds)
 unfolding shared_of
@@ -256,8 +253,7 @@ lists_sound t =
     (λ arrays few. yields_past _ (device_at t) _
     (λ device. yields_then _ _ (rows_of categories arrays.0.0 arrays.0.1 arrays.1.0 arrays.1.1) _ (rows_counted categories arrays.0.0 arrays.0.1 arrays.1.0 arrays.1.1)
     (λ rows counted. yields_past _ (statics_of device.1) _
-    (λ statics. yields_past _ (rows_once rows) _
-    (λ _. yields_past _ (keys_once statics.keys) _
+    (λ statics. yields_past _ (rows_once rows statics) _
     (λ _. yields_value _ _ (record {
       one_row = within.0;
       few_rows = within.1;
@@ -270,7 +266,7 @@ lists_sound t =
       classes = counted.sound_classes;
       methods = subst (λ (n : ℕ). All (SoundSummary n (length rows.shared)) rows.methods.rows) (sym (ap length counted.same)) counted.sound_methods;
       callbacks = subst (λ (n : ℕ). All (SoundCallback n) rows.callbacks.rows) (sym (ap length counted.same)) counted.sound_callbacks;
-    }))))))))))
+    })))))))))
 
 pub sound_lists : (t : Members) (d : StoreLists) → run (lists_form t) ≡ Ok d → SoundLists d.lists
 sound_lists t d e = (lists_sound t).at d e

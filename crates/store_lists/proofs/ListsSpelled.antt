@@ -22,17 +22,16 @@ use Rattle.store_lists.specs.declared.lists.SharedRows.{SharedRows}
 use Rattle.store_lists.specs.declared.lists.Rows.{Rows}
 use Rattle.store_lists.specs.declared.lists.StoreLists.{StoreLists}
 use Rattle.form_fields.specs.Spelling.{is_class, fits}
-use Rattle.form_fields.specs.Places.{place_of}
 use Rattle.form_fields.specs.Once.{with_new}
 use Rattle.form_fields.specs.Fields.{known, text_at, texts_at, number_at, table_in}
 use Rattle.store_lists.specs.Classes.{above_in, parent_row, parents_at, parents_above, fallback_at, class_at, class_row, classes_of, class_name}
 use Rattle.method_fields.specs.Positions.{flag_at, pairs_at, named_at, listed_at}
 use Rattle.method_fields.specs.Gives.{gives_at}
-use Rattle.method_fields.specs.Signature.{proto_at, keys_once}
-use Rattle.store_lists.specs.Methods.{sink_at, listed_class, signature_at, summary_of, method_row, methods_of}
+use Rattle.method_fields.specs.Signature.{proto_at}
+use Rattle.store_lists.specs.Methods.{sink_at, is_listed, listed_class, signature_at, summary_of, method_row, methods_of}
 use Rattle.store_lists.specs.Callbacks.{callback_at, callback_row, callbacks_of}
 use Rattle.store_lists.specs.Device.{device_at, statics_of}
-use Rattle.store_lists.specs.Lists.{are_categories, categories_at, shared_row, shared_of, rows_of, rows_once, arrays_at, lists_form}
+use Rattle.store_lists.specs.Lists.{are_categories, categories_at, shared_object, shared_row, shared_of, rows_of, rows_once, arrays_at, lists_form}
 use Rattle.method_fields.specs.Spelled.{SpelledProto}
 use Rattle.store_lists.specs.Spelled.{SpelledClass, SpelledShared, SpelledMethod, SpelledLists}
 use Rattle.form_fields.proofs.Yields.{Yields, yields_value, yields_tested, yields_then, yields_past, yields_each}
@@ -91,14 +90,20 @@ classes_spelled ds = yields_each (λ n classes. All SpelledClass classes) class_
 abbrev Shared : Name × Name → Type 0
 Shared shared = SpelledShared shared.0 shared.1
 
-shared_row_spelled : (n : ℕ) (d : Data) (shared : SharedRows) → All Shared shared.rows → Yields (λ r. All Shared r.rows) (shared_row d shared)
-unfolding shared_row fits
-shared_row_spelled n d shared so_far =
+object_spelled : (d : Data) → Yields Shared (shared_object d)
+unfolding shared_object fits
+object_spelled d =
     yields_past _ (table_in section.Lists key.Shared d) _
     (λ t. yields_past _ (known section.Shared t) _
     (λ _. yields_then (Fits spelling.Text) _ (text_at section.Shared key.Name spelling.Text t) _ (text_fits section.Shared key.Name spelling.Text t)
     (λ name short. yields_then (Fits spelling.Class) _ (text_at section.Shared key.Class spelling.Class t) _ (text_fits section.Shared key.Class spelling.Class t)
-    (λ class named. yields_value _ _ (All-push Shared shared.rows (name, class) so_far (record { named = short; of_class = named }))))))
+    (λ class named. yields_value _ _ (record { named = short; of_class = named })))))
+
+shared_row_spelled : (n : ℕ) (d : Data) (shared : SharedRows) → All Shared shared.rows → Yields (λ r. All Shared r.rows) (shared_row d shared)
+unfolding shared_row
+shared_row_spelled n d shared so_far =
+    yields_then Shared _ (shared_object d) _ (object_spelled d)
+    (λ new spelled. yields_value _ _ (All-push Shared shared.rows new so_far spelled))
 
 shared_spelled : (ds : List Data) → Yields (λ r. All Shared r.rows) (shared_of ds)
 unfolding shared_of
@@ -108,7 +113,7 @@ class_listed : (classes : List Name) (t : Members) → Yields (Fits spelling.Cla
 unfolding listed_class
 class_listed classes t =
     yields_then (Fits spelling.Class) _ (text_at section.Method key.Class spelling.Class t) _ (text_fits section.Method key.Class spelling.Class t)
-    (λ class named. yields_tested _ (is_some (place_of same_name class classes)) (Range section.Method key.Class) class (λ _. named))
+    (λ class named. yields_tested _ (is_listed classes class) (Range section.Method key.Class) class (λ _. named))
 
 abbrev Signed : Signature → Type 0
 Signed at = SpelledMethod at.class at.name at.proto
@@ -212,15 +217,14 @@ lists_spelled t =
     (λ arrays. yields_past _ (device_at t) _
     (λ device. yields_then (SpelledRows categories) _ (rows_of categories arrays.0.0 arrays.0.1 arrays.1.0 arrays.1.1) _ (rows_spelled categories arrays.0.0 arrays.0.1 arrays.1.0 arrays.1.1)
     (λ rows spelled. yields_past _ (statics_of device.1) _
-    (λ statics. yields_past _ (rows_once rows) _
-    (λ _. yields_past _ (keys_once statics.keys) _
+    (λ statics. yields_past _ (rows_once rows statics) _
     (λ _. yields_value _ _ (record {
       categories = subst (λ (names : List Name). All (Fits spelling.Category) names) (sym spelled.same) named;
       classes = spelled.classes;
       shared = spelled.shared;
       methods = spelled.methods;
       callbacks = spelled.callbacks;
-    }))))))))))
+    })))))))))
 
 pub spelled_lists : (t : Members) (d : StoreLists) → run (lists_form t) ≡ Ok d → SpelledLists d.lists
 spelled_lists t d e = (lists_spelled t).at d e

@@ -1,5 +1,5 @@
 -- What the lists say of a device: whether they are strict, the names of the platform, and static fields that no one writes.
-use Rattle.std.specs.Prelude.{◌==◌, ◌+◌, Bool, true, List, [], ◌∷◌, ◌++◌, length}
+use Rattle.std.specs.Prelude.{ℕ, ◌==◌, ◌+◌, Bool, true, List, [], ◌∷◌, ◌++◌, length}
 use Rattle.toml.specs.Data.{Data, Members}
 use Rattle.vet_base.specs.Script.{Script, Value, ◌>>=◌, test, each}
 use Rattle.app_machine.specs.Names.{Name}
@@ -18,15 +18,15 @@ use Rattle.form_fields.specs.Fields.{known, text_at, maybe_texts_at, tables_at, 
 use Rattle.method_fields.specs.Positions.{flag_at}
 use Rattle.method_fields.specs.Signature.{type_at}
 
--- none of the names stands twice, and none is one of those before
-abbrev pub are_new : List Name → List Name → List Name → Bool
-are_new before names all = length all == (length before + length names)
+-- there are so many names
+unfoldable pub are_counted : ℕ → List Name → Bool
+are_counted count names = length names == count
 
 -- beginnings of names, none of them twice and none of those before; and all with those before
 unfoldable pub prefixes_at : Key → List Name → Members → Script Fault (List Name × List Name)
 prefixes_at k before t = do
   names ← maybe_texts_at section.Lists k spelling.Prefix 4096 t
-  _ ← test (are_new before names (with_new before names)) (Range section.Lists k)
+  _ ← test (are_counted (length before + length names) (with_new before names)) (Range section.Lists k)
   Value (names, with_new before names)
 
 -- the keys of the top table, and the tables of the static fields

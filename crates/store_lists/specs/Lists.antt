@@ -8,6 +8,7 @@ use Rattle.form_fields.specs.declared.fault.Fault.TheVariants.{Range}
 use Rattle.form_fields.specs.declared.words.Section.TheVariants as section
 use Rattle.form_fields.specs.declared.words.Key.TheVariants as key
 use Rattle.form_fields.specs.declared.spelling.Spelling.TheVariants as spelling
+use Rattle.store_lists.specs.declared.device.StaticRows.{StaticRows}
 use Rattle.store_lists.specs.declared.lists.SharedRows.{SharedRows}
 use Rattle.store_lists.specs.declared.lists.Rows.{Rows}
 use Rattle.store_lists.specs.declared.lists.StoreLists.{StoreLists}
@@ -30,14 +31,20 @@ categories_at t = do
   _ ← test (are_categories names (with_new [] names)) (Range section.Lists key.Categories)
   Value (with_new [] names)
 
--- a shared object more: its name and its class
-unfoldable pub shared_row : Data → SharedRows → Script Fault SharedRows
-shared_row d rows = do
+-- the name and the class of a shared object
+unfoldable pub shared_object : Data → Script Fault (Name × Name)
+shared_object d = do
   t ← table_in section.Lists key.Shared d
   _ ← known section.Shared t
   name ← text_at section.Shared key.Name spelling.Text t
   class ← text_at section.Shared key.Class spelling.Class t
-  Value (record { rows = rows.rows ++ (name, class) ∷ []; names = rows.names ++ name ∷ [] })
+  Value (name, class)
+
+-- a shared object more
+unfoldable pub shared_row : Data → SharedRows → Script Fault SharedRows
+shared_row d rows = do
+  new ← shared_object d
+  Value (record { rows = rows.rows ++ new ∷ []; names = rows.names ++ new.0 ∷ [] })
 
 unfoldable pub shared_of : List Data → Script Fault SharedRows
 shared_of tables = each shared_row tables (record { rows = []; names = [] })
@@ -57,13 +64,14 @@ rows_of categories class_tables shared_tables method_tables callback_tables = do
     callbacks = callbacks;
   })
 
--- no class, shared name, method row or callback row stands twice
-unfoldable pub rows_once : Rows → Script Fault (Unit {0})
-rows_once rows = do
+-- no class, shared name, method row, callback row or static field stands twice
+unfoldable pub rows_once : Rows → StaticRows → Script Fault (Unit {0})
+rows_once rows statics = do
   _ ← names_once rows.listed.classes
   _ ← names_once rows.listed.shared
   _ ← keys_once rows.methods.keys
   _ ← keys_once rows.callbacks.keys
+  _ ← keys_once statics.keys
   Value tt
 
 -- the tables of the four arrays: of classes and of shared objects, of methods and of callbacks
@@ -84,8 +92,7 @@ lists_form t = do
   device ← device_at t
   rows ← rows_of categories arrays.0.0 arrays.0.1 arrays.1.0 arrays.1.1
   statics ← statics_of device.1
-  _ ← rows_once rows
-  _ ← keys_once statics.keys
+  _ ← rows_once rows statics
   Value (record {
     lists = record { rows = most; categories = rows.listed.categories; classes = rows.classes; shared = rows.shared; methods = rows.methods.rows; callbacks = rows.callbacks.rows };
     device = record { strict = device.0.strict; platform = device.0.platform; bundled = device.0.bundled; statics = statics.rows };

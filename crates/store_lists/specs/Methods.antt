@@ -20,11 +20,15 @@ use Rattle.method_fields.specs.Positions.{has_key, flag_at, items_at, positions_
 use Rattle.method_fields.specs.Signature.{proto_at, key_of}
 use Rattle.method_fields.specs.Gives.{gives_at}
 
+-- the name is one of these
+unfoldable pub is_listed : List Name → Name → Bool
+is_listed names name = is_some (place_of same_name name names)
+
 -- the class of a row, which has a row of its own
 unfoldable pub listed_class : List Name → Members → Script Fault Name
 listed_class classes t = do
   class ← text_at section.Method key.Class spelling.Class t
-  _ ← test (is_some (place_of same_name class classes)) (Range section.Method key.Class)
+  _ ← test (is_listed classes class) (Range section.Method key.Class)
   Value class
 
 unfoldable pub signature_at : List Name → Members → Script Fault Signature

@@ -6,10 +6,8 @@ ghost use Rattle.toml.specs.View.{table_view, view};
 ghost use Rattle.vet_base.specs.Script.{Gives};
 
 use app_machine::Callback;
-use form_fields::{
-    Fault, Index, Key, Section, Shape, Spelling, items_in, known, table_in, text_at,
-};
-use method_fields::{MethodKey, are_two, items_at, name_at, position_at, position_count, proto_at};
+use form_fields::{Fault, Index, Key, Section, Shape, Spelling, known, table_in, text_at};
+use method_fields::{MethodKey, items_at, named_row, position_count, proto_at};
 use std::alloc::Global;
 use toml::{Table, Value};
 use vet_base::{Memory, Name, Seq, Stop};
@@ -138,7 +136,6 @@ fn source_rows(
     Ok(sources)
 }
 
-#[tactic(auto, unfolding(method_fields::specs::Positions::named_row), using(vet_base::proofs::Scripts::run_bind))]
 fn source_row(
     alloc: Global,
     value: &Value,
@@ -149,13 +146,13 @@ fn source_row(
     ensures { Gives (λ p. (p, tt)) result (named_row Section.Callback Key.Sources count categories.now (view value.now)
         tt) }
 {
-    let Some(parts) = items_in(value) else {
-        return Err(Stop::Fault(Fault::Range(Section::Callback, Key::Sources)));
-    };
-    if !are_two(parts) {
-        return Err(Stop::Fault(Fault::Range(Section::Callback, Key::Sources)));
-    }
-    let position = position_at(parts, 0, Section::Callback, Key::Sources, count)?;
-    let number = name_at(alloc, parts, 1, Section::Callback, Key::Sources, categories)?;
+    let (position, number) = named_row(
+        alloc,
+        value,
+        Section::Callback,
+        Key::Sources,
+        count,
+        categories,
+    )?;
     Ok((position, number as u8))
 }

@@ -1,6 +1,7 @@
 //! The classes of the library, each with the classes above it.
 ghost use Rattle.std.specs.Prelude.{◌≡◌, ◌++◌, map, [], ◌∷◌, IfOk};
 ghost use Rattle.std.specs.Option.{option_copied};
+ghost use Rattle.form_fields.specs.Once.{with_new};
 ghost use Rattle.store_lists.specs.Classes.{above_in, parent_row, parents_above, parents_at, fallback_of, fallback_at, class_at, class_row, classes_of, class_name};
 ghost use Rattle.toml.specs.View.{table_view, view};
 ghost use Rattle.vet_base.specs.Script.{Gives};
@@ -57,8 +58,10 @@ impl Classes {
     pub fn with(self, row: LibClass) -> Result<Self, Memory>
         ensures { IfOk result (λ x. x ≡ self ++ row ∷ []) }
     {
+        let name = row.name.copy()?;
+        let twin = row.name.copy()?;
         let Classes { mut rows, names } = self;
-        let names = names.with(row.name.copy()?, row.name.copy()?)?;
+        let names = names.with(name, twin)?;
         rows.push(row)?;
         Ok(Classes { rows, names })
     }
@@ -120,7 +123,14 @@ fn parents_at(alloc: Global, table: &Table) -> Result<Vec<Name>, Stop<Fault>>
         return Ok(Vec::new(alloc));
     };
     let texts = texts_in(alloc, value, Section::Class, Key::Parents)?;
-    let once = with_new(Index::new(alloc), &texts)?;
+    Ok(each_once(alloc, &texts)?)
+}
+
+/// The names, each where it stands first.
+fn each_once(alloc: Global, names: &[Name]) -> Result<Vec<Name>, Memory>
+    ensures { IfOk result (λ v. v.items ≡ with_new [] names.now) }
+{
+    let once = with_new(Index::new(alloc), names)?;
     Ok(once.into_keys())
 }
 

@@ -1,6 +1,6 @@
 //! What the lists say of a device.
-ghost use Rattle.std.specs.Prelude.{◌≡◌, ◌≤◌, ◌+◌, IfOk, length, map};
-ghost use Rattle.store_lists.specs.Device.{prefixes_at, device_at, static_key, static_at, static_row, statics_of};
+ghost use Rattle.std.specs.Prelude.{◌≡◌, ◌≤◌, ◌+◌, ◌++◌, ◌∷◌, [], IsTrue, IfOk, length, map};
+ghost use Rattle.store_lists.specs.Device.{are_counted, prefixes_at, device_at, static_key, static_at, static_row, statics_of};
 ghost use Rattle.toml.specs.View.{table_view, view};
 ghost use Rattle.vet_base.specs.Script.{Gives};
 
@@ -64,10 +64,19 @@ fn prefixes_at(
     let names = maybe_texts_at(alloc, tree, Section::Lists, key, Spelling::Prefix, 4096)?;
     let count = before.len() + names.len();
     let all = with_new(before, &names)?;
-    if all.len() != count {
+    if !are_counted(count, &all) {
         return Err(Stop::Fault(Fault::Range(Section::Lists, key)));
     }
     Ok((names, all))
+}
+
+/// Whether there are so many names.
+#[tactic(auto, unfolding(crate::specs::Device::are_counted))]
+fn are_counted(count: usize, names: &Index<Name>) -> bool
+    ensures value { result ≡ are_counted count names.now }
+    ensures same { IsTrue result → length names.now ≡ count }
+{
+    names.len() == count
 }
 
 /// Reads the rows of static fields.
@@ -92,6 +101,12 @@ fn static_row(alloc: Global, value: &Value, rows: StaticRows) -> Result<StaticRo
 {
     let row = static_at(alloc, value)?;
     let key = static_key(&row)?;
+    Ok(with_static(rows, row, key)?)
+}
+
+fn with_static(rows: StaticRows, row: StaticRow, key: MethodKey) -> Result<StaticRows, Memory>
+    ensures { IfOk result (λ x. x ≡ record { rows = rows.rows ++ row ∷ []; keys = rows.keys ++ key ∷ [] }) }
+{
     let StaticRows { mut rows, mut keys } = rows;
     rows.push(row)?;
     keys.push(key)?;

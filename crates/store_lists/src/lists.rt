@@ -1,7 +1,7 @@
 //! The lists of the office: categories, classes, shared objects, methods and callbacks; and what is said of a device.
-ghost use Rattle.std.specs.Prelude.{◌≡◌, ◌≢◌, ◌≤◌, ◌+◌, IsTrue, IfOk, IfErr, length, map};
+ghost use Rattle.std.specs.Prelude.{◌≡◌, ◌≢◌, ◌≤◌, ◌+◌, ◌++◌, ◌∷◌, [], IsTrue, IfOk, IfErr, length, map};
 ghost use Rattle.form_fields.specs.Form.{IsForm, FirstFormFault};
-ghost use Rattle.store_lists.specs.Lists.{are_categories, categories_at, shared_row, shared_of, rows_of, rows_once, arrays_at, lists_form};
+ghost use Rattle.store_lists.specs.Lists.{are_categories, categories_at, shared_object, shared_row, shared_of, rows_of, rows_once, arrays_at, lists_form};
 ghost use Rattle.app_machine.specs.SoundLists.{SoundLists};
 ghost use Rattle.store_lists.specs.Spelled.{SpelledLists, SoundDevice};
 ghost use Rattle.toml.specs.View.{table_view, view};
@@ -20,7 +20,7 @@ use form_fields::{
 use method_fields::keys_once;
 use std::alloc::Global;
 use toml::{Table, Value};
-use vet_base::{Name, Seq, Stop};
+use vet_base::{Memory, Name, Seq, Stop};
 
 /// What the lists say.
 #[derive(Drop)]
@@ -75,8 +75,7 @@ fn lists_in(alloc: Global, tree: &Table) -> Result<StoreLists, Stop<Fault>>
     let (keys, static_tables) = device_at(alloc, tree)?;
     let rows = rows_of(alloc, categories, classes, shared, methods, callbacks)?;
     let statics = statics_of(alloc, static_tables)?;
-    rows_once(alloc, &rows)?;
-    keys_once(alloc, statics.keys.as_slice())?;
+    rows_once(alloc, &rows, &statics)?;
     Ok(StoreLists {
         lists: lists_of(most, rows),
         device: device_of(keys, statics),
@@ -210,13 +209,30 @@ fn shared_row(alloc: Global, value: &Value, shared: SharedRows) -> Result<Shared
     ensures value { Gives (λ x. x) result (shared_row (view value.now) shared) }
     ensures one { IfOk result (λ x. length x.names ≡ length shared.names + 1) }
 {
+    let object = shared_object(alloc, value)?;
+    Ok(with_shared(shared, object)?)
+}
+
+/// The name and the class of a shared object.
+#[tactic(auto, unfolding(crate::specs::Lists::shared_object), using(vet_base::proofs::Scripts::run_bind))]
+fn shared_object(alloc: Global, value: &Value) -> Result<(Name, Name), Stop<Fault>>
+    ensures { Gives (λ x. x) result (shared_object (view value.now)) }
+{
     let table = table_in(value, Section::Lists, Key::Shared)?;
     known(alloc, table, Section::Shared)?;
     let name = text_at(alloc, table, Section::Shared, Key::Name, Spelling::Text)?;
     let class = text_at(alloc, table, Section::Shared, Key::Class, Spelling::Class)?;
+    Ok((name, class))
+}
+
+fn with_shared(shared: SharedRows, object: (Name, Name)) -> Result<SharedRows, Memory>
+    ensures { IfOk result (λ x. x ≡ record { rows = shared.rows ++ object ∷ []; names = shared.names ++ object.0 ∷ [] }) }
+{
+    let name = object.0.copy()?;
+    let twin = object.0.copy()?;
     let SharedRows { mut rows, names } = shared;
-    let names = names.with(name.copy()?, name.copy()?)?;
-    rows.push((name, class))?;
+    let names = names.with(name, twin)?;
+    rows.push(object)?;
     Ok(SharedRows { rows, names })
 }
 
@@ -262,14 +278,15 @@ fn rows_of(
     })
 }
 
-/// No class, shared name, method row or callback row stands twice.
+/// No class, shared name, method row, callback row or static field stands twice.
 #[tactic(auto, unfolding(crate::specs::Lists::rows_once), using(vet_base::proofs::Scripts::run_bind))]
-fn rows_once(alloc: Global, rows: &Rows) -> Result<(), Stop<Fault>>
-    ensures { Gives (λ x. x) result (rows_once rows.now) }
+fn rows_once(alloc: Global, rows: &Rows, statics: &StaticRows) -> Result<(), Stop<Fault>>
+    ensures { Gives (λ x. x) result (rows_once rows.now statics.now) }
 {
     names_once(alloc, rows.listed.classes.as_keys())?;
     names_once(alloc, rows.listed.shared.as_keys())?;
     keys_once(alloc, rows.methods.keys.as_slice())?;
     keys_once(alloc, rows.callbacks.keys.as_slice())?;
+    keys_once(alloc, statics.keys.as_slice())?;
     Ok(())
 }

@@ -1,6 +1,6 @@
 //! The rows of methods.
-ghost use Rattle.std.specs.Prelude.{◌≡◌, ◌≤◌, length, map};
-ghost use Rattle.store_lists.specs.Methods.{listed_class, signature_at, sink_fits, sink_with, sink_at, summary_of, method_row, methods_of};
+ghost use Rattle.std.specs.Prelude.{◌≡◌, ◌≤◌, ◌++◌, ◌∷◌, [], IfOk, length, map};
+ghost use Rattle.store_lists.specs.Methods.{is_listed, listed_class, signature_at, sink_fits, sink_with, sink_at, summary_of, method_row, methods_of};
 ghost use Rattle.method_fields.specs.Positions.{listed_at};
 ghost use Rattle.toml.specs.View.{table_view, view};
 ghost use Rattle.vet_base.specs.Script.{Gives};
@@ -13,7 +13,7 @@ use method_fields::{
 };
 use std::alloc::Global;
 use toml::{Table, Value};
-use vet_base::{Name, Seq, Stop};
+use vet_base::{Memory, Name, Seq, Stop};
 
 /// What a row may name.
 #[derive(Drop)]
@@ -68,10 +68,24 @@ fn method_row(
     let at = signature_at(alloc, table, &listed.classes)?;
     let key = at.key()?;
     let summary = summary_of(alloc, table, listed, at)?;
+    Ok(with_method(rows, summary, key)?)
+}
+
+fn with_method(rows: MethodRows, summary: Summary, key: MethodKey) -> Result<MethodRows, Memory>
+    ensures { IfOk result (λ x. x ≡ record { rows = rows.rows ++ summary ∷ []; keys = rows.keys ++ key ∷ [] }) }
+{
     let MethodRows { mut rows, mut keys } = rows;
     rows.push(summary)?;
     keys.push(key)?;
     Ok(MethodRows { rows, keys })
+}
+
+/// Whether a name is one of these.
+#[tactic(auto, unfolding(crate::specs::Methods::is_listed))]
+fn is_listed(names: &Index<Name>, name: &Name) -> bool
+    ensures { result ≡ is_listed names.now name.now }
+{
+    names.place_of(name).is_some()
 }
 
 /// The class of a row, which has a row of its own.
@@ -80,7 +94,7 @@ fn listed_class(alloc: Global, table: &Table, classes: &Index<Name>) -> Result<N
     ensures { Gives (λ n. n) result (listed_class classes.now (table_view table.now)) }
 {
     let class = text_at(alloc, table, Section::Method, Key::Class, Spelling::Class)?;
-    if classes.place_of(&class).is_none() {
+    if !is_listed(classes, &class) {
         return Err(Stop::Fault(Fault::Range(Section::Method, Key::Class)));
     }
     Ok(class)
