@@ -1,4 +1,5 @@
 pub mod ClientFacts
+pub mod DeviceFacts
 pub mod ListFacts
 pub mod OfficeFacts
 pub mod Trees

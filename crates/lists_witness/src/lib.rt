@@ -4,6 +4,7 @@
 #![tactic(auto)]
 
 ghost use Rattle.lists_witness.specs.ClientFacts.{ClientIsRead};
+ghost use Rattle.lists_witness.specs.DeviceFacts.{DeviceIsRead};
 ghost use Rattle.lists_witness.specs.ListFacts.{ListsAreRead};
 ghost use Rattle.lists_witness.specs.OfficeFacts.{OfficeIsRead};
 
@@ -11,6 +12,12 @@ ghost use Rattle.lists_witness.specs.OfficeFacts.{OfficeIsRead};
 /// tested before a range, and rows before what stands twice.
 pub fn the_lists_are_read()
     ensures { ListsAreRead }
+{}
+
+/// Beginnings of names are spelled as such and stand once in both lists together, the lists are strict where they
+/// say so, and a static field stands once and has a type.
+pub fn the_device_is_read()
+    ensures { DeviceIsRead }
 {}
 
 /// No port is 0, a role is the one that its word says, and a token that stands twice is told by the
