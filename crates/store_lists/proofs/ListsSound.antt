@@ -118,8 +118,8 @@ unfolding shared_row
 shared_row_counted n d shared so_far =
     yields_past _ (shared_object d) _
     (λ new. yields_value _ _ (record {
-      rows = omega (arith, so_far.rows, length-append shared.rows (new ∷ []));
-      names = omega (arith, so_far.names, length-append shared.names (new.0 ∷ []));
+      rows = omega (arith, so_far.rows, length-append shared.rows ((new.name, new.class) ∷ []));
+      names = omega (arith, so_far.names, length-append shared.names (new.name ∷ []));
     }))
 
 shared_counted : (ds : List Data) → Yields (SharedCounted (0 + length ds)) (shared_of ds)

@@ -18,6 +18,7 @@ use Rattle.method_fields.specs.declared.signature.Signature.{Signature}
 use Rattle.store_lists.specs.declared.methods.Listed.{Listed}
 use Rattle.store_lists.specs.declared.methods.MethodRows.{MethodRows}
 use Rattle.store_lists.specs.declared.callbacks.CallbackRows.{CallbackRows}
+use Rattle.store_lists.specs.declared.lists.SharedObject.{SharedObject}
 use Rattle.store_lists.specs.declared.lists.SharedRows.{SharedRows}
 use Rattle.store_lists.specs.declared.lists.Rows.{Rows}
 use Rattle.store_lists.specs.declared.lists.StoreLists.{StoreLists}
@@ -90,7 +91,10 @@ classes_spelled ds = yields_each (λ n classes. All SpelledClass classes) class_
 abbrev Shared : Name × Name → Type 0
 Shared shared = SpelledShared shared.0 shared.1
 
-object_spelled : (d : Data) → Yields Shared (shared_object d)
+abbrev Object : SharedObject → Type 0
+Object object = SpelledShared object.name object.class
+
+object_spelled : (d : Data) → Yields Object (shared_object d)
 unfolding shared_object fits
 object_spelled d =
     yields_past _ (table_in section.Lists key.Shared d) _
@@ -102,8 +106,8 @@ object_spelled d =
 shared_row_spelled : (n : ℕ) (d : Data) (shared : SharedRows) → All Shared shared.rows → Yields (λ r. All Shared r.rows) (shared_row d shared)
 unfolding shared_row
 shared_row_spelled n d shared so_far =
-    yields_then Shared _ (shared_object d) _ (object_spelled d)
-    (λ new spelled. yields_value _ _ (All-push Shared shared.rows new so_far spelled))
+    yields_then Object _ (shared_object d) _ (object_spelled d)
+    (λ new spelled. yields_value _ _ (All-push Shared shared.rows (new.name, new.class) so_far spelled))
 
 shared_spelled : (ds : List Data) → Yields (λ r. All Shared r.rows) (shared_of ds)
 unfolding shared_of

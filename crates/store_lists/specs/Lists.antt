@@ -9,6 +9,7 @@ use Rattle.form_fields.specs.declared.words.Section.TheVariants as section
 use Rattle.form_fields.specs.declared.words.Key.TheVariants as key
 use Rattle.form_fields.specs.declared.spelling.Spelling.TheVariants as spelling
 use Rattle.store_lists.specs.declared.device.StaticRows.{StaticRows}
+use Rattle.store_lists.specs.declared.lists.SharedObject.{SharedObject}
 use Rattle.store_lists.specs.declared.lists.SharedRows.{SharedRows}
 use Rattle.store_lists.specs.declared.lists.Rows.{Rows}
 use Rattle.store_lists.specs.declared.lists.StoreLists.{StoreLists}
@@ -32,19 +33,19 @@ categories_at t = do
   Value (with_new [] names)
 
 -- the name and the class of a shared object
-unfoldable pub shared_object : Data → Script Fault (Name × Name)
+unfoldable pub shared_object : Data → Script Fault SharedObject
 shared_object d = do
   t ← table_in section.Lists key.Shared d
   _ ← known section.Shared t
   name ← text_at section.Shared key.Name spelling.Text t
   class ← text_at section.Shared key.Class spelling.Class t
-  Value (name, class)
+  Value (record { name = name; class = class })
 
 -- a shared object more
 unfoldable pub shared_row : Data → SharedRows → Script Fault SharedRows
 shared_row d rows = do
   new ← shared_object d
-  Value (record { rows = rows.rows ++ new ∷ []; names = rows.names ++ new.0 ∷ [] })
+  Value (record { rows = rows.rows ++ (new.name, new.class) ∷ []; names = rows.names ++ new.name ∷ [] })
 
 unfoldable pub shared_of : List Data → Script Fault SharedRows
 shared_of tables = each shared_row tables (record { rows = []; names = [] })

@@ -181,6 +181,13 @@ fn are_categories(names: &[Name], distinct: &Index<Name>) -> bool
     1 <= names.len() && distinct.len() == names.len()
 }
 
+/// The name and the class of a shared object.
+#[derive(Drop)]
+pub struct SharedObject {
+    name: Name,
+    class: Name,
+}
+
 /// The shared objects so far: the name and the class of each, and the names.
 #[derive(Drop)]
 pub struct SharedRows {
@@ -215,24 +222,27 @@ fn shared_row(alloc: Global, value: &Value, shared: SharedRows) -> Result<Shared
 
 /// The name and the class of a shared object.
 #[tactic(auto, unfolding(crate::specs::Lists::shared_object), using(vet_base::proofs::Scripts::run_bind))]
-fn shared_object(alloc: Global, value: &Value) -> Result<(Name, Name), Stop<Fault>>
+fn shared_object(alloc: Global, value: &Value) -> Result<SharedObject, Stop<Fault>>
     ensures { Gives (λ x. x) result (shared_object (view value.now)) }
 {
     let table = table_in(value, Section::Lists, Key::Shared)?;
     known(alloc, table, Section::Shared)?;
     let name = text_at(alloc, table, Section::Shared, Key::Name, Spelling::Text)?;
     let class = text_at(alloc, table, Section::Shared, Key::Class, Spelling::Class)?;
-    Ok((name, class))
+    Ok(SharedObject { name, class })
 }
 
-fn with_shared(shared: SharedRows, object: (Name, Name)) -> Result<SharedRows, Memory>
-    ensures { IfOk result (λ x. x ≡ record { rows = shared.rows ++ object ∷ []; names = shared.names ++ object.0 ∷ [] }) }
+fn with_shared(shared: SharedRows, object: SharedObject) -> Result<SharedRows, Memory>
+    ensures { IfOk result (λ x. x ≡ record {
+      rows = shared.rows ++ (object.name, object.class) ∷ [];
+      names = shared.names ++ object.name ∷ [];
+    }) }
 {
-    let name = object.0.copy()?;
-    let twin = object.0.copy()?;
+    let name = object.name.copy()?;
+    let twin = object.name.copy()?;
     let SharedRows { mut rows, names } = shared;
     let names = names.with(name, twin)?;
-    rows.push(object)?;
+    rows.push((object.name, object.class))?;
     Ok(SharedRows { rows, names })
 }
 
