@@ -19,6 +19,11 @@ abbrev pub Halts : (Part → Reason → Type 0) → Stop Refusal → Type 0
 Halts Refused stops.Memory = Unit {0}
 Halts Refused (stops.Fault r) = Refused r.part r.reason
 
+-- unless memory ran out, the form has this fault
+abbrev pub StopsWith : FormFault → Stop FormFault → Type 0
+StopsWith fault stops.Memory = Unit {0}
+StopsWith fault (stops.Fault f) = (fault ≢ told.Memory) × (f ≡ fault)
+
 -- the part's form has the fault
 abbrev pub HaltsForm : Part → FormFault → Stop Refusal → Type 0
 HaltsForm part fault stops.Memory = Unit {0}

@@ -8,7 +8,7 @@ ghost use Rattle.office_forms.specs.Layouts.{layouts_form};
 ghost use Rattle.office_forms.specs.Declaration.{declaration_form};
 ghost use Rattle.store_lists.specs.Lists.{lists_form};
 ghost use Rattle.office_forms.specs.Sound.{SoundManifest, SoundLayouts};
-ghost use Rattle.verdict.specs.Halts.{Halts, HaltsForm};
+ghost use Rattle.verdict.specs.Halts.{Halts, HaltsForm, StopsWith};
 ghost use Rattle.verdict.specs.OneVerdict.{RefusesOnly};
 ghost use Rattle.verdict.specs.Refuses.{HasManifest, HasPapers};
 
@@ -44,12 +44,22 @@ pub struct Refusal {
 
 pub type Halt = Stop<Refusal>;
 
-fn halt_of(part: Part, fault: FormFault) -> Halt
-    ensures { HaltsForm part fault result }
+/// What stops the reading of a form: want of memory, or its fault.
+fn stop_of(fault: FormFault) -> Stop<FormFault>
+    ensures { StopsWith fault result }
 {
     match fault {
         FormFault::Memory => Stop::Memory,
-        fault => Stop::Fault(Refusal {
+        fault => Stop::Fault(fault),
+    }
+}
+
+fn halt_of(part: Part, fault: FormFault) -> Halt
+    ensures { HaltsForm part fault result }
+{
+    match stop_of(fault) {
+        Stop::Memory => Stop::Memory,
+        Stop::Fault(fault) => Stop::Fault(Refusal {
             part,
             reason: Reason::Form(fault),
         }),

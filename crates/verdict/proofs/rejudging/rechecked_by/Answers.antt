@@ -7,3 +7,6 @@ pub outcome_of_rows-requires-clause-within : goal.outcome_of_rows-requires-claus
 outcome_of_rows-requires-clause-within c =
     let good = subst (IsChecked c.args.linked.now.app c.args.linked.now.papers.lists c.args.rows.now) c.in-None.is c.requires.found in
     good_is_within c.args.linked.now.app c.args.linked.now.papers.lists c.args.rows.now good
+
+pub returns-in-Some : goal.returns-in-Some
+returns-in-Some c = subst (IsChecked c.args.linked.now.app c.args.linked.now.papers.lists c.args.rows.now) c.in-Some.is c.requires.found
