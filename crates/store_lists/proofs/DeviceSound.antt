@@ -17,7 +17,7 @@ use Rattle.store_lists.specs.declared.device.StaticRows.{StaticRows}
 use Rattle.store_lists.specs.declared.device.DeviceKeys.{DeviceKeys}
 use Rattle.store_lists.specs.declared.lists.StoreLists.{StoreLists}
 use Rattle.store_lists.specs.Device.{are_counted, prefixes_at, device_at, static_at, static_row, statics_of}
-use Rattle.store_lists.specs.Lists.{categories_at, rows_of, rows_once, arrays_at, lists_form}
+use Rattle.store_lists.specs.Lists.{categories_at, rows_of, rows_once, all_rows, arrays_at, lists_form}
 use Rattle.store_lists.specs.Spelled.{SoundDevice}
 use Rattle.form_fields.proofs.Yields.{Yields, yields_value, yields_tested, yields_then, yields_past, yields_each, yields_both}
 use Rattle.form_fields.proofs.FieldYields.{tables_few, maybe_texts_few}
@@ -58,6 +58,15 @@ statics_counted : (ds : List Data) → Yields (λ r. length r.rows ≡ 0 + lengt
 unfolding statics_of
 statics_counted ds = yields_each (λ n r. length r.rows ≡ n) static_row static_counted ds 0 (record { rows = []; keys = [] }) refl
 
+all_counted : (categories : List Name) (arrays : (List Data × List Data) × (List Data × List Data)) (ds : List Data)
+    → Yields (λ x. length x.statics.rows ≡ 0 + length ds) (all_rows categories arrays ds)
+unfolding all_rows
+all_counted categories arrays ds =
+    yields_past _ (rows_of categories arrays.0.0 arrays.0.1 arrays.1.0 arrays.1.1) _
+    (λ rows. yields_then _ _ (statics_of ds) _ (statics_counted ds)
+    (λ statics counted. yields_past _ (rows_once rows statics) _
+    (λ _. yields_value _ _ counted)))
+
 device_sound : (t : Members) → Yields (λ d. SoundDevice d.device) (lists_form t)
 unfolding lists_form fits
 device_sound t =
@@ -66,16 +75,14 @@ device_sound t =
     (λ most. yields_past _ (categories_at t) _
     (λ categories. yields_past _ (arrays_at t) _
     (λ arrays. yields_then SoundKeys _ (device_at t) _ (keys_sound t)
-    (λ device sound. yields_past _ (rows_of categories arrays.0.0 arrays.0.1 arrays.1.0 arrays.1.1) _
-    (λ rows. yields_then _ _ (statics_of device.1) _ (statics_counted device.1)
-    (λ statics counted. yields_past _ (rows_once rows statics) _
-    (λ _. yields_value _ _ (record {
+    (λ device sound. yields_then _ _ (all_rows categories arrays device.1) _ (all_counted categories arrays device.1)
+    (λ all counted. yields_value _ _ (record {
       few_platform = sound.platform.0;
       few_bundled = sound.bundled.0;
       platform = sound.platform.1;
       bundled = sound.bundled.1;
       few_statics = omega (arith, counted, sound.few);
-    })))))))))
+    })))))))
 
 pub sound_device : (t : Members) (d : StoreLists) → run (lists_form t) ≡ Ok d → SoundDevice d.device
 sound_device t d e = (device_sound t).at d e

@@ -31,7 +31,7 @@ use Rattle.method_fields.specs.Signature.{proto_at}
 use Rattle.store_lists.specs.Methods.{sink_at, signature_at, summary_of, method_row, methods_of}
 use Rattle.store_lists.specs.Callbacks.{callback_at, callback_row, callbacks_of}
 use Rattle.store_lists.specs.Device.{device_at, statics_of}
-use Rattle.store_lists.specs.Lists.{are_categories, categories_at, shared_object, shared_row, shared_of, rows_of, rows_once, arrays_at, lists_form}
+use Rattle.store_lists.specs.Lists.{are_categories, categories_at, shared_object, shared_row, shared_of, rows_of, rows_once, all_rows, arrays_at, lists_form}
 use Rattle.app_machine.specs.SoundLists.{SoundGives, TwoPositions, NamedPosition, SoundSink, SoundClass, SoundSummary, SoundCallback, SoundLists}
 use Rattle.form_fields.proofs.Yields.{Yields, yields_value, yields_tested, yields_then, yields_past, yields_each}
 use Rattle.form_fields.proofs.FieldYields.{number_within, tables_few, texts_few}
@@ -243,6 +243,16 @@ arrays_few t =
     (λ ms few_methods. yields_then _ _ (tables_at section.Lists key.Callback 65536 t) _ (tables_few section.Lists key.Callback 65536 t)
     (λ ks few_callbacks. yields_value _ _ (record { classes = few_classes; shared = few_shared; methods = few_methods; callbacks = few_callbacks })))))
 
+-- what holds of the rows of the four arrays holds of them among all rows
+pub all_yields : (P : Rows → Type 0) (categories : List Name) (arrays : (List Data × List Data) × (List Data × List Data)) (ds : List Data)
+    → Yields P (rows_of categories arrays.0.0 arrays.0.1 arrays.1.0 arrays.1.1) → Yields (λ x. P x.rows) (all_rows categories arrays ds)
+unfolding all_rows
+all_yields P categories arrays ds sound =
+    yields_then P _ (rows_of categories arrays.0.0 arrays.0.1 arrays.1.0 arrays.1.1) _ sound
+    (λ rows holds. yields_past _ (statics_of ds) _
+    (λ statics. yields_past _ (rows_once rows statics) _
+    (λ _. yields_value _ _ holds)))
+
 lists_sound : (t : Members) → Yields (λ d. SoundLists d.lists) (lists_form t)
 unfolding lists_form
 lists_sound t =
@@ -251,10 +261,9 @@ lists_sound t =
     (λ most within. yields_then _ _ (categories_at t) _ (categories_few t)
     (λ categories named. yields_then _ _ (arrays_at t) _ (arrays_few t)
     (λ arrays few. yields_past _ (device_at t) _
-    (λ device. yields_then _ _ (rows_of categories arrays.0.0 arrays.0.1 arrays.1.0 arrays.1.1) _ (rows_counted categories arrays.0.0 arrays.0.1 arrays.1.0 arrays.1.1)
-    (λ rows counted. yields_past _ (statics_of device.1) _
-    (λ statics. yields_past _ (rows_once rows statics) _
-    (λ _. yields_value _ _ (record {
+    (λ device. yields_then _ _ (all_rows categories arrays device.1) _
+    (all_yields _ categories arrays device.1 (rows_counted categories arrays.0.0 arrays.0.1 arrays.1.0 arrays.1.1))
+    (λ all counted. yields_value _ _ (record {
       one_row = within.0;
       few_rows = within.1;
       one_category = omega (arith, named.one, ap length counted.same);
@@ -264,9 +273,9 @@ lists_sound t =
       few_methods = omega (arith, few.methods, counted.methods);
       few_callbacks = omega (arith, few.callbacks, counted.callbacks);
       classes = counted.sound_classes;
-      methods = subst (λ (n : ℕ). All (SoundSummary n (length rows.shared)) rows.methods.rows) (sym (ap length counted.same)) counted.sound_methods;
-      callbacks = subst (λ (n : ℕ). All (SoundCallback n) rows.callbacks.rows) (sym (ap length counted.same)) counted.sound_callbacks;
-    })))))))))
+      methods = subst (λ (n : ℕ). All (SoundSummary n (length all.rows.shared)) all.rows.methods.rows) (sym (ap length counted.same)) counted.sound_methods;
+      callbacks = subst (λ (n : ℕ). All (SoundCallback n) all.rows.callbacks.rows) (sym (ap length counted.same)) counted.sound_callbacks;
+    })))))))
 
 pub sound_lists : (t : Members) (d : StoreLists) → run (lists_form t) ≡ Ok d → SoundLists d.lists
 sound_lists t d e = (lists_sound t).at d e

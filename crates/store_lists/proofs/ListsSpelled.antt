@@ -32,9 +32,10 @@ use Rattle.method_fields.specs.Signature.{proto_at}
 use Rattle.store_lists.specs.Methods.{sink_at, is_listed, listed_class, signature_at, summary_of, method_row, methods_of}
 use Rattle.store_lists.specs.Callbacks.{callback_at, callback_row, callbacks_of}
 use Rattle.store_lists.specs.Device.{device_at, statics_of}
-use Rattle.store_lists.specs.Lists.{are_categories, categories_at, shared_object, shared_row, shared_of, rows_of, rows_once, arrays_at, lists_form}
+use Rattle.store_lists.specs.Lists.{are_categories, categories_at, shared_object, shared_row, shared_of, rows_of, rows_once, all_rows, arrays_at, lists_form}
 use Rattle.method_fields.specs.Spelled.{SpelledProto}
 use Rattle.store_lists.specs.Spelled.{SpelledClass, SpelledShared, SpelledMethod, SpelledLists}
+use Rattle.store_lists.proofs.ListsSound.{all_yields}
 use Rattle.form_fields.proofs.Yields.{Yields, yields_value, yields_tested, yields_then, yields_past, yields_each}
 use Rattle.form_fields.proofs.Spelled.{Fits, text_fits, texts_fit, all_new}
 use Rattle.method_fields.proofs.TypesSpelled.{proto_spelled}
@@ -219,16 +220,15 @@ lists_spelled t =
     (λ most. yields_then (All (Fits spelling.Category)) _ (categories_at t) _ (categories_spelled t)
     (λ categories named. yields_past _ (arrays_at t) _
     (λ arrays. yields_past _ (device_at t) _
-    (λ device. yields_then (SpelledRows categories) _ (rows_of categories arrays.0.0 arrays.0.1 arrays.1.0 arrays.1.1) _ (rows_spelled categories arrays.0.0 arrays.0.1 arrays.1.0 arrays.1.1)
-    (λ rows spelled. yields_past _ (statics_of device.1) _
-    (λ statics. yields_past _ (rows_once rows statics) _
-    (λ _. yields_value _ _ (record {
+    (λ device. yields_then (λ x. SpelledRows categories x.rows) _ (all_rows categories arrays device.1) _
+    (all_yields (SpelledRows categories) categories arrays device.1 (rows_spelled categories arrays.0.0 arrays.0.1 arrays.1.0 arrays.1.1))
+    (λ all spelled. yields_value _ _ (record {
       categories = subst (λ (names : List Name). All (Fits spelling.Category) names) (sym spelled.same) named;
       classes = spelled.classes;
       shared = spelled.shared;
       methods = spelled.methods;
       callbacks = spelled.callbacks;
-    })))))))))
+    })))))))
 
 pub spelled_lists : (t : Members) (d : StoreLists) → run (lists_form t) ≡ Ok d → SpelledLists d.lists
 spelled_lists t d e = (lists_spelled t).at d e

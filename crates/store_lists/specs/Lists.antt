@@ -12,6 +12,7 @@ use Rattle.store_lists.specs.declared.device.StaticRows.{StaticRows}
 use Rattle.store_lists.specs.declared.lists.SharedObject.{SharedObject}
 use Rattle.store_lists.specs.declared.lists.SharedRows.{SharedRows}
 use Rattle.store_lists.specs.declared.lists.Rows.{Rows}
+use Rattle.store_lists.specs.declared.lists.AllRows.{AllRows}
 use Rattle.store_lists.specs.declared.lists.StoreLists.{StoreLists}
 use Rattle.form_fields.specs.Once.{names_once, with_new}
 use Rattle.form_fields.specs.Fields.{known, text_at, texts_at, number_at, tables_at, table_in}
@@ -84,6 +85,14 @@ arrays_at t = do
   callbacks ← tables_at section.Lists key.Callback 65536 t
   Value ((classes, shared), (methods, callbacks))
 
+-- the rows of all arrays, of which none stands twice
+unfoldable pub all_rows : List Name → (List Data × List Data) × (List Data × List Data) → List Data → Script Fault AllRows
+all_rows categories arrays static_tables = do
+  rows ← rows_of categories arrays.0.0 arrays.0.1 arrays.1.0 arrays.1.1
+  statics ← statics_of static_tables
+  _ ← rows_once rows statics
+  Value (record { rows = rows; statics = statics })
+
 unfoldable pub lists_form : Members → Script Fault StoreLists
 lists_form t = do
   _ ← known section.Lists t
@@ -91,10 +100,8 @@ lists_form t = do
   categories ← categories_at t
   arrays ← arrays_at t
   device ← device_at t
-  rows ← rows_of categories arrays.0.0 arrays.0.1 arrays.1.0 arrays.1.1
-  statics ← statics_of device.1
-  _ ← rows_once rows statics
+  all ← all_rows categories arrays device.1
   Value (record {
-    lists = record { rows = most; categories = rows.listed.categories; classes = rows.classes; shared = rows.shared; methods = rows.methods.rows; callbacks = rows.callbacks.rows };
-    device = record { strict = device.0.strict; platform = device.0.platform; bundled = device.0.bundled; statics = statics.rows };
+    lists = record { rows = most; categories = all.rows.listed.categories; classes = all.rows.classes; shared = all.rows.shared; methods = all.rows.methods.rows; callbacks = all.rows.callbacks.rows };
+    device = record { strict = device.0.strict; platform = device.0.platform; bundled = device.0.bundled; statics = all.statics.rows };
   })

@@ -1,7 +1,7 @@
 //! The lists of the office: categories, classes, shared objects, methods and callbacks; and what is said of a device.
 ghost use Rattle.std.specs.Prelude.{◌≡◌, ◌≢◌, ◌≤◌, ◌+◌, ◌++◌, ◌∷◌, [], IsTrue, IfOk, IfErr, length, map};
 ghost use Rattle.form_fields.specs.Form.{IsForm, FirstFormFault};
-ghost use Rattle.store_lists.specs.Lists.{are_categories, categories_at, shared_object, shared_row, shared_of, rows_of, rows_once, arrays_at, lists_form};
+ghost use Rattle.store_lists.specs.Lists.{are_categories, categories_at, shared_object, shared_row, shared_of, rows_of, rows_once, all_rows, arrays_at, lists_form};
 ghost use Rattle.app_machine.specs.SoundLists.{SoundLists};
 ghost use Rattle.store_lists.specs.Spelled.{SpelledLists, SoundDevice};
 ghost use Rattle.toml.specs.View.{table_view, view};
@@ -73,13 +73,57 @@ fn lists_in(alloc: Global, tree: &Table) -> Result<StoreLists, Stop<Fault>>
     let categories = categories_at(alloc, tree)?;
     let ((classes, shared), (methods, callbacks)) = arrays_at(tree)?;
     let (keys, static_tables) = device_at(alloc, tree)?;
-    let rows = rows_of(alloc, categories, classes, shared, methods, callbacks)?;
-    let statics = statics_of(alloc, static_tables)?;
-    rows_once(alloc, &rows, &statics)?;
+    let AllRows { rows, statics } = all_rows(
+        alloc,
+        categories,
+        classes,
+        shared,
+        methods,
+        callbacks,
+        static_tables,
+    )?;
     Ok(StoreLists {
         lists: lists_of(most, rows),
         device: device_of(keys, statics),
     })
+}
+
+/// The rows of all arrays.
+#[derive(Drop)]
+pub struct AllRows {
+    rows: Rows,
+    statics: StaticRows,
+}
+
+/// The rows of all arrays, of which none stands twice.
+#[tactic(auto, unfolding(crate::specs::Lists::all_rows), using(vet_base::proofs::Scripts::run_bind))]
+fn all_rows(
+    alloc: Global,
+    categories: Index<Name>,
+    class_tables: &[Value],
+    shared_tables: &[Value],
+    method_tables: &[Value],
+    callback_tables: &[Value],
+    static_tables: &[Value],
+) -> Result<AllRows, Stop<Fault>>
+    requires categories { length categories ≤ 200 }
+    requires shared { length shared_tables.now ≤ 65536 }
+    ensures { Gives (λ x. x) result (all_rows categories (
+      (map view class_tables.now, map view shared_tables.now),
+      (map view method_tables.now, map view callback_tables.now),
+    ) (map view static_tables.now)) }
+{
+    let rows = rows_of(
+        alloc,
+        categories,
+        class_tables,
+        shared_tables,
+        method_tables,
+        callback_tables,
+    )?;
+    let statics = statics_of(alloc, static_tables)?;
+    rows_once(alloc, &rows, &statics)?;
+    Ok(AllRows { rows, statics })
 }
 
 /// What these say of a device.
