@@ -1,5 +1,5 @@
 pub mod Known
 pub mod Marks
-pub mod Packages
-pub mod Sets
+pub mod NameSets
+pub mod Slashes
 pub mod Ways

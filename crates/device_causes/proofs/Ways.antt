@@ -1,15 +1,14 @@
 -- Walks upward, and names by sets.
-use Rattle.std.proofs.Common.{◌≡◌, Bool, true, false, ◌&&◌, ◌||◌, not, List, [], ◌∷◌, ◌++◌, append_assoc, map, sym, ◌∙◌, ap}
+use Rattle.std.proofs.Common.{◌≡◌, Bool, true, false, ◌||◌, List, [], ◌∷◌, ◌++◌, append_assoc, map, sym, ◌∙◌, ap}
 use Rattle.std.specs.List.{list_any}
 use Rattle.std.proofs.lemmas.List.{append-nil}
 use Rattle.app_machine.specs.declared.app.Class.{Class}
 use Rattle.app_machine.specs.declared.lists.Lists.{Lists}
-use Rattle.app_machine.specs.declared.app.App.{App}
-use Rattle.app_machine.specs.Names.{Name, same_name, click_descriptor}
+use Rattle.app_machine.specs.Names.{Name}
 use Rattle.link_access.specs.Access.{Accesses}
 use Rattle.link_access.specs.declared.access.MethodAccess.{MethodAccess}
 use Rattle.vet_base.proofs.Lists.{list_any_agree}
-use Rattle.device_causes.specs.Clicks.{context_names, any_context, menu_descriptor, is_context, all_activity_names, comes_elsewhere, is_odd_click}
+use Rattle.device_causes.specs.Clicks.{context_names, any_context}
 use Rattle.device_causes.specs.Hidden.{methods_of, any_hides, is_hidden_by}
 use Rattle.device_causes.specs.Sets.{is_among, IsSetOf}
 
@@ -54,14 +53,3 @@ module _ (access : Accesses) (class : Name) (m : MethodAccess) (way left : List 
 -- the set of the contexts has one of the names just where one of them is a context
 pub contexts_by_set : (lists : Lists) (set names : List Name) → IsSetOf set (context_names lists) → list_any (is_among set) names ≡ any_context lists names
 contexts_by_set lists set names is = list_any_agree (is_among set) (is_among (context_names lists)) is.same names
-
-pub elsewhere_by_set : (app : App) (lists : Lists) (set : List Name) (class descriptor : Name) → IsSetOf set (all_activity_names app)
-    → (same_name descriptor menu_descriptor || (same_name descriptor click_descriptor && (is_context app lists class && not (is_among set class)))) ≡ comes_elsewhere app lists class descriptor
-unfolding comes_elsewhere
-elsewhere_by_set app lists set class descriptor is =
-    ap (λ (b : Bool). same_name descriptor menu_descriptor || (same_name descriptor click_descriptor && (is_context app lists class && not b))) (is.same class)
-
-pub click_by_set : (app : App) (lists : Lists) (set : List Name) (class : Name) (m : MethodAccess) → IsSetOf set app.clicks
-    → (is_among set m.name && comes_elsewhere app lists class m.descriptor) ≡ is_odd_click app lists class m
-unfolding is_odd_click
-click_by_set app lists set class m is = ap (λ (b : Bool). b && comes_elsewhere app lists class m.descriptor) (is.same m.name)

@@ -65,8 +65,14 @@ touches app access device (PutStatic g x) = static_passes (is_foreign access) ap
 touches app access device (GetStatic ds g) = static_passes (is_unknown access device) app g
 touches app access device act = false
 
+unfoldable pub is_touching : App → Accesses → DeviceLists → Step → Bool
+is_touching app access device s = touches app access device s.act
+
+abbrev pub spot_of : ℕ → Step → Spot
+spot_of i s = (i, s.pc)
+
 unfoldable pub spots_in : App → Accesses → DeviceLists → ℕ → Method → List Spot
-spots_in app access device i m = map (λ (s : Step). (i, s.pc)) (filter (λ (s : Step). touches app access device s.act) m.steps)
+spots_in app access device i m = map (spot_of i) (filter (is_touching app access device) m.steps)
 
 -- of the methods from number i on
 unfoldable pub spots_from : App → Accesses → DeviceLists → ℕ → List Method → List Spot

@@ -106,7 +106,7 @@ struct Asked {
     activities: NameSet,
 }
 
-#[tactic(auto, using(crate::proofs::Sets::set_as))]
+#[tactic(auto, using(crate::proofs::NameSets::set_as))]
 fn asked_of(alloc: Global, app: &App, lists: &Lists) -> Result<Asked, Memory>
     requires { SoundApp app.now }
     ensures clicks { IfOk result (λ a. IsSetOf a.clicks app.now.clicks) }
@@ -159,15 +159,18 @@ fn is_of_a_menu(descriptor: &Name) -> bool
     descriptor.as_bytes() == b"(Landroid/view/MenuItem;)Z".as_slice()
 }
 
+/// Whether the class is of an activity or above one.
+#[tactic(auto, using(crate::proofs::NameSets::among_by_set))]
+fn is_above_activity(app: &App, activities: &NameSet, class: &Name) -> bool
+    requires { IsSetOf activities.now (all_activity_names app.now) }
+    ensures { result ≡ is_among (all_activity_names app.now) class.now }
+{
+    activities.has(class)
+}
+
 /// Whether a click may come there of a menu, or on what is a context and neither an activity nor above one.
-#[tactic(auto, using(crate::proofs::Ways::elsewhere_by_set))]
-fn comes_elsewhere(
-    app: &App,
-    lists: &Lists,
-    asked: &Asked,
-    class: &Name,
-    descriptor: &Name,
-) -> bool
+#[tactic(auto, unfolding(crate::specs::Clicks::comes_elsewhere))]
+fn comes_elsewhere(app: &App, lists: &Lists, asked: &Asked, class: &Name, descriptor: &Name) -> bool
     requires sound { SoundApp app.now }
     requires contexts { IsSetOf asked.now.contexts (context_names lists.now) }
     requires activities { IsSetOf asked.now.activities (all_activity_names app.now) }
@@ -176,10 +179,19 @@ fn comes_elsewhere(
     is_of_a_menu(descriptor)
         || (is_of_a_view(descriptor)
             && is_context(app, lists, &asked.contexts, class)
-            && !asked.activities.has(class))
+            && !is_above_activity(app, &asked.activities, class))
 }
 
-#[tactic(auto, using(crate::proofs::Ways::click_by_set))]
+/// Whether the name is a click name of the layouts.
+#[tactic(auto, using(crate::proofs::NameSets::among_by_set))]
+fn is_click_name(app: &App, clicks: &NameSet, name: &Name) -> bool
+    requires { IsSetOf clicks.now app.now.clicks }
+    ensures { result ≡ is_among app.now.clicks name.now }
+{
+    clicks.has(name)
+}
+
+#[tactic(auto, unfolding(crate::specs::Clicks::is_odd_click))]
 fn is_odd_click(
     app: &App,
     lists: &Lists,
@@ -193,7 +205,7 @@ fn is_odd_click(
     requires activities { IsSetOf asked.now.activities (all_activity_names app.now) }
     ensures { result ≡ is_odd_click app.now lists.now class.now method.now }
 {
-    asked.clicks.has(&method.name)
+    is_click_name(app, &asked.clicks, &method.name)
         && comes_elsewhere(app, lists, asked, class, &method.descriptor)
 }
 

@@ -67,6 +67,14 @@ fn methods_of<'a>(access: &'a Accesses, class: &Name) -> &'a [MethodAccess]
     }
 }
 
+/// Whether a method of the class above runs in its place.
+fn hides_in(access: &Accesses, class: &Class, method: &MethodAccess, above: &Class) -> bool
+    ensures { result ≡ any_hides class.now.name method.now above.now.name (methods_of access.now.entries above.now.name) }
+{
+    let others = methods_of(access, &above.name);
+    any_hides(&class.name, method, &above.name, others)
+}
+
 /// Whether a method of one of the classes from this one upward along superclasses runs in its place.
 #[tactic(auto, using(crate::proofs::Ways::way_left, crate::proofs::Ways::way_on, crate::proofs::Ways::way_found, crate::proofs::Ways::way_over))]
 fn is_hidden_from(
@@ -81,12 +89,7 @@ fn is_hidden_from(
 {
     let mut walk = classes_upward(app, from.as_bytes());
     while let Some((above, rest)) = next_class(app, walk) {
-        if any_hides(
-            &class.name,
-            method,
-            &above.name,
-            methods_of(access, &above.name),
-        ) {
+        if hides_in(access, class, method, above) {
             return true;
         }
         walk = rest;

@@ -3,12 +3,12 @@
 ghost use Rattle.std.specs.Prelude.{◌≡◌, ◌++◌, IfOk, OnOk, filter, map};
 ghost use Rattle.app_machine.specs.Sound.{SoundApp};
 ghost use Rattle.outcomes.specs.Causes.{is_app_class};
-ghost use Rattle.device_causes.specs.Libraries.{is_unlisted, unlisted_above, unlisted_classes, statics_in, defined_statics, listed_statics, is_foreign, is_unknown, mark_of, put_mark, got_mark, touches, spots_in, static_spots};
+ghost use Rattle.device_causes.specs.Libraries.{is_unlisted, unlisted_above, unlisted_classes, statics_in, defined_statics, listed_statics, is_foreign, is_unknown, mark_of, put_mark, got_mark, touches, is_touching, spot_of, spots_in, static_spots};
 ghost use Rattle.device_causes.specs.Sets.{IsListOf, IsSetOf};
 
 use crate::platform::{is_library_class, library_names};
 use crate::sets::{NameSet, Triple, TripleSet};
-use app_machine::{Act, App, Class, Lists, Method};
+use app_machine::{Act, App, Class, Lists, Method, Step};
 use app_model::is_reference;
 use device_lists::DeviceLists;
 use link_access::{Accesses, ClassAccess};
@@ -17,7 +17,7 @@ use std::alloc::Global;
 use vet_base::{Memory, Name};
 
 /// The set of the names of the app's classes.
-#[tactic(auto, using(crate::proofs::Sets::set_as))]
+#[tactic(auto, using(crate::proofs::NameSets::set_as))]
 pub fn app_names(alloc: Global, app: &App) -> Result<NameSet, Memory>
     ensures { IfOk result (λ s. IsSetOf s (map (λ c. c.name) app.now.classes)) }
 {
@@ -71,7 +71,6 @@ fn add_unlisted(
 }
 
 /// Puts those of the classes directly above that are not listed behind the others.
-#[tactic(auto, using(crate::proofs::Known::above_added))]
 fn add_above(
     app: &App,
     lists: &Lists,
@@ -151,12 +150,7 @@ fn is_foreign(access: &Accesses, fields: &Fields, field: &Triple) -> bool
 }
 
 #[tactic(auto, unfolding(crate::specs::Libraries::is_unknown), using(crate::proofs::Known::unknown_by_set))]
-fn is_unknown(
-    access: &Accesses,
-    device: &DeviceLists,
-    fields: &Fields,
-    field: &Triple,
-) -> bool
+fn is_unknown(access: &Accesses, device: &DeviceLists, fields: &Fields, field: &Triple) -> bool
     requires defined { IsListOf fields.now.defined (defined_statics access.now.entries) }
     requires listed { IsListOf fields.now.listed (listed_statics device.now) }
     ensures { result ≡ is_unknown access.now.entries device.now field.now }
@@ -188,7 +182,7 @@ fn marks_of(
 }
 
 /// The mark of each static field of the app.
-#[tactic(auto, using(crate::proofs::Sets::list_as))]
+#[tactic(auto, using(crate::proofs::NameSets::list_as))]
 fn static_marks(
     alloc: Global,
     app: &App,
@@ -222,13 +216,7 @@ fn got_mark(marks: &[Mark], g: u32) -> bool
 }
 
 #[tactic(auto, unfolding(crate::specs::Libraries::touches), using(crate::proofs::Marks::put_marked, crate::proofs::Marks::got_marked))]
-fn touches(
-    app: &App,
-    access: &Accesses,
-    device: &DeviceLists,
-    marks: &[Mark],
-    act: &Act,
-) -> bool
+fn touches(app: &App, access: &Accesses, device: &DeviceLists, marks: &[Mark], act: &Act) -> bool
     requires { marks.now ≡ map (mark_of access.now.entries device.now) app.now.statics }
     ensures { result ≡ touches app.now access.now.entries device.now act.now }
 {
@@ -239,8 +227,28 @@ fn touches(
     }
 }
 
+#[tactic(auto, unfolding(crate::specs::Libraries::is_touching))]
+fn is_touching(
+    app: &App,
+    access: &Accesses,
+    device: &DeviceLists,
+    marks: &[Mark],
+    step: &Step,
+) -> bool
+    requires { marks.now ≡ map (mark_of access.now.entries device.now) app.now.statics }
+    ensures { result ≡ is_touching app.now access.now.entries device.now step.now }
+{
+    touches(app, access, device, marks, &step.act)
+}
+
 /// The number of a method, and an address there.
 pub type Spot = (u32, u32);
+
+fn spot_of(i: u32, step: &Step) -> Spot
+    ensures { result ≡ spot_of i step.now }
+{
+    (i, step.pc)
+}
 
 #[tactic(auto, unfolding(crate::specs::Libraries::spots_in))]
 fn add_spots(
@@ -256,8 +264,8 @@ fn add_spots(
     ensures { OnOk result (spots.new.items ≡ spots.old.items ++ spots_in app.now access.now.entries device.now i method.now) }
 {
     for step in method.steps.as_slice() {
-        if touches(app, access, device, marks, &step.act) {
-            spots.push((i, step.pc))?;
+        if is_touching(app, access, device, marks, step) {
+            spots.push(spot_of(i, step))?;
         }
     }
     Ok(())

@@ -59,7 +59,7 @@ fn listed_names(alloc: Global, classes: &[LibClass]) -> Result<Vec<Name>, Memory
 }
 
 /// The set of the names of the library's classes.
-#[tactic(auto, using(crate::proofs::Sets::set_as))]
+#[tactic(auto, using(crate::proofs::NameSets::set_as))]
 pub fn library_names(alloc: Global, lists: &Lists) -> Result<NameSet, Memory>
     ensures { IfOk result (λ s. IsSetOf s (map (λ c. c.name) lists.now.classes)) }
 {

@@ -29,7 +29,7 @@ impl Model for NameSet {
 
 impl NameSet {
     /// The set of these names. Want of memory is the only error.
-    #[tactic(auto, using(crate::proofs::Sets::names_same))]
+    #[tactic(auto, using(crate::proofs::NameSets::names_same))]
     pub fn new(alloc: Global, names: Vec<Name>) -> Result<Self, Memory>
         ensures { IfOk result (λ s. IsSetOf s names.items) }
     {
@@ -38,7 +38,7 @@ impl NameSet {
     }
 
     /// Whether the name is one of them.
-    #[tactic(auto, using(crate::proofs::Sets::contains_name))]
+    #[tactic(auto, using(crate::proofs::NameSets::contains_name))]
     pub fn has(&self, name: &Name) -> bool
         ensures { result ≡ is_among self.now name.now }
     {
@@ -63,7 +63,7 @@ impl Model for TripleSet {
 
 impl TripleSet {
     /// The set of these. Want of memory is the only error.
-    #[tactic(auto, using(crate::proofs::Sets::triples_same))]
+    #[tactic(auto, using(crate::proofs::NameSets::triples_same))]
     pub fn new(alloc: Global, triples: Vec<Triple>) -> Result<Self, Memory>
         ensures { IfOk result (λ s. IsListOf s triples.items) }
     {
@@ -72,7 +72,7 @@ impl TripleSet {
     }
 
     /// Whether it is one of them.
-    #[tactic(auto, using(crate::proofs::Sets::contains_triple))]
+    #[tactic(auto, using(crate::proofs::NameSets::contains_triple))]
     pub fn has(&self, triple: &Triple) -> bool
         ensures { result ≡ is_listed self.now triple.now }
     {

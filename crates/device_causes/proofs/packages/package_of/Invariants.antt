@@ -1,4 +1,4 @@
-use Rattle.device_causes.proofs.Packages.{NoneFrom}
+use Rattle.device_causes.proofs.Slashes.{NoneFrom}
 use Rattle.device_causes.proofs.packages.package_of.Given as goal
 
 abbrev pub invariant-loop-end : goal.invariant-loop-end

@@ -53,6 +53,10 @@ triples_same set triples is = record {
       ∙ any_ascending triple_order triple_total triple triples ∙ contains_triple triples triple;
 }
 
+-- whether the set has a name is whether its list has
+pub among_by_set : (set names : List Name) (name : Name) → IsSetOf set names → is_among set name ≡ is_among names name
+among_by_set set names name is = is.same name
+
 -- the same by another name for its list
 pub set_as : (set names others : List Name) → names ≡ others → IsSetOf set names → IsSetOf set others
 set_as set names others same is = subst (IsSetOf set) same is
