@@ -6,6 +6,7 @@ ghost use Rattle.app_machine.specs.Lookups.{up};
 ghost use Rattle.device_causes.specs.Hidden.{is_special, does_not_override, hides, methods_of, any_hides, is_hidden_by, is_hidden, hidden_of, hidden};
 
 use crate::interfaces::method_named;
+use crate::looks::check_looks;
 use crate::packages::package_of;
 use crate::sets::Triple;
 use app_machine::{App, Class};
@@ -58,7 +59,7 @@ fn any_hides(class: &Name, method: &MethodAccess, above: &Name, others: &[Method
 
 /// The methods of the class of this name.
 #[tactic(auto, unfolding(crate::specs::Hidden::methods_of, link_listing::specs::Orders::named))]
-fn methods_of<'a>(access: &'a Accesses, class: &Name) -> &'a [MethodAccess]
+pub(crate) fn methods_of<'a>(access: &'a Accesses, class: &Name) -> &'a [MethodAccess]
     ensures { result.now ≡ methods_of access.now.entries class.now }
 {
     match access.get(class) {
@@ -130,12 +131,14 @@ fn add_hidden(
     Ok(())
 }
 
-/// The methods of the app's classes in whose place one of a class further up runs.
+/// The methods of the app's classes in whose place one of a class further up runs. Want of memory where they may go
+/// through too much.
 #[tactic(auto, unfolding(crate::specs::Hidden::hidden))]
 pub fn hidden(alloc: Global, app: &App, access: &Accesses) -> Result<Vec<Triple>, Memory>
     requires { SoundApp app.now }
     ensures { IfOk result (λ v. v.items ≡ hidden app.now access.now.entries) }
 {
+    check_looks(app, access)?;
     let mut found = Vec::new(alloc);
     for class in app.classes.as_slice() {
         add_hidden(app, access, class, &mut found)?;

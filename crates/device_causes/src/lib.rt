@@ -6,6 +6,7 @@ mod clicks;
 mod hidden;
 mod interfaces;
 mod libraries;
+mod looks;
 mod packages;
 mod platform;
 mod sets;

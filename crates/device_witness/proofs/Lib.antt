@@ -1,0 +1,2 @@
+pub mod SoundPackages
+pub mod Telling

@@ -1,0 +1,2 @@
+pub mod DeviceFacts
+pub mod Packages
