@@ -25,10 +25,10 @@ unfolding packages shapes is_open class_named up click_descriptor initialiser_na
 device_is_told = record {
   sound_packages = sound_packages;
   sound_shapes = sound_shapes;
-  private = refl;
+  private_below = refl;
   other_package = refl;
   one_package = refl;
-  public = refl;
+  public_above = refl;
   of_private = refl;
   in_interface = refl;
   longest = refl;
@@ -36,7 +36,7 @@ device_is_told = record {
   put = refl;
   own_put = refl;
   clicks = refl;
-  protected = refl;
+  protected_seen = refl;
   loose = refl;
-  named = refl;
+  named_elsewhere = refl;
 }

@@ -10,7 +10,7 @@ use Rattle.outcomes.specs.declared.outcome.Cause.{Cause}
 use Rattle.outcomes.specs.declared.outcome.Cause.TheVariants.{Hidden, InterfaceCode, PlatformClass, UnlistedClass, LibraryStatic, Click, NamedClass}
 use Rattle.device_causes.specs.DeviceCauses.{device_causes}
 use Rattle.lookup_witness.specs.Shapes.{object, base_class, screen_class, worker_class, int, go, shapes}
-use Rattle.device_witness.specs.Packages.{up_class, near_class, far_class, packages, send, nothing, seen, shut, of_package, open, has, all_known, lists_of, device, strict}
+use Rattle.device_witness.specs.Packages.{up_class, near_class, far_class, packages, send, nothing, seen, shut_ones, package_ones, open_ones, has, all_known, lists_of, device, strict}
 
 -- of the app of two packages, under lists that know every class above
 abbrev pub told : Accesses → DeviceLists → List Name → List Cause
@@ -31,14 +31,14 @@ pub record DeviceIsTold : Type 0 where
   pub sound_packages : SoundApp packages
   pub sound_shapes : SoundApp shapes
   -- a private method below a public one is told, and one below another package's (else neither)
-  pub private : told (has near_class shut ∷ has up_class open ∷ []) strict [] ≡ Hidden (near_class, send, nothing) ∷ []
-  pub other_package : told (has up_class of_package ∷ has far_class open ∷ []) strict [] ≡ Hidden (far_class, send, nothing) ∷ []
+  pub private_below : told (has near_class shut_ones ∷ has up_class open_ones ∷ []) strict [] ≡ Hidden (near_class, send, nothing) ∷ []
+  pub other_package : told (has up_class package_ones ∷ has far_class open_ones ∷ []) strict [] ≡ Hidden (far_class, send, nothing) ∷ []
   -- one of the same package overrides it, and so does one below a public method (else both are told), and none overrides a private one
-  pub one_package : told (has near_class open ∷ has up_class of_package ∷ []) strict [] ≡ []
-  pub public : told (has up_class open ∷ has far_class open ∷ []) strict [] ≡ []
-  pub of_private : told (has near_class open ∷ has up_class shut ∷ []) strict [] ≡ []
+  pub one_package : told (has near_class open_ones ∷ has up_class package_ones ∷ []) strict [] ≡ []
+  pub public_above : told (has up_class open_ones ∷ has far_class open_ones ∷ []) strict [] ≡ []
+  pub of_private : told (has near_class open_ones ∷ has up_class shut_ones ∷ []) strict [] ≡ []
   -- code of an interface is told (else nothing)
-  pub in_interface : told ((up_class, record { is_interface = true; methods = open; statics = [] }) ∷ []) strict [] ≡ InterfaceCode (up_class, send, nothing) ∷ []
+  pub in_interface : told ((up_class, record { is_interface = true; methods = open_ones; statics = [] }) ∷ []) strict [] ≡ InterfaceCode (up_class, send, nothing) ∷ []
   -- of a name the longest beginning decides: that of the platform, and that of a class which is brought along (else both or neither)
   pub longest : told [] (device true (codes "La/" ∷ []) (codes "La/U" ∷ [])) [] ≡ PlatformClass near_class ∷ []
   -- a class above that the lists do not have is told once (else none, or for each class below it)
@@ -49,7 +49,7 @@ pub record DeviceIsTold : Type 0 where
   -- the click of a service is told, and that of an activity is not (else both or none)
   pub clicks : device_causes shapes taps all_known strict [] ≡ Click (worker_class, codes "tap", tapped) ∷ []
   -- who sees a protected method sees it in other packages too (else it would count as one of its package)
-  pub protected : is_open 4 ≡ true
+  pub protected_seen : is_open 4 ≡ true
   -- lists that are not strict tell nothing of all that, and any lists tell of a class of the app that is named elsewhere
-  pub loose : told (has near_class shut ∷ has up_class open ∷ []) (device false [] []) [] ≡ []
-  pub named : told [] (device false [] []) (codes "Lno/Such;" ∷ up_class ∷ up_class ∷ []) ≡ NamedClass up_class ∷ []
+  pub loose : told (has near_class shut_ones ∷ has up_class open_ones ∷ []) (device false [] []) [] ≡ []
+  pub named_elsewhere : told [] (device false [] []) (codes "Lno/Such;" ∷ up_class ∷ up_class ∷ []) ≡ NamedClass up_class ∷ []

@@ -46,14 +46,14 @@ nothing = codes "()V"
 abbrev pub seen : Name → Name → Bool → Bool → MethodAccess
 seen name descriptor is_private is_open = record { name = name; descriptor = descriptor; is_static = false; is_private = is_private; is_open = is_open }
 
-abbrev pub shut : List MethodAccess
-shut = seen send nothing true false ∷ []
+abbrev pub shut_ones : List MethodAccess
+shut_ones = seen send nothing true false ∷ []
 
-abbrev pub of_package : List MethodAccess
-of_package = seen send nothing false false ∷ []
+abbrev pub package_ones : List MethodAccess
+package_ones = seen send nothing false false ∷ []
 
-abbrev pub open : List MethodAccess
-open = seen send nothing false true ∷ []
+abbrev pub open_ones : List MethodAccess
+open_ones = seen send nothing false true ∷ []
 
 abbrev pub has : Name → List MethodAccess → Name × ClassAccess
 has class methods = (class, record { is_interface = false; methods = methods; statics = [] })
