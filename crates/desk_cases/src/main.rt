@@ -20,19 +20,36 @@ fn all(rt: &HostRuntime) -> io::Result<()> {
     databases::all(rt)
 }
 
-fn main(rt: HostRuntime) -> io::Result<()> {
-    let mut words = env::args(&rt)?.skip(1);
-    match (words.next(), words.next(), words.next()) {
-        (Some(what), None, None) if what.as_str() == "times" => commands::times(&rt),
-        (Some(what), Some(file), None) if what.as_str() == "commands" => {
-            commands::replies_in(&rt, file.as_str())
-        }
-        (Some(what), Some(file), None) if what.as_str() == "connections" => {
-            connections::replies_in(&rt, file.as_str())
-        }
-        (Some(what), Some(file), Some(_)) if what.as_str() == "connections" => {
-            connections::replies_in_turn(&rt, file.as_str())
-        }
-        _ => all(&rt),
+/// The words behind the program's name.
+fn words_of(rt: &HostRuntime) -> io::Result<Vec<String>> {
+    let mut words = Vec::new(rt.alloc());
+    for word in env::args(rt)?.skip(1) {
+        words.push(word)?;
     }
+    Ok(words)
+}
+
+/// The word at the place, and none where there are fewer.
+fn word_at(words: &[String], place: usize) -> &str {
+    match words.get(place) {
+        Some(word) => word.as_str(),
+        None => "",
+    }
+}
+
+/// Runs what the words ask for, and all where they ask for nothing of its own.
+fn run(rt: &HostRuntime, words: &[String]) -> io::Result<()> {
+    let file = word_at(words, 1);
+    match (word_at(words, 0), words.len()) {
+        ("times", 1) => commands::times(rt),
+        ("commands", 2) => commands::replies_in(rt, file),
+        ("connections", 2) => connections::replies_in(rt, file),
+        ("connections", 3) => connections::replies_in_turn(rt, file),
+        _ => all(rt),
+    }
+}
+
+fn main(rt: HostRuntime) -> io::Result<()> {
+    let words = words_of(&rt)?;
+    run(&rt, &words)
 }
