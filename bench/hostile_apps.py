@@ -228,7 +228,7 @@ CASES = {
     'listened_chain': (20_000, lambda n: listened(n, is_chain=True)),
     'hidden_chain': (30_000, hidden_chain),
     'hidden_wide': (30_000, hidden_wide),
-    'unlisted': (30_000, unlisted),
+    'unlisted': (15_000, unlisted),
     'library_statics': (30_000, library_statics),
 }
 
