@@ -220,7 +220,7 @@ def made(apps: list[App], words: argparse.Namespace, judges: str) -> str:
     lines += ["", ", ".join(f"{count} {name}" for name, count in outcomes.most_common()) + ".", "",
               f"### Undecided, with at most {FEW} causes", "", *(few(apps) or ["None."])]
     said = [f"- `{app.name}`: {'; '.join(plain(line) for line in app.said)}" for app in apps if app.dex and app.said]
-    lines += ["", "### What `tools/unpack` could not carry", "", *(said or ["Nothing."])]
+    lines += ["", "### What `tools/unpack` said", "", *(said or ["Nothing."])]
     hidden = [f"- `{app.name}`: {'; '.join(app.not_shown)}" for app in apps if app.not_shown]
     lines += ["", "### What `tools/explain` and `tools/page` could not show", "", *(hidden or ["Nothing."])]
     return "\n".join(lines)
