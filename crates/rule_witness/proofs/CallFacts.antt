@@ -74,7 +74,7 @@ unfolding calls_app site_class
 the_class = record { is_class = refl }
 
 -- the one initialiser before the first call is the class's own
-own : Initialises calls_app 2 0 0
+pub own : Initialises calls_app 2 0 0
 unfolding calls_app step_at initialisers class_initialised initialisers_from initialiser_of initialiser_name initialiser_proto up method_of
 own = record { act = Call Static pass (1 ∷ []); at = record { step = _; there = refl; same = refl }; is_one = inl refl }
 

@@ -39,8 +39,8 @@ started_at = record { component = record { kind = Activity; class = main_class }
 abbrev activity : Class
 activity = record { name = main_class; superclass = Some activity_class; interfaces = []; is_interface = false; outer = activity_class ∷ []; bare = [] }
 
-abbrev sources : List (ℕ × ℕ)
-sources = (0, 0) ∷ (1, 0) ∷ []
+abbrev pub sources : List (ℕ × ℕ)
+sources = (0, 1) ∷ (1, 0) ∷ []
 
 callback_at : CallbackAt events_app events_lists 1 0 sources 2
 unfolding events_app events_lists class_named find_body method_of up
@@ -59,7 +59,7 @@ unfolding events_app initialisers_from initialiser_of initialiser_name initialis
 initialiser_at = record { component = record { kind = Activity; class = main_class }; there = record { there = refl }; is_one = inl refl }
 
 -- The bodies and their registers: of the receiver 1, and of the parameter 2.
-abbrev body_of : MethodRef → Method
+abbrev pub body_of : MethodRef → Method
 body_of at = own_method at false 3 2 only_ends
 
 has_create : HasCode events_app 1 (body_of on_create)

@@ -89,11 +89,12 @@ only_ends = does 0 (Return None) [] ∷ []
 abbrev pub initialiser : MethodRef
 initialiser = ref main_class (codes "<clinit>") [] void
 
+-- (its initialiser is not static, so that it has a register, in which an argument could come)
 unfoldable pub calls_app : App
 calls_app = record {
   classes = record { name = main_class; superclass = Some activity_class; interfaces = []; is_interface = false; outer = box_class ∷ activity_class ∷ []; bare = [] } ∷ [];
   methods =
-      method_of initialiser true 0 0 only_ends
+      method_of initialiser false 1 1 only_ends
       ∷ record { at = jni; is_static = true; is_native = true; registers = 0; ins = 0; steps = [] }
       ∷ method_of (ref main_class (codes "onCreate") (codes "Landroid/os/Bundle;" ∷ []) void) false 5 2 (
       tries 0 (Call Static pass (1 ∷ [])) (1 ∷ [])

@@ -62,15 +62,15 @@ events_app = record {
   layout_classes = [];
 }
 
--- one callback, whose receiver and parameter come labelled
+-- one callback, whose receiver and parameter come labelled, each by a category of its own
 unfoldable pub events_lists : Lists
 events_lists = record {
   rows = 1000;
-  categories = codes "device_id" ∷ [];
+  categories = codes "device_id" ∷ codes "location" ∷ [];
   classes = [];
   shared = [];
   methods = [];
-  callbacks = record { class = activity_class; name = on_box.name; proto = on_box.proto; sources = (0, 0) ∷ (1, 0) ∷ [] } ∷ [];
+  callbacks = record { class = activity_class; name = on_box.name; proto = on_box.proto; sources = (0, 1) ∷ (1, 0) ∷ [] } ∷ [];
 }
 
 abbrev pub body_in : Ctx → ℕ → Activation
@@ -119,7 +119,7 @@ pub record EventRulesGive (p : Path) (l : ℕ) : Type 0 where
   pub callback_begins : Gives 42 (Live 1 3 ∷ []) (Reached at_callback)
   pub parameter_label : Gives 42 (Live 1 3 ∷ []) (Taint at_callback 2 empty_path 0)
   pub parameter_element : Gives 42 (Live 1 3 ∷ []) (Taint at_callback 2 elements 0)
-  pub receiver_element : Gives 42 (Live 1 3 ∷ []) (Taint at_callback 1 elements 0)
+  pub receiver_element : Gives 42 (Live 1 3 ∷ []) (Taint at_callback 1 elements 1)
   pub click_begins : Gives 42 (Live 1 3 ∷ []) (Reached at_click)
   pub click_receiver : Gives 42 (Live 1 3 ∷ []) (Points at_click 1 (Component 1))
   pub click_receiver_label : Gives 42 (CompTaint 1 3 p l ∷ []) (Taint at_click 1 p l)

@@ -12,18 +12,21 @@ use Rattle.fact_rows.specs.declared.site.Site.{Site}
 use Rattle.fact_rows.specs.declared.site.Site.TheVariants.{At, Param}
 use Rattle.fact_rows.specs.declared.row.Row.{Row}
 use Rattle.fact_rows.specs.declared.row.Row.TheVariants.{Points, Taint, Calls, Live}
-use Rattle.flow_rules.specs.Nodes.{EventRegister, InitialisedBy}
+use Rattle.flow_rules.specs.Nodes.{ArgumentRegister, EventRegister, InitialisedBy}
 use Rattle.flow_rules.specs.Sites.{site_class}
 use Rattle.flow_rules.specs.CallRules.{CallRule}
 use Rattle.flow_rules.specs.EventRules.{EventRule, Begins}
-use Rattle.rule_witness.specs.CallFacts.{calls_app, calls_lists, box_class, call_at, turns}
-use Rattle.rule_witness.specs.EventFacts.{events_app, events_lists}
+use Rattle.rule_witness.specs.CallFacts.{calls_app, calls_lists, box_class, call_at, turns, initialises}
+use Rattle.rule_witness.specs.EventFacts.{events_app, events_lists, at_callback}
 
--- An initialiser that runs before a call is passed none of its arguments, and a body that hangs on the site of its receiver is
--- not passed the receiver's sites a second time.
+-- An initialiser that runs before a call is passed none of its arguments, also one with a register for the argument in register 1;
+-- and a body that hangs on the site of its receiver is not passed the receiver's sites a second time.
 pub record CallsWithhold (app : App) (lists : Lists) (n : Node) (b : Activation) (c : Ctx) (x : ℕ) (s : Site) (p : Path) (l : ℕ) (row : Row) : Type 0 where
   pub site_of_initialiser : InitialisedBy app n b → CallRule app lists 24 (Calls n b ∷ Points n x s ∷ []) row → ⊥
   pub label_of_initialiser : InitialisedBy app n b → CallRule app lists 24 (Calls n b ∷ Taint n x p l ∷ []) row → ⊥
+  pub has_register : ArgumentRegister calls_app (initialises c).method 0 0
+  pub no_site_to_initialiser : CallRule calls_app calls_lists 24 (Calls (call_at c 0) (initialises c) ∷ Points (call_at c 0) 1 s ∷ []) row → ⊥
+  pub no_label_to_initialiser : CallRule calls_app calls_lists 24 (Calls (call_at c 0) (initialises c) ∷ Taint (call_at c 0) 1 p l ∷ []) row → ⊥
   pub site_of_receiver : CallRule calls_app calls_lists 24 (Calls (call_at c 1) (turns c) ∷ Points (call_at c 1) 1 s ∷ []) row → ⊥
 
 abbrev pub CallRulesWithhold : Type 0
@@ -35,10 +38,12 @@ CallRulesWithhold =
 abbrev pub IsBySource : App → ℕ → List (ℕ × ℕ) → ℕ → ℕ → Type 0
 IsBySource app body sources z l = (i : ℕ) × (EventRegister app body i z × In (i, l) sources)
 
--- No callback comes to a component that is not there, and a parameter comes labelled by a source of its own position alone.
+-- No callback comes to a component that is not there, and a parameter comes labelled by a source of its own position alone: what
+-- the receiver comes labelled with does not come with the parameter.
 pub record EventsWithhold (app : App) (lists : Lists) (k : Ctx) (c body : ℕ) (sources : List (ℕ × ℕ)) (n : Node) (z l : ℕ) (p : Path) (row : Row) : Type 0 where
   pub absent : EventRule app lists 42 (Live c 0 ∷ []) row → ⊥
   pub by_source : Begins app k body sources (Taint n z p l) → IsBySource app body sources z l
+  pub not_of_receiver : EventRule events_app events_lists 42 (Live 1 3 ∷ []) (Taint at_callback 2 p 1) → ⊥
 
 abbrev pub EventRulesWithhold : Type 0
 EventRulesWithhold =
