@@ -1,4 +1,5 @@
 pub mod Answering
+pub mod Cases
 pub mod Requesting
 pub mod Telling
 pub mod Trying

@@ -1,5 +1,5 @@
 -- How tries end, by what was told before and after.
-use Rattle.std.proofs.Common.{◌≡◌, ℕ, ◌≤◌, ◌⊎◌, true, false, List, [], ◌∷◌, length, Option, Some, Result, Ok, Err, refl, ap, sym, subst, ◌∙◌, arith, inl, inr}
+use Rattle.std.proofs.Common.{◌≡◌, ℕ, zero, suc, ◌≤◌, ◌⊎◌, true, false, List, [], ◌∷◌, ◌++◌, length, take, Option, Some, Result, Ok, Err, refl, ap, sym, subst, ◌∙◌, arith, inl, inr}
 use Rattle.std.proofs.lemmas.List.Elements.{All-from_recursion}
 use Rattle.std.specs.Prelude.{All}
 use Rattle.desk_links.specs.Links.{Told}
@@ -7,14 +7,16 @@ use Rattle.client_replies.specs.declared.answered.Answered.{Answered}
 use Rattle.client_replies.specs.declared.answered.ReplyFault.{ReplyFault}
 use Rattle.client_replies.specs.declared.answered.ReplyFault.TheVariants.{Ended, ReadFault, BadReply, TooLong, Memory}
 use Rattle.client_replies.specs.Laws.{IsOfBytes}
-use Rattle.client_replies.specs.Replies.{Answers}
+use Rattle.client_replies.specs.Replies.{Answers, IsReply}
+use Rattle.desk_http.specs.Heads.{ends_empty_line}
 use Rattle.desk_client.specs.declared.one_try.TryFault.{TryFault}
 use Rattle.desk_client.specs.declared.one_try.TryFault.TheVariants.{NotDialled, NotWritten, NotAnswered}
 use Rattle.desk_client.specs.declared.submission.SubmitFault.{SubmitFault}
 use Rattle.desk_client.specs.declared.submission.SubmitFault.TheVariants.{NoReply}
+use Rattle.desk_client.specs.declared.submission.SubmitFault.TheVariants as submits
 use Rattle.desk_client.specs.Tries.{Moment, is_final, IsInVain, Ends, Runs, none_left, ended, again}
 use Rattle.client_witness.specs.Replies.{created_bytes}
-use Rattle.client_witness.specs.Tries.{TriesTell, calling, written_by, conflict, unavailable}
+use Rattle.client_witness.specs.Tries.{TriesTell, IsOfSecond, calling, written_in, written_by, conflict, unavailable}
 use Rattle.client_witness.proofs.Answering.{HasStatus, is_created, created_status, is_conflict, is_unavailable}
 use Rattle.client_witness.proofs.Trying.{Gave, Makes, makes, ran_before, not_by_try, Went, went, First, first}
 
@@ -186,6 +188,62 @@ last : (request : List ℕ) (b : Moment) (reply : Answered)
     → Runs request 2 (calling busy_then_created) (Ok reply) b → b.faults ≡ 0 → reply.status ≡ 201
 last request b reply run none = last_first request b reply (first request 2 (calling busy_then_created) b (Ok reply) (omega arith) run) none
 
+-- where no byte comes there is no reply
+ends_at_once : (n : ℕ) → n ≤ 0 → ends_empty_line (take n []) ≡ true → ⊥
+unfolding ends_empty_line
+ends_at_once zero within ends = cc
+ends_at_once (suc n) within ends = absurd (omega (arith, within))
+
+no_reply : (answer : Answered) → IsReply [] answer → ⊥
+no_reply answer h = ends_at_once h.n h.is_head.ends.within h.is_head.ends.ends
+
+-- a try that ends there has run out of memory
+ends_empty : (request : List ℕ) (b : Moment) (r : Result Answered TryFault) (end : Result Answered SubmitFault) → Gave [] r → Ends r end → IsOfSecond request b end
+ends_empty request b (Ok answer) end gave ends = absurd (no_reply answer gave)
+ends_empty request b (Err NotDialled) end gave ends = absurd ends
+ends_empty request b (Err NotWritten) end gave ends = absurd ends
+ends_empty request b (Err (NotAnswered Ended)) end gave ends = absurd ends
+ends_empty request b (Err (NotAnswered ReadFault)) end gave ends = absurd ends
+ends_empty request b (Err (NotAnswered BadReply)) end gave ends = absurd ends
+ends_empty request b (Err (NotAnswered TooLong)) end gave ends = absurd ends
+ends_empty request b (Err (NotAnswered Memory)) end gave ends = subst (IsOfSecond request b) (sym ends) tt
+
+of_second : (request : List ℕ) (b : Moment) (r : Result Answered TryFault) (end : Result Answered SubmitFault) → Ends r end → EndsFinal 201 end
+    → written_by b.told ≡ request ∷ request ∷ [] → IsOfSecond request b end
+of_second request b r (Ok reply) ends is written = (is, written)
+of_second request b r (Err submits.NoReply) ends is written = not_by_try r (Err NoReply) ends refl
+of_second request b r (Err submits.Memory) ends is written = tt
+
+-- the second try, over what the first left and wrote
+again_second : (request : List ℕ) (m : ℕ) (a b : Moment) (t : Told) (end : Result Answered SubmitFault) → a.told ≡ Some t → t.left ≡ created_bytes ∷ [] → written_in t ≡ request ∷ []
+    → First request m a end b → b.faults ≡ 0 → IsOfSecond request b end
+again_second request m a b t end told left wrote (inl h) none =
+    let one = makes request t a b h.0 told none h.1 in
+    let final = (ends_with created_bytes 201 created_is h.0 end (gave_first request created_bytes [] t b h.0 left one) h.2).0 in
+    of_second request b h.0 end h.2 final (ap written_by one.told ∙ one.written ∙ ap (λ (before : List (List ℕ)). before ++ request ∷ []) wrote)
+again_second request m a b t end told left wrote (inr h) none =
+    let before = ran_before request h.0 h.1 b end none h.6 in
+    let one = makes request t a h.1 h.2 told before h.4 in
+    absurd (not_in_vain created_bytes 201 created_is refl h.2 (gave_first request created_bytes [] t h.1 h.2 left one) h.5)
+
+abbrev nothing_then_created : List (List ℕ)
+nothing_then_created = [] ∷ created_bytes ∷ []
+
+again_first : (request : List ℕ) (b : Moment) (end : Result Answered SubmitFault) → First request 2 (calling nothing_then_created) end b → b.faults ≡ 0 → IsOfSecond request b end
+again_first request b end (inl h) none =
+    let one = makes request (start nothing_then_created) (calling nothing_then_created) b h.0 refl none h.1 in
+    ends_empty request b h.0 end (gave_first request [] (created_bytes ∷ []) (start nothing_then_created) b h.0 refl one) h.2
+again_first request b end (inr h) none =
+    let before = ran_before request h.0 h.1 b end none h.6 in
+    let one = makes request (start nothing_then_created) (calling nothing_then_created) h.1 h.2 refl before h.4 in
+    let left : one.u.left ≡ created_bytes ∷ [] = (reply_is [] one.reply (created_bytes ∷ []) one.u.left one.first).1 in
+    let count = h.3 in
+    again_second request h.0 h.1 b one.u end one.told left one.written (first request h.0 h.1 b end (omega (arith, count)) h.6) none
+
+again_tried : (request : List ℕ) (b : Moment) (end : Result Answered SubmitFault)
+    → Runs request 2 (calling nothing_then_created) end b → b.faults ≡ 0 → IsOfSecond request b end
+again_tried request b end run none = again_first request b end (first request 2 (calling nothing_then_created) b end (omega arith) run) none
+
 pub tries_tell : TriesTell
 tries_tell = record {
   whole = whole;
@@ -195,4 +253,5 @@ tries_tell = record {
   not_final = not_final;
   refused = refused;
   last = last;
+  again = again_tried;
 }

@@ -1,3 +1,4 @@
+pub mod OneCase
 pub mod Replies
 pub mod Requests
 pub mod Tries

@@ -4,7 +4,7 @@ use Rattle.httparse.specs.Grammar.{print_response}
 use Rattle.desk_links.specs.Links.{Talk, Told, ended_with}
 use Rattle.client_replies.specs.declared.answered.Answered.{Answered}
 use Rattle.desk_client.specs.declared.submission.SubmitFault.{SubmitFault}
-use Rattle.desk_client.specs.declared.submission.SubmitFault.TheVariants.{NoReply}
+use Rattle.desk_client.specs.declared.submission.SubmitFault.TheVariants.{NoReply, Memory}
 use Rattle.desk_client.specs.Tries.{Moment, Runs}
 use Rattle.client_witness.specs.Replies.{replying, length_line, created_bytes}
 
@@ -26,6 +26,12 @@ conflict = print_response (replying (codes "409") (length_line (codes "0") ∷ [
 
 abbrev pub unavailable : List ℕ
 unavailable = print_response (replying (codes "503") (length_line (codes "0") ∷ []))
+
+-- the reply is that of a second connection, and in both the whole request was written; or memory ran out
+abbrev pub IsOfSecond : List ℕ → Moment → Result Answered SubmitFault → Type 0
+IsOfSecond request b (Ok reply) = (reply.status ≡ 201) × (written_by b.told ≡ request ∷ request ∷ [])
+IsOfSecond request b (Err NoReply) = ⊥
+IsOfSecond request b (Err Memory) = Unit {0}
 
 pub record TriesTell : Type 0 where
   -- where no call failed the whole request was written in each connection (else its last byte would be missing, or a second try
@@ -49,3 +55,7 @@ pub record TriesTell : Type 0 where
   -- the reply is that of the last try (else that of the first)
   pub last : (request : List ℕ) (b : Moment) (reply : Answered)
       → Runs request 2 (calling (unavailable ∷ created_bytes ∷ [])) (Ok reply) b → b.faults ≡ 0 → reply.status ≡ 201
+  -- where the first connection ended without a byte the same is sent again, and the reply to that is the one (else there would be
+  -- none, or the desk would get two submissions)
+  pub again : (request : List ℕ) (b : Moment) (r : Result Answered SubmitFault)
+      → Runs request 2 (calling ([] ∷ created_bytes ∷ [])) r b → b.faults ≡ 0 → IsOfSecond request b r
