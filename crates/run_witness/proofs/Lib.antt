@@ -3,3 +3,4 @@ pub mod Connecting
 pub mod Judging
 pub mod Serving
 pub mod Vetting
+pub mod Submitting

@@ -3,3 +3,4 @@ pub mod Connections
 pub mod Judgements
 pub mod Servings
 pub mod Vettings
+pub mod Submissions

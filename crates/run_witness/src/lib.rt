@@ -8,6 +8,7 @@ ghost use Rattle.run_witness.specs.Judgements.{JudgementsTell};
 ghost use Rattle.run_witness.specs.Servings.{ServingsEnd};
 ghost use Rattle.run_witness.specs.Vettings.{VettingsEnd};
 
+ghost use Rattle.run_witness.specs.Submissions.{SubmissionsEnd};
 /// How a run of `serve` does not end.
 pub fn the_servings_end()
     ensures { ServingsEnd }
@@ -15,6 +16,11 @@ pub fn the_servings_end()
 
 /// How a run that vets does not end.
 pub fn the_vettings_end()
+/// How a run of `submit` does not end, and what ends with status 10.
+pub fn the_submissions_end()
+    ensures { SubmissionsEnd }
+{}
+
     ensures { VettingsEnd }
 {}
 
