@@ -12,6 +12,7 @@ use Rattle.office_forms.specs.Layouts.{layouts_form}
 use Rattle.office_forms.specs.Declaration.{declaration_form}
 use Rattle.store_lists.specs.Lists.{lists_form}
 use Rattle.office_forms.specs.Office.{office_form}
+use Rattle.client_form.specs.Form.{IsClient, FirstFault as FirstClientFault}
 use Rattle.one_answer.specs.ExactlyOne.{ExactlyOne}
 
 -- the code of a method, for a file with so many strings, types, fields and methods
@@ -28,3 +29,7 @@ pub record FormsHaveOneAnswer : Type 0 where
   pub declaration : FormHasOneAnswer declaration_form
   pub lists : FormHasOneAnswer lists_form
   pub office : FormHasOneAnswer office_form
+
+-- a developer's file, whatever the text
+abbrev pub ClientHasOneAnswer : Type 0
+ClientHasOneAnswer = (text : List ℕ) → ExactlyOne (IsClient text) (FirstClientFault text)

@@ -1,4 +1,4 @@
-ghost use Rattle.one_answer.specs.Answers.{DecodingHasOneAnswer, FormsHaveOneAnswer};
+ghost use Rattle.one_answer.specs.Answers.{ClientHasOneAnswer, DecodingHasOneAnswer, FormsHaveOneAnswer};
 
 use dex_code::code_laws;
 use office_forms::one_form_or_fault;
@@ -20,3 +20,9 @@ pub fn forms_have_one_answer()
 {
     one_form_or_fault();
 }
+
+/// Whatever the text: it is one developer's file, or one fault is that of the first test that fails, and not both. So
+/// `read_client` gives this one answer, unless memory runs out.
+pub fn one_client_or_fault()
+    ensures { ClientHasOneAnswer }
+{}

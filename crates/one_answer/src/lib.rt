@@ -4,4 +4,4 @@
 
 mod laws;
 
-pub use laws::{decoding_has_one_answer, forms_have_one_answer};
+pub use laws::{decoding_has_one_answer, forms_have_one_answer, one_client_or_fault};
