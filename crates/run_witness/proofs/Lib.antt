@@ -1,6 +1,7 @@
 pub mod Commanding
 pub mod Connecting
 pub mod Judging
+pub mod Planning
 pub mod Serving
-pub mod Vetting
 pub mod Submitting
+pub mod Vetting

@@ -1,6 +1,7 @@
 pub mod Commands
 pub mod Connections
 pub mod Judgements
+pub mod Plans
 pub mod Servings
-pub mod Vettings
 pub mod Submissions
+pub mod Vettings

@@ -1,26 +1,28 @@
-//! Small facts that show that the definitions by which runs and connections end, and by which a desk judges and carries
-//! commands out, mean what they should. Each is a theorem over the definitions alone, so that a slip in a definition shows.
+//! Small facts that show that the definitions by which runs and connections end, and by which a desk plans, judges and
+//! carries commands out, mean what they should. Each is a theorem over the definitions alone, so that a slip in a
+//! definition shows.
 #![tactic(auto)]
 
 ghost use Rattle.run_witness.specs.Commands.{CommandsTell};
 ghost use Rattle.run_witness.specs.Connections.{ConnectionsEnd};
 ghost use Rattle.run_witness.specs.Judgements.{JudgementsTell};
+ghost use Rattle.run_witness.specs.Plans.{PlansTell};
 ghost use Rattle.run_witness.specs.Servings.{ServingsEnd};
+ghost use Rattle.run_witness.specs.Submissions.{SubmissionsEnd};
 ghost use Rattle.run_witness.specs.Vettings.{VettingsEnd};
 
-ghost use Rattle.run_witness.specs.Submissions.{SubmissionsEnd};
 /// How a run of `serve` does not end.
 pub fn the_servings_end()
     ensures { ServingsEnd }
 {}
 
-/// How a run that vets does not end.
-pub fn the_vettings_end()
 /// How a run of `submit` does not end, and what ends with status 10.
 pub fn the_submissions_end()
     ensures { SubmissionsEnd }
 {}
 
+/// How a run that vets does not end.
+pub fn the_vettings_end()
     ensures { VettingsEnd }
 {}
 
@@ -32,6 +34,11 @@ pub fn the_judgements_tell()
 /// What carrying a command out does not give.
 pub fn the_commands_tell()
     ensures { CommandsTell }
+{}
+
+/// What a command is refused for, by what the cases show for it; and that the same content is the same bytes.
+pub fn the_plans_tell()
+    ensures { PlansTell }
 {}
 
 /// How a connection does not end, and connections over a door.
