@@ -7,9 +7,13 @@ ghost use Rattle.run_witness.specs.Commands.{CommandsTell};
 ghost use Rattle.run_witness.specs.Connections.{ConnectionsEnd};
 ghost use Rattle.run_witness.specs.Judgements.{JudgementsTell};
 ghost use Rattle.run_witness.specs.Plans.{PlansTell};
+ghost use Rattle.run_witness.specs.Postings.{OnePosting};
 ghost use Rattle.run_witness.specs.Servings.{ServingsEnd};
 ghost use Rattle.run_witness.specs.Submissions.{SubmissionsEnd};
 ghost use Rattle.run_witness.specs.Vettings.{VettingsEnd};
+
+use office_forms::one_form_or_fault;
+use one_answer::one_client_or_fault;
 
 /// How a run of `serve` does not end.
 pub fn the_servings_end()
@@ -20,6 +24,14 @@ pub fn the_servings_end()
 pub fn the_submissions_end()
     ensures { SubmissionsEnd }
 {}
+
+/// Where its files are told, a folder gives one client with one app to be sent, or one refusal.
+pub fn a_folder_gives_one_posting()
+    ensures { OnePosting }
+{
+    one_client_or_fault();
+    one_form_or_fault();
+}
 
 /// How a run that vets does not end.
 pub fn the_vettings_end()
