@@ -1,5 +1,5 @@
 -- Which handed objects come back to which events, as a list of conclusions.
-use Rattle.std.specs.Prelude.{◌&&◌, ◌+◌, ◌-◌, ℕ, Bool, false, List, [], ◌∷◌, ◌++◌, Option, Some, None, cond, flat_map, slice_get}
+use Rattle.std.specs.Prelude.{◌≡◌, ◌<◌, ◌&&◌, ◌+◌, ◌-◌, ℕ, Bool, false, List, [], ◌∷◌, ◌++◌, Option, Some, None, cond, flat_map, slice_get}
 use Rattle.app_machine.specs.declared.method.Method.{Method}
 use Rattle.app_machine.specs.declared.lists.Lists.{Lists}
 use Rattle.app_machine.specs.declared.app.App.{App}
@@ -35,6 +35,10 @@ type_at params index = type_of_position params (slice_get (layout params) index)
 abbrev pub takes : App → Lists → Name → Option Name → Bool
 takes app lists class None = false
 takes app lists class (Some type) = is_reference type && is_below app lists class type
+
+-- no parameter of the method may be an object of the class
+pub record TakesNone (app : App) (lists : Lists) (class : Name) (method : ℕ) : Type 0 where
+  pub at : (m : Method) → slice_get app.methods method ≡ Some m → (index : ℕ) → index < m.ins → takes app lists class (type_at m.at.proto.params index) ≡ false
 
 abbrev pub premises_as : Known → Activation → Site → Premises
 premises_as There b s = of_two (Reached (entry b)) (Handed s)

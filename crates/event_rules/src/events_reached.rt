@@ -4,7 +4,7 @@ ghost use Rattle.std.specs.Option.{option_copied};
 ghost use Rattle.app_machine.specs.Sound.{SoundApp};
 ghost use Rattle.event_rules.specs.GivenBack.{any_handed, entry_gives, entry_takes, handed_back, is_handed, label_back, label_handed, label_takes, pair_gives};
 
-use crate::given_back::{Back, give_back};
+use crate::given_back::{Back, give_back, takes_nothing};
 use crate::handed::HandedObject;
 use crate::known::Known;
 use event_index::EventIndex;
@@ -73,6 +73,9 @@ fn pair<F: Facts, S: Sink>(
     ensures { OnOk result (out.new ≡ fold S.then out.old (pair_gives objects.now.index.now.0 objects.now.index.now.1
         (F.hits facts.now) objects.now.site objects.now.class.now by)) }
 {
+    if takes_nothing(objects.index.app(), by.method) {
+        return Ok(());
+    }
     give_back(&objects.back(Known::There, by), out)?;
     for_each_hit(
         facts,
@@ -120,6 +123,9 @@ pub fn reach_event<F: Facts, S: Sink>(
     requires { SoundApp index.now.0 }
     ensures { OnOk result (out.new ≡ fold S.then out.old (entry_gives index.now.0 index.now.1 (F.hits facts.now) by)) }
 {
+    if takes_nothing(index.app(), by.method) {
+        return Ok(());
+    }
     for_each_hit(facts, &Key::AnyHanded, &ToEvent { facts, index, by }, out)
 }
 

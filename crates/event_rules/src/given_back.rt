@@ -1,13 +1,15 @@
 //! Rule 45: handed objects come back as parameters of events.
-ghost use Rattle.std.specs.Prelude.{◌≡◌, ◌+◌, ◌-◌, ◌<◌, ◌^◌, OnOk, fold};
+ghost use Rattle.std.specs.Prelude.{◌≡◌, ◌+◌, ◌-◌, ◌<◌, ◌^◌, ℕ, IsTrue, OnOk, Some, false, fold, slice_get};
 ghost use Rattle.std.specs.Option.{option_copied};
+ghost use Rattle.app_machine.specs.declared.lists.Lists.{Lists};
+ghost use Rattle.app_machine.specs.Names.{Name as NameOf, is_reference};
 ghost use Rattle.app_machine.specs.Sound.{SoundApp};
 ghost use Rattle.rule_ground.specs.Below.{for_below};
-ghost use Rattle.event_rules.specs.GivenBack.{back, back_index, back_premises, back_register, takes, type_at};
+ghost use Rattle.event_rules.specs.GivenBack.{TakesNone, back, back_index, back_premises, back_register, takes, type_at};
 
 use crate::handed::HandedObject;
 use crate::known::Known;
-use app_machine::Method;
+use app_machine::{App, Method};
 use app_parts::{is_reference, parameter_type, position_at};
 use begin_rules::first_argument;
 use event_index::EventIndex;
@@ -121,5 +123,29 @@ pub fn give_back<S: Sink>(with: &Back<'_>, out: &mut S) -> Result<(), S::Refusal
                 to_indices(with, method, out)
             }
         }
+    }
+}
+
+/// Whether none of the parameters is a reference.
+#[tactic(auto, using(crate::proofs::NothingBack::no_references, crate::proofs::NothingBack::one_more_kind, crate::proofs::NothingBack::all_kinds))]
+fn has_no_references(params: &[Name]) -> bool
+    ensures { IsTrue result → (i : ℕ) (type : NameOf) → slice_get params.now i ≡ Some type → is_reference type ≡ false }
+{
+    for kind in params {
+        if is_reference(kind) {
+            return false;
+        }
+    }
+    true
+}
+
+/// Whether the method takes no object, of whatever class.
+#[tactic(auto, using(crate::proofs::NothingBack::takes_none, crate::proofs::NothingBack::no_method))]
+pub fn takes_nothing(app: &App, method: u32) -> bool
+    ensures { IsTrue result → (lists : Lists) (class : NameOf) → TakesNone app.now lists class method }
+{
+    match app.methods.get(method as usize) {
+        Some(method) => has_no_references(method.at.proto.params.as_slice()),
+        None => true,
     }
 }
