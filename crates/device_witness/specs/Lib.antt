@@ -1,2 +1,3 @@
 pub mod DeviceFacts
+pub mod InOrder
 pub mod Packages
