@@ -210,8 +210,7 @@ def made(apps: list[App], words: argparse.Namespace, judges: str) -> str:
     by = {"proved": f"the proved program with {counted(words.workers, 'worker')}; time and memory are those of `check`",
           "unproved": "the unproved program, in one run of `certify`; its time and memory say little of the proved "
                       "one's",
-          "another": "a native program of the same analysis, unproved (`SPEED.md`); time and memory are those of its "
-                     "`check`"}
+          "another": "another program, named by `VET`; time and memory are those of its `check`"}
     lines = [f"{counted(len(apps), 'app')}, judged by {by[judges]}. Time is by the clock, in brackets that of the "
              f"processors. An app was stopped after {words.limit:.0f} s.", "",
              f"| {' | '.join(HEADS)} |", "|---" * len(HEADS) + "|"]
