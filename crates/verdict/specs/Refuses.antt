@@ -6,7 +6,6 @@ use Rattle.dex_tables.specs.declared.fault.Fault.{Fault}
 use Rattle.dex_reader.specs.Dex.{IsDex}
 use Rattle.dex_reader.specs.Told.{shown}
 use Rattle.dex_reader.specs.Whole.{FirstDexFault}
-use Rattle.app_machine.specs.declared.app.App.{App}
 use Rattle.app_machine.specs.declared.papers.Layouts.{Layouts}
 use Rattle.app_machine.specs.declared.papers.Declaration.{Declaration}
 use Rattle.app_link.specs.declared.linking.LinkFault.{LinkFault}

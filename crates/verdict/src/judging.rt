@@ -19,7 +19,7 @@ ghost use Rattle.verdict.specs.Tells.{IsFollowed, TellsAll, TellsOfApp};
 ghost use Rattle.verdict.specs.Verdict.{ComesTo, Judgement, IsSafeApp, judged_by};
 
 use crate::laws::lower_laws;
-use crate::linking::{Linked, linked_parts};
+use crate::linking::{Linked, give_back, linked_parts};
 use crate::papers::Halt;
 use crate::{Cause, Judged, Outcome, Parts};
 use app_flow::{Flow, FlowRows, flow_of};
@@ -210,6 +210,25 @@ pub fn judge_linked<T: Threads + Wait + Sync, L: Lookout>(
     }
 }
 
+/// The same of an app that nothing else is asked about.
+fn judged_once<T: Threads + Wait + Sync, L: Lookout>(
+    alloc: Global,
+    linked: Linked,
+    crew: &Crew<'_, T, L>,
+) -> Result<Judged, Memory>
+    requires sound { SoundApp linked.app }
+    requires lists { SoundLists linked.papers.lists }
+    ensures value { IfOk result (λ j. ComesTo linked.app linked.papers.lists linked.papers.declaration
+        (causes_beside linked) j) }
+    ensures told { IfOk result (λ j. IsFollowed j.outcome → TellsAll linked.app linked.papers.lists
+        linked.papers.declaration j.outcome) }
+    ensures table { IfOk result (λ j. IfSome j.table IsTable) }
+{
+    let judged = judge_linked(alloc, &linked, crew);
+    give_back(linked);
+    judged
+}
+
 #[tactic(auto, using(crate::proofs::Outcomes::judgement_on, crate::proofs::Outcomes::tells_of_parts))]
 fn judged_parts<T: Threads + Wait + Sync, L: Lookout>(
     alloc: Global,
@@ -224,7 +243,7 @@ fn judged_parts<T: Threads + Wait + Sync, L: Lookout>(
 {
     lower_laws();
     let linked = linked_parts(alloc, parts)?;
-    match judge_linked(alloc, &linked, crew) {
+    match judged_once(alloc, linked, crew) {
         Ok(judged) => Ok(judged),
         Err(Memory) => Err(Stop::Memory),
     }

@@ -6,6 +6,7 @@ ghost use Rattle.app_link.specs.OneAnswer.{OnlyApp};
 ghost use Rattle.app_machine.specs.Sound.{SoundApp};
 ghost use Rattle.app_machine.specs.SoundLists.{SoundLists};
 ghost use Rattle.dex_reader.specs.Sound.{SoundDex};
+ghost use Rattle.link_access.specs.Access.{accesses_in};
 ghost use Rattle.office_forms.specs.Sound.{SoundManifest, SoundLayouts};
 ghost use Rattle.verdict.specs.Halts.{Halts, HaltsLink};
 ghost use Rattle.verdict.specs.Linked.{IsLinked};
@@ -31,6 +32,19 @@ pub struct Linked {
     /// Who sees the members of its classes.
     pub access: Accesses,
 }
+
+/// An app, and who sees the members of its classes.
+#[derive(Drop)]
+struct SeenApp {
+    app: App,
+    access: Accesses,
+}
+
+/// Gives back the memory of an app and of its papers. Where that stands beside what is known of them, it is dear to prove.
+pub(crate) fn give_back(_linked: Linked) {}
+
+/// Likewise of the files.
+fn give_back_files(_dexes: Vec<Dex>) {}
 
 fn halt_of(fault: LinkFault) -> Halt
     ensures { HaltsLink fault result }
@@ -64,6 +78,39 @@ fn linked_app(alloc: Global, parts: &Parts, papers: &Papers, dexes: &[Dex]) -> R
     }
 }
 
+/// The app that the files are, and who sees the members of its classes.
+fn seen_app(alloc: Global, parts: &Parts, papers: &Papers, dexes: &[Dex]) -> Result<SeenApp, Halt>
+    requires papers { HasPapers parts.now papers.now }
+    requires files { AreDex parts.now.dex dexes.now }
+    requires manifest { SoundManifest papers.now.manifest }
+    requires layouts { SoundLayouts papers.now.layouts }
+    requires sound { All SoundDex dexes.now }
+    ensures app { IfOk result (λ seen. IsApp dexes.now papers.now.manifest papers.now.layouts seen.app) }
+    ensures only { IfOk result (λ seen. OnlyApp dexes.now papers.now.manifest papers.now.layouts seen.app) }
+    ensures sound { IfOk result (λ seen. SoundApp seen.app) }
+    ensures access { IfOk result (λ seen. seen.access.entries ≡ accesses_in dexes.now) }
+    ensures err { IfErr result (λ h. Halts (RefusesOnly parts.now) h) }
+{
+    let app = linked_app(alloc, parts, papers, dexes)?;
+    let access = accesses_of(alloc, dexes)?;
+    Ok(SeenApp { app, access })
+}
+
+/// The app that the files are by these papers, and who sees the members of its classes.
+fn app_by(alloc: Global, parts: &Parts, papers: &Papers) -> Result<SeenApp, Halt>
+    requires papers { HasPapers parts.now papers.now }
+    requires manifest { SoundManifest papers.now.manifest }
+    requires layouts { SoundLayouts papers.now.layouts }
+    ensures linked { IfOk result (λ seen. IsLinked parts.now (record { papers = papers.now; app = seen.app; access = seen.access })) }
+    ensures sound { IfOk result (λ seen. SoundApp seen.app) }
+    ensures err { IfErr result (λ h. Halts (RefusesOnly parts.now) h) }
+{
+    let dexes = dexes_of(alloc, parts, papers)?;
+    let seen = seen_app(alloc, parts, papers, &dexes);
+    give_back_files(dexes);
+    seen
+}
+
 /// What the forms say, and the app that the files are, or the first refusal.
 pub fn linked_parts(alloc: Global, parts: &Parts) -> Result<Linked, Halt>
     ensures linked { IfOk result (λ l. IsLinked parts.now l) }
@@ -72,9 +119,7 @@ pub fn linked_parts(alloc: Global, parts: &Parts) -> Result<Linked, Halt>
     ensures err { IfErr result (λ h. Halts (RefusesOnly parts.now) h) }
 {
     let papers = papers_of(alloc, parts)?;
-    let dexes = dexes_of(alloc, parts, &papers)?;
-    let app = linked_app(alloc, parts, &papers, &dexes)?;
-    let access = accesses_of(alloc, &dexes)?;
+    let SeenApp { app, access } = app_by(alloc, parts, &papers)?;
     Ok(Linked {
         papers,
         app,

@@ -150,6 +150,62 @@ fn lists_of(
     }
 }
 
+/// What manifest and layouts say.
+#[derive(Drop)]
+struct AppForms {
+    manifest: AppManifest,
+    layouts: Layouts,
+}
+
+/// What declaration and lists say.
+#[derive(Drop)]
+struct FlowForms {
+    declaration: Declaration,
+    lists: StoreLists,
+}
+
+fn app_forms_of(alloc: Global, parts: &Parts) -> Result<AppForms, Halt>
+    ensures manifest { IfOk result (λ f. HasManifest parts.now f.manifest) }
+    ensures layouts { IfOk result (λ f. IsForm layouts_form parts.now.layouts f.layouts) }
+    ensures of_app { IfOk result (λ f. SoundManifest f.manifest.manifest) }
+    ensures of_layouts { IfOk result (λ f. SoundLayouts f.layouts) }
+    ensures err { IfErr result (λ h. Halts (RefusesOnly parts.now) h) }
+{
+    let manifest = manifest_of(alloc, parts)?;
+    let layouts = layouts_of(alloc, parts, &manifest)?;
+    Ok(AppForms { manifest, layouts })
+}
+
+fn flow_forms_of(alloc: Global, parts: &Parts, app: &AppForms) -> Result<FlowForms, Halt>
+    requires manifest { HasManifest parts.now app.now.manifest }
+    requires layouts { IsForm layouts_form parts.now.layouts app.now.layouts }
+    ensures declaration { IfOk result (λ f. IsForm declaration_form parts.now.declaration f.declaration) }
+    ensures lists { IfOk result (λ f. IsForm lists_form parts.now.lists f.lists) }
+    ensures sound { IfOk result (λ f. SoundLists f.lists.lists) }
+    ensures err { IfErr result (λ h. Halts (RefusesOnly parts.now) h) }
+{
+    let declaration = declaration_of(alloc, parts, &app.manifest, &app.layouts)?;
+    let lists = lists_of(alloc, parts, &app.manifest, &app.layouts, &declaration)?;
+    Ok(FlowForms { declaration, lists })
+}
+
+fn joined(app: AppForms, flow: FlowForms) -> Papers
+    ensures { result ≡ record { manifest = app.manifest.manifest; layouts = app.layouts; declaration = flow.declaration; lists = flow.lists.lists; device = flow.lists.device; named = app.manifest.named } }
+{
+    let AppForms { manifest, layouts } = app;
+    let FlowForms { declaration, lists } = flow;
+    let AppManifest { manifest, named } = manifest;
+    let StoreLists { lists, device } = lists;
+    Papers {
+        manifest,
+        layouts,
+        declaration,
+        lists,
+        device,
+        named,
+    }
+}
+
 /// What the forms say, or the first refusal.
 pub fn papers_of(alloc: Global, parts: &Parts) -> Result<Papers, Halt>
     ensures ok { IfOk result (λ p. HasPapers parts.now p) }
@@ -158,18 +214,7 @@ pub fn papers_of(alloc: Global, parts: &Parts) -> Result<Papers, Halt>
     ensures lists { IfOk result (λ p. SoundLists p.lists) }
     ensures err { IfErr result (λ h. Halts (RefusesOnly parts.now) h) }
 {
-    let manifest = manifest_of(alloc, parts)?;
-    let layouts = layouts_of(alloc, parts, &manifest)?;
-    let declaration = declaration_of(alloc, parts, &manifest, &layouts)?;
-    let lists = lists_of(alloc, parts, &manifest, &layouts, &declaration)?;
-    let AppManifest { manifest, named } = manifest;
-    let StoreLists { lists, device } = lists;
-    Ok(Papers {
-        manifest,
-        layouts,
-        declaration,
-        lists,
-        device,
-        named,
-    })
+    let app = app_forms_of(alloc, parts)?;
+    let flow = flow_forms_of(alloc, parts, &app)?;
+    Ok(joined(app, flow))
 }

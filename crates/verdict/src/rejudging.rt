@@ -12,7 +12,7 @@ ghost use Rattle.verdict.specs.Verdict.{IsSafeApp};
 
 use crate::judging::outcome_of_rows;
 use crate::laws::lower_laws;
-use crate::linking::{Linked, linked_parts};
+use crate::linking::{Linked, give_back, linked_parts};
 use crate::papers::Halt;
 use crate::{Outcome, Parts, Rechecked};
 use app_flow::{TableDefect, defect_of, one_defect};
@@ -64,6 +64,24 @@ fn rejudged_app(
     Ok(rechecked)
 }
 
+/// The same of an app that nothing else is asked about.
+fn rejudged_once(
+    alloc: Global,
+    linked: Linked,
+    rows: &[Row],
+    seed: u64,
+) -> Result<Rechecked, Memory>
+    requires sound { SoundApp linked.app }
+    requires lists { SoundLists linked.papers.lists }
+    ensures value { IfOk result (λ r. RechecksTo linked.app linked.papers.lists linked.papers.declaration
+        (causes_beside linked) rows.now r) }
+    ensures told { IfOk result (λ r. TellsAllBy linked.app linked.papers.lists linked.papers.declaration r) }
+{
+    let rechecked = rejudged_app(alloc, &linked, rows, seed);
+    give_back(linked);
+    rechecked
+}
+
 #[tactic(auto, using(crate::proofs::Rechecks::rejudgement_on, crate::proofs::Rechecks::tells_by_parts))]
 fn rejudged_parts(alloc: Global, parts: &Parts, rows: &[Row], seed: u64) -> Result<Rechecked, Halt>
     ensures value { IfOk result (λ r. Rejudgement parts.now rows.now r) }
@@ -74,7 +92,7 @@ fn rejudged_parts(alloc: Global, parts: &Parts, rows: &[Row], seed: u64) -> Resu
     lower_laws();
     one_defect();
     let linked = linked_parts(alloc, parts)?;
-    Ok(rejudged_app(alloc, &linked, rows, seed)?)
+    Ok(rejudged_once(alloc, linked, rows, seed)?)
 }
 
 /// What the parts of an app come to by rows that anyone made, as those of a certificate.
