@@ -1,0 +1,5 @@
+pub mod Fitting
+pub mod Into
+pub mod Laws
+pub mod Reading
+pub mod Spelling
