@@ -1,0 +1,4 @@
+pub mod Fronts
+pub mod OneReading
+pub mod Replayed
+pub mod TellsRight
