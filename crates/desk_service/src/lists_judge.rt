@@ -73,17 +73,58 @@ fn all_copied(alloc: Global, files: &[Shared<u8>]) -> Result<Seq<Seq<u8>>, Memor
     Ok(Seq::from_vec(all))
 }
 
+/// Manifest and layouts.
+#[derive(Drop)]
+struct AppTexts {
+    manifest: Seq<u8>,
+    layouts: Seq<u8>,
+}
+
+/// Declaration and lists.
+#[derive(Drop)]
+struct FlowTexts {
+    declaration: Seq<u8>,
+    lists: Seq<u8>,
+}
+
+fn app_texts_of(alloc: Global, content: &Content) -> Result<AppTexts, Memory>
+    ensures manifest { IfOk result (λ texts. texts.manifest ≡ content.now.manifest) }
+    ensures layouts { IfOk result (λ texts. texts.layouts ≡ content.now.layouts) }
+{
+    let manifest = copied(alloc, &content.manifest)?;
+    let layouts = copied(alloc, &content.layouts)?;
+    Ok(AppTexts { manifest, layouts })
+}
+
+fn flow_texts_of(alloc: Global, lists: &Shared<u8>, content: &Content) -> Result<FlowTexts, Memory>
+    ensures declaration { IfOk result (λ texts. texts.declaration ≡ content.now.declaration) }
+    ensures lists { IfOk result (λ texts. texts.lists ≡ lists.now) }
+{
+    let declaration = copied(alloc, &content.declaration)?;
+    let lists = copied(alloc, lists)?;
+    Ok(FlowTexts { declaration, lists })
+}
+
+fn joined(app: AppTexts, flow: FlowTexts, dex: Seq<Seq<u8>>) -> Parts
+    ensures { result ≡ record { manifest = app.manifest; layouts = app.layouts; declaration = flow.declaration; lists = flow.lists; dex = dex } }
+{
+    Parts {
+        manifest: app.manifest,
+        layouts: app.layouts,
+        declaration: flow.declaration,
+        lists: flow.lists,
+        dex,
+    }
+}
+
 /// The parts of an app, with the lists by which it is judged.
 fn parts_of(alloc: Global, lists: &Shared<u8>, content: &Content) -> Result<Parts, Memory>
     ensures { IfOk result (λ parts. parts ≡ parts_of lists.now content.now) }
 {
-    Ok(Parts {
-        manifest: copied(alloc, &content.manifest)?,
-        layouts: copied(alloc, &content.layouts)?,
-        declaration: copied(alloc, &content.declaration)?,
-        lists: copied(alloc, lists)?,
-        dex: all_copied(alloc, content.dex.as_slice())?,
-    })
+    let app = app_texts_of(alloc, content)?;
+    let flow = flow_texts_of(alloc, lists, content)?;
+    let dex = all_copied(alloc, content.dex.as_slice())?;
+    Ok(joined(app, flow, dex))
 }
 
 /// The first word of the report of an outcome.
@@ -121,14 +162,32 @@ pub(crate) fn judged<T: Threads + Wait + Sync, L: Lookout>(
     judge(alloc, parts, crew)
 }
 
+/// Gives back the memory of parts. Where that stands beside what is known of them, it is dear to prove.
+fn give_parts_back(_parts: Parts) {}
+
+/// Likewise of what they came to.
+fn give_back(_judged: JudgedApp) {}
+
 fn judged_by<F: Fn(&Parts) -> Result<JudgedApp, Memory>>(
     by: &F,
-    parts: &Parts,
+    parts: Parts,
 ) -> Result<JudgedApp, Memory>
     requires { JudgesApps F.Fn by.now }
-    ensures { IfOk result (IsJudged parts.now) }
+    ensures { IfOk result (IsJudged parts) }
 {
-    by(parts)
+    let judged = by(&parts);
+    give_parts_back(parts);
+    judged
+}
+
+/// The first word and the report of what an app came to.
+fn told_by(alloc: Global, judged: JudgedApp) -> Result<Judged, Memory>
+    ensures word { IfOk result (λ told. told.outcome ≡ word_of judged.outcome) }
+    ensures report { IfOk result (λ told. told.report ≡ report_text judged.outcome) }
+{
+    let told = told_of(alloc, &judged.outcome);
+    give_back(judged);
+    told
 }
 
 impl<F: Fn(&Parts) -> Result<JudgedApp, Memory>> Judge for ListsJudge<F> {
@@ -147,8 +206,8 @@ impl<F: Fn(&Parts) -> Result<JudgedApp, Memory>> Judge for ListsJudge<F> {
         ensures { IfOk result (λ judged. FindsBy self.now.lists.lists content.now (judgement_of judged)) }
     {
         let parts = parts_of(alloc, &self.lists.lists, content)?;
-        let judged = judged_by(&self.by, &parts)?;
-        let told = told_of(alloc, &judged.outcome)?;
+        let judged = judged_by(&self.by, parts)?;
+        let told = told_by(alloc, judged)?;
         Ok(told)
     }
 }

@@ -1,11 +1,11 @@
 //! What the parts of an app come to, by what is asked of them.
 
-ghost use Rattle.std.specs.Prelude.{◌≡◌, ℕ, List, IfOk, IfSome};
+ghost use Rattle.std.specs.Prelude.{◌≡◌, ℕ, List, IfOk, IfSome, string_bytes};
 ghost use Rattle.certificate.specs.Cert.{IsCert};
 ghost use Rattle.verdict.specs.Table.{IsTable};
 ghost use Rattle.vetting_desk.specs.Due.{due_of};
 ghost use Rattle.app_folder.specs.FolderDue.{Checks};
-ghost use Rattle.vetting_desk.specs.PartsDue.{Certifies, RechecksBy, refusal_of, rechecked};
+ghost use Rattle.vetting_desk.specs.PartsDue.{Certifies, RechecksBy, digest_of, refusal_of, rechecked};
 ghost use Rattle.vetting_desk.specs.Found.{FindsOfParts, CertifiedAs, IsUnreadable};
 ghost use Rattle.app_folder.specs.Reading.{AreShort};
 
@@ -18,7 +18,9 @@ use std::alloc::Global;
 use std::marker::Sync;
 use std::sync::Wait;
 use std::thread::Threads;
-use verdict::{Judged, Outcome, Parts, Rechecked, RowDefect, TableDefect, judge, judge_table};
+use verdict::{
+    FlowRows, Judged, Outcome, Parts, Rechecked, RowDefect, TableDefect, judge, judge_table,
+};
 use vet_base::{Memory, Seq, Stop};
 use worker_pool::{Crew, Lookout};
 
@@ -32,6 +34,34 @@ pub fn checked<T: Threads + Wait + Sync, L: Lookout>(
 {
     let judged = judge(alloc, parts, crew)?;
     Ok(Answer::Vetted(judged.outcome))
+}
+
+/// The path of a certificate and its bytes.
+#[derive(Drop)]
+struct CertFile {
+    path: String,
+    bytes: Seq<u8>,
+}
+
+/// The certificate of the table, for the file at this path.
+fn cert_file_of(
+    alloc: Global,
+    parts: &Parts,
+    path: &str,
+    rows: FlowRows,
+) -> Result<CertFile, Memory>
+    requires short { AreShort parts.now }
+    requires table { IsTable rows }
+    ensures path { IfOk result (λ file. string_bytes file.path ≡ path.now) }
+    ensures bytes { IfOk result (λ file. IsCert file.bytes (digest_of parts.now) rows) }
+{
+    let rows = rows.into_ascending(alloc)?;
+    let bytes = certificate_of(alloc, parts, rows.as_slice())?;
+    let path = String::from_str(alloc, path)?;
+    Ok(CertFile {
+        path,
+        bytes: Seq::from_vec(bytes),
+    })
 }
 
 /// The answer to parts that were judged so, with the certificate of their table where there is one.
@@ -49,10 +79,8 @@ fn with_certificate(
     match table {
         None => Ok(Answer::Vetted(outcome)),
         Some(rows) => {
-            let rows = rows.into_ascending(alloc)?;
-            let bytes = certificate_of(alloc, parts, rows.as_slice())?;
-            let path = String::from_str(alloc, path)?;
-            Ok(Answer::Certified(outcome, path, Seq::from_vec(bytes)))
+            let CertFile { path, bytes } = cert_file_of(alloc, parts, path, rows)?;
+            Ok(Answer::Certified(outcome, path, bytes))
         }
     }
 }

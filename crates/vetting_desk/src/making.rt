@@ -15,7 +15,7 @@ use std::alloc::Global;
 use std::marker::Sync;
 use std::sync::Wait;
 use std::thread::Threads;
-use verdict::{Judged, Outcome, Parts, judge};
+use verdict::{FlowRows, Judged, Outcome, Parts, judge};
 use vet_base::{Memory, Seq};
 use worker_pool::{Crew, Lookout};
 
@@ -45,15 +45,19 @@ fn made_parts(alloc: Global, seed: u32, size: u32) -> Result<Parts, Memory>
     })
 }
 
-/// The answer to a generated app that was judged so.
-fn made_as(size: u32, judged: Judged) -> Answer
-    ensures { due_of result ≡ due_to_made size (option_map (λ rows. length rows) judged.table) judged.outcome }
+/// How many rows a table has, where there is one. Its memory is given back.
+fn count_of(table: Option<FlowRows>) -> Option<usize>
+    ensures { result ≡ option_map (λ rows. length rows) table }
 {
-    let Judged { outcome, table } = judged;
-    let rows = match &table {
+    match &table {
         Some(rows) => Some(rows.len()),
         None => None,
-    };
+    }
+}
+
+fn counted(size: u32, rows: Option<usize>, outcome: Outcome) -> Answer
+    ensures { due_of result ≡ due_to_made size rows outcome }
+{
     match outcome {
         Outcome::Refused(part, reason) => Answer::Vetted(Outcome::Refused(part, reason)),
         Outcome::Clear => Answer::Made(size, rows, Outcome::Clear),
@@ -62,6 +66,14 @@ fn made_as(size: u32, judged: Judged) -> Answer
             Answer::Made(size, rows, Outcome::Undecided(causes, findings))
         }
     }
+}
+
+/// The answer to a generated app that was judged so.
+fn made_as(size: u32, judged: Judged) -> Answer
+    ensures { due_of result ≡ due_to_made size (option_map (λ rows. length rows) judged.table) judged.outcome }
+{
+    let Judged { outcome, table } = judged;
+    counted(size, count_of(table), outcome)
 }
 
 /// What the app comes to that is drawn from a seed, with so many drawn methods.
