@@ -2,8 +2,9 @@
 
 ghost use Rattle.desk_serving.specs.Obeying.{TellsDocket};
 
-use case_keeper::Keeper;
+use case_keeper::{KeepFault, Keeper};
 use case_lines::reply_to;
+use case_rules::{Case, Reply};
 use std::alloc::Global;
 use std::io;
 use vet_base::Name;
@@ -14,6 +15,26 @@ pub fn asked(line: &str) -> &str {
         Some((asked, _)) => asked,
         None => line,
     }
+}
+
+/// Puts a reply behind the text.
+fn put_reply(text: &mut String, reply: &Result<Option<Reply>, KeepFault>) -> io::Result<()> {
+    writeln!(text, "{reply:?}")?;
+    Ok(())
+}
+
+/// Puts what the keeper replies to a line behind the text.
+fn put_reply_to<K: Keeper>(
+    alloc: Global,
+    keeper: &mut K,
+    line: &str,
+    text: &mut String,
+) -> io::Result<()>
+    requires { TellsDocket (K.told keeper.old) }
+    ensures { TellsDocket (K.told keeper.new) }
+{
+    let reply = reply_to(alloc, keeper, asked(line));
+    put_reply(text, &reply)
 }
 
 /// Puts what the keeper replies to each line behind the text.
@@ -27,8 +48,7 @@ fn put_replies<K: Keeper>(
     ensures { TellsDocket (K.told keeper.new) }
 {
     for line in lines.lines() {
-        let reply = reply_to(alloc, keeper, asked(line));
-        writeln!(text, "{reply:?}")?;
+        put_reply_to(alloc, keeper, line, text)?;
     }
     Ok(())
 }
@@ -40,17 +60,46 @@ fn name_of(alloc: Global, name: &str) -> io::Result<Name> {
     }
 }
 
+/// Puts behind the text how many cases without an entry a developer has.
+fn put_count<K: Keeper>(
+    alloc: Global,
+    keeper: &mut K,
+    name: &str,
+    text: &mut String,
+) -> io::Result<()>
+    requires { TellsDocket (K.told keeper.old) }
+    ensures { TellsDocket (K.told keeper.new) }
+{
+    let name = name_of(alloc, name)?;
+    let count = keeper.queued(alloc, &name);
+    write!(text, " {count:?}")?;
+    Ok(())
+}
+
+/// Puts a case behind the text.
+fn put_case(text: &mut String, case: &Result<Option<Case>, KeepFault>) -> io::Result<()> {
+    write!(text, "{case:?}")?;
+    Ok(())
+}
+
+/// Puts behind the text which case without an entry is the first.
+fn put_first<K: Keeper>(alloc: Global, keeper: &mut K, text: &mut String) -> io::Result<()>
+    requires { TellsDocket (K.told keeper.old) }
+    ensures { TellsDocket (K.told keeper.new) }
+{
+    let first = keeper.first_queued(alloc);
+    put_case(text, &first)
+}
+
 /// Puts behind the text which case without an entry is the first, and how many ann and bob have.
 fn put_queued<K: Keeper>(alloc: Global, keeper: &mut K, text: &mut String) -> io::Result<()>
     requires { TellsDocket (K.told keeper.old) }
     ensures { TellsDocket (K.told keeper.new) }
 {
-    let ann = name_of(alloc, "ann")?;
-    let bob = name_of(alloc, "bob")?;
-    let first = keeper.first_queued(alloc);
-    let of_ann = keeper.queued(alloc, &ann);
-    let of_bob = keeper.queued(alloc, &bob);
-    writeln!(text, "{first:?} {of_ann:?} {of_bob:?}")?;
+    put_first(alloc, keeper, text)?;
+    put_count(alloc, keeper, "ann", text)?;
+    put_count(alloc, keeper, "bob", text)?;
+    text.push_str("\n")?;
     Ok(())
 }
 
