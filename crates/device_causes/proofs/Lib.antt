@@ -1,5 +1,10 @@
 pub mod Known
 pub mod Marks
+pub mod MoreSeen
 pub mod NameSets
+pub mod Paths
 pub mod Slashes
+pub mod Standing
+pub mod Told
+pub mod Upward
 pub mod Ways

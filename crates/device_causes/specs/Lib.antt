@@ -3,5 +3,7 @@ pub mod DeviceCauses
 pub mod Hidden
 pub mod Interfaces
 pub mod Libraries
+pub mod Path
 pub mod Platform
+pub mod Seen
 pub mod Sets

@@ -62,7 +62,7 @@ fn is_activity(kind: Kind) -> bool
 
 /// Puts the names of a class and of those above it along superclasses behind the others.
 #[tactic(auto, using(crate::proofs::Ways::way_begins, crate::proofs::Ways::way_goes_on, crate::proofs::Ways::way_done))]
-fn add_upward(app: &App, class: &Name, names: &mut Vec<Name>) -> Result<(), Memory>
+pub fn add_upward(app: &App, class: &Name, names: &mut Vec<Name>) -> Result<(), Memory>
     requires { SoundApp app.now }
     ensures { OnOk result (names.new.items ≡ names.old.items ++ map (λ k. k.name) (up app.now class.now)) }
 {

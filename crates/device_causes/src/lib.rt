@@ -6,9 +6,11 @@ mod clicks;
 mod hidden;
 mod interfaces;
 mod libraries;
-mod looks;
+mod order;
 mod packages;
+mod path;
 mod platform;
+mod seen;
 mod sets;
 
 pub use causes::device_causes;
