@@ -3,10 +3,9 @@
 ghost use Rattle.std.specs.Prelude.{◌≡◌, ◌++◌, IfOk, OnOk};
 ghost use Rattle.link_access.specs.Access.{may_run, method_access, methods_of, field_named, fields_of, class_access, with_class, with_classes, accesses_in};
 
-use crate::descriptor::descriptor;
 use crate::flags::{says_interface, says_native, says_open, says_private, says_static};
 use dex_tables::{Body, ClassDef, Dex, Member};
-use link_listing::{field_at, method_at, type_at};
+use link_listing::{descriptor, field_at, method_at, type_at};
 use std::alloc::Global;
 use std::collections::BTreeMap;
 use vet_base::{Memory, Name, Seq};

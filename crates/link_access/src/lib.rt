@@ -3,7 +3,6 @@
 #![tactic(auto)]
 
 mod access;
-mod descriptor;
 mod flags;
 
 pub use access::{Accesses, ClassAccess, MethodAccess, accesses_of};

@@ -15,7 +15,7 @@ pub use classes::{Classes, class_named, holds_name};
 pub use components::providers_of;
 pub use fault::{Fault, Halt, Limit};
 pub use gathered::{Parts, gather};
-pub use members::{Fields, Listed, Methods, Place, Triple};
+pub use members::{Fields, Listed, Methods, Place, Triple, descriptor};
 pub use texts::{
     add_copies, field_at, method_at, method_row_at, names_copied, proto_at, proto_copied, type_at,
 };

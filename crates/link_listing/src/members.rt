@@ -88,7 +88,7 @@ fn add_names(bytes: &mut Vec<u8>, names: &[Name]) -> Result<(), Memory>
     Ok(())
 }
 
-/// The text of a descriptor.
+/// The text of a method's descriptor. Want of memory is the only error.
 #[tactic(auto, unfolding(app_machine::specs::Names::descriptor_of))]
 pub fn descriptor(alloc: Global, proto: &Proto) -> Result<Name, Memory>
     ensures { IfOk result (λ d. d ≡ descriptor_of proto.now) }
