@@ -8,13 +8,14 @@ use Rattle.app_machine.specs.declared.lists.LibClass.{LibClass}
 use Rattle.app_machine.specs.Names.{Name, same_name}
 use Rattle.device_lists.specs.declared.DeviceLists.{DeviceLists}
 use Rattle.link_access.specs.Access.{Accesses}
+use Rattle.link_listing.specs.Texts.{Triple}
 use Rattle.outcomes.specs.Causes.{is_app_class}
 use Rattle.std.proofs.lemmas.List.Elements.{filter-append}
 use Rattle.vet_base.proofs.Lists.{list_any-map}
 use Rattle.app_model.proofs.Above.{slice_of_option}
 use Rattle.device_causes.specs.Libraries.{is_unlisted, unlisted_above, defined_statics, listed_statics, is_foreign}
 use Rattle.device_causes.specs.Platform.{is_library_class}
-use Rattle.device_causes.specs.Sets.{Triple, is_among, is_listed, IsSetOf, IsListOf}
+use Rattle.device_causes.specs.Sets.{is_among, is_listed, IsSetOf, IsListOf}
 
 pub library_by_set : (lists : Lists) (set : List Name) (name : Name) → IsSetOf set (map (λ (c : LibClass). c.name) lists.classes) → is_among set name ≡ is_library_class lists name
 unfolding is_library_class is_among

@@ -7,7 +7,7 @@ use Rattle.device_lists.specs.declared.DeviceLists.{DeviceLists}
 use Rattle.link_access.specs.Access.{Accesses}
 use Rattle.outcomes.specs.Spots.{Spot}
 use Rattle.vet_base.proofs.Lists.{drop_read}
-use Rattle.device_causes.specs.Sets.{Triple}
+use Rattle.link_listing.specs.Texts.{Triple}
 use Rattle.device_causes.specs.Libraries.{is_foreign, is_unknown, mark_of, put_mark, got_mark, static_passes, spots_in, spots_from, static_spots}
 
 module _ (app : App) (access : Accesses) (device : DeviceLists) where

@@ -4,16 +4,17 @@ use Rattle.std.specs.Cmp.{IsTotalOrder}
 use Rattle.std.specs.Cmp.Lexicographic.{texts_ties, nat_list_cmp_total}
 use Rattle.std.specs.List.{list_any}
 use Rattle.std.specs.Ordering.{is_eq, ordering_then}
-use Rattle.std.specs.declared.cmp.Ordering.{Ordering}
 use Rattle.std.specs.BTreeMap.{is_at}
 use Rattle.std.proofs.lemmas.Cmp.{on_total, then_total}
 use Rattle.app_machine.specs.Names.{Name, same_name}
 use Rattle.app_machine.specs.Sound.{name_order}
+use Rattle.link_listing.specs.Orders.{triple_order}
+use Rattle.link_listing.specs.Texts.{Triple, same_triple}
 use Rattle.outcomes.specs.Ascending.{ascending}
 use Rattle.outcomes.proofs.Sorting.{any_ascending}
 use Rattle.vet_base.proofs.Orders.{is_eq-then}
 use Rattle.vet_base.proofs.Lists.{list_any_agree}
-use Rattle.device_causes.specs.Sets.{Triple, same_triple, is_among, is_listed, IsSetOf, IsListOf}
+use Rattle.device_causes.specs.Sets.{is_among, is_listed, IsSetOf, IsListOf}
 
 name_ties : (k n : Name) → is_at (name_order k) n ≡ same_name k n
 name_ties k n = sym (texts_ties k n)
@@ -27,9 +28,6 @@ names_same set names is = record {
   same = λ name. sym (contains_name set name) ∙ ap (list_any (is_at (name_order name))) is
       ∙ any_ascending name_order nat_list_cmp_total name names ∙ contains_name names name;
 }
-
-abbrev triple_order : Triple → Triple → Ordering
-triple_order a b = ordering_then (ordering_then (name_order a.0 b.0) (name_order a.1 b.1)) (name_order a.2 b.2)
 
 triple_total : IsTotalOrder triple_order
 triple_total =

@@ -12,7 +12,7 @@ use Rattle.link_access.specs.Access.{Accesses}
 use Rattle.vet_base.proofs.Texts.{tied_equal}
 use Rattle.device_causes.specs.Hidden.{hidden_of}
 use Rattle.device_causes.specs.Path.{AreTold}
-use Rattle.device_causes.specs.Sets.{Triple}
+use Rattle.link_listing.specs.Texts.{Triple}
 
 module _ (app : App) (access : Accesses) where
   pub none_told : (table : BTreeMap Name (List Triple)) → table.entries ≡ [] → AreTold app access (get name_order table)

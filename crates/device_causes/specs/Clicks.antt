@@ -14,7 +14,8 @@ use Rattle.app_machine.specs.Lookups.{class_named, up}
 use Rattle.link_access.specs.declared.access.ClassAccess.{ClassAccess}
 use Rattle.link_access.specs.declared.access.MethodAccess.{MethodAccess}
 use Rattle.link_access.specs.Access.{Accesses}
-use Rattle.device_causes.specs.Sets.{Triple, is_among}
+use Rattle.link_listing.specs.Texts.{Triple}
+use Rattle.device_causes.specs.Sets.{is_among}
 use Rattle.device_causes.specs.Hidden.{method_named}
 
 -- the context of a layout

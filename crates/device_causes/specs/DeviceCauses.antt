@@ -8,12 +8,12 @@ use Rattle.app_machine.specs.Names.{Name}
 use Rattle.app_machine.specs.Sound.{name_order}
 use Rattle.device_lists.specs.declared.DeviceLists.{DeviceLists}
 use Rattle.link_access.specs.Access.{Accesses}
+use Rattle.link_listing.specs.Texts.{Triple}
 use Rattle.outcomes.specs.declared.outcome.Cause.{Cause}
 use Rattle.outcomes.specs.declared.outcome.Cause.TheVariants.{Hidden, InterfaceCode, PlatformClass, UnlistedClass, LibraryStatic, Click, NamedClass}
 use Rattle.outcomes.specs.Ascending.{ascending}
 use Rattle.outcomes.specs.Causes.{is_app_class}
 use Rattle.outcomes.specs.Spots.{at_spot}
-use Rattle.device_causes.specs.Sets.{Triple}
 use Rattle.device_causes.specs.Hidden.{hidden}
 use Rattle.device_causes.specs.Interfaces.{interface_code}
 use Rattle.device_causes.specs.Platform.{platform_classes}

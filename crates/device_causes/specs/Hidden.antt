@@ -10,8 +10,8 @@ use Rattle.app_machine.specs.Summaries.{same_word}
 use Rattle.link_access.specs.declared.access.MethodAccess.{MethodAccess}
 use Rattle.app_model.specs.ClassWalks.{classes_from}
 use Rattle.link_listing.specs.Orders.{named as entry_of}
+use Rattle.link_listing.specs.Texts.{Triple}
 use Rattle.link_access.specs.Access.{Accesses}
-use Rattle.device_causes.specs.Sets.{Triple}
 
 abbrev pub is_slash : ℕ → Bool
 is_slash byte = byte == 47

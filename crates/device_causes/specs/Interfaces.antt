@@ -5,7 +5,7 @@ use Rattle.app_machine.specs.Names.{Name, same_name, initialiser_name}
 use Rattle.link_access.specs.declared.access.ClassAccess.{ClassAccess}
 use Rattle.link_access.specs.declared.access.MethodAccess.{MethodAccess}
 use Rattle.link_access.specs.Access.{Accesses}
-use Rattle.device_causes.specs.Sets.{Triple}
+use Rattle.link_listing.specs.Texts.{Triple}
 use Rattle.device_causes.specs.Hidden.{method_named}
 
 -- neither static nor a class initialiser

@@ -13,9 +13,10 @@ use Rattle.device_lists.specs.declared.DeviceLists.{DeviceLists}
 use Rattle.device_lists.specs.declared.StaticRow.{StaticRow}
 use Rattle.link_access.specs.declared.access.ClassAccess.{ClassAccess}
 use Rattle.link_access.specs.Access.{Accesses}
+use Rattle.link_listing.specs.Texts.{Triple}
 use Rattle.outcomes.specs.Causes.{is_app_class}
 use Rattle.outcomes.specs.Spots.{Spot}
-use Rattle.device_causes.specs.Sets.{Triple, is_listed}
+use Rattle.device_causes.specs.Sets.{is_listed}
 use Rattle.device_causes.specs.Platform.{is_library_class}
 
 -- neither a class of the app nor listed: what is above it is not known

@@ -15,7 +15,7 @@ use Rattle.device_causes.specs.declared.path.Path.{Path}
 use Rattle.device_causes.specs.declared.path.Step.{Step}
 use Rattle.device_causes.specs.Hidden.{any_hides, is_hidden_by, hidden_of}
 use Rattle.device_causes.specs.Seen.{maybe_hides}
-use Rattle.device_causes.specs.Sets.{Triple}
+use Rattle.link_listing.specs.Texts.{Triple}
 
 -- a name and a descriptor
 abbrev pub Signature : Type 0

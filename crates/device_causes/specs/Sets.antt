@@ -1,14 +1,8 @@
 -- Names, and names of members, among others.
-use Rattle.std.specs.Prelude.{◌≡◌, ◌&&◌, Bool, List}
+use Rattle.std.specs.Prelude.{◌≡◌, Bool, List}
 use Rattle.std.specs.List.{list_any}
 use Rattle.app_machine.specs.Names.{Name, same_name}
-
--- a class, a name, and a type or descriptor
-abbrev pub Triple : Type 0
-Triple = Name × Name × Name
-
-abbrev pub same_triple : Triple → Triple → Bool
-same_triple a b = (same_name a.0 b.0 && same_name a.1 b.1) && same_name a.2 b.2
+use Rattle.link_listing.specs.Texts.{Triple, same_triple}
 
 unfoldable pub is_among : List Name → Name → Bool
 is_among names name = list_any (λ n. same_name name n) names

@@ -11,7 +11,6 @@ use crate::hidden::hidden;
 use crate::interfaces::interface_code;
 use crate::libraries::{Spot, app_names, is_app_class, static_spots, unlisted_classes};
 use crate::platform::platform_classes;
-use crate::sets::Triple;
 use app_machine::{App, Lists};
 use device_lists::DeviceLists;
 use link_access::Accesses;

@@ -8,10 +8,11 @@ ghost use Rattle.device_causes.specs.Clicks.{context_class, menu_descriptor, con
 ghost use Rattle.device_causes.specs.Sets.{is_among, IsSetOf};
 
 use crate::interfaces::method_named;
-use crate::sets::{NameSet, Triple};
+use crate::sets::NameSet;
 use app_machine::{App, Component, Kind, LibClass, Lists};
 use app_model::{class_of, classes_upward, next_class};
 use link_access::{Accesses, ClassAccess, MethodAccess};
+use link_listing::Triple;
 use outcomes::copied;
 use std::alloc::Global;
 use vet_base::{Memory, Name};

@@ -4,8 +4,8 @@ ghost use Rattle.std.specs.Prelude.{◌≡◌, ◌++◌, IfOk, OnOk};
 ghost use Rattle.device_causes.specs.Hidden.{method_named};
 ghost use Rattle.device_causes.specs.Interfaces.{is_of_objects, code_in, interface_code};
 
-use crate::sets::Triple;
 use link_access::{Accesses, ClassAccess, MethodAccess};
+use link_listing::Triple;
 use std::alloc::Global;
 use vet_base::{Memory, Name};
 

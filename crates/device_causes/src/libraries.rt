@@ -7,11 +7,12 @@ ghost use Rattle.device_causes.specs.Libraries.{is_unlisted, unlisted_above, unl
 ghost use Rattle.device_causes.specs.Sets.{IsListOf, IsSetOf};
 
 use crate::platform::{is_library_class, library_names};
-use crate::sets::{NameSet, Triple, TripleSet};
+use crate::sets::{NameSet, TripleSet};
 use app_machine::{Act, App, Class, Lists, Method, Step};
 use app_model::is_reference;
 use device_lists::DeviceLists;
 use link_access::{Accesses, ClassAccess};
+use link_listing::Triple;
 use outcomes::class_names;
 use std::alloc::Global;
 use vet_base::{Memory, Name};

@@ -3,14 +3,12 @@
 ghost use Rattle.std.specs.Prelude.{◌≡◌, IfOk};
 ghost use Rattle.device_causes.specs.Sets.{is_among, is_listed, IsSetOf, IsListOf};
 
+use link_listing::Triple;
 use outcomes::set_of;
 use std::alloc::Global;
 use std::collections::BTreeSet;
 use std::marker::Model;
 use vet_base::{Memory, Name};
-
-/// A class, a name, and a type or descriptor.
-pub type Triple = (Name, Name, Name);
 
 /// Names, each once. Contracts see them in their order.
 #[derive(Drop)]
@@ -54,7 +52,7 @@ pub struct TripleSet {
 
 impl Model for TripleSet {
     ghost use Rattle.std.specs.Prelude.{List};
-    ghost use Rattle.device_causes.specs.Sets.{Triple};
+    ghost use Rattle.link_listing.specs.Texts.{Triple};
 
     ghost Value = { List Triple };
 

@@ -31,7 +31,7 @@ use Rattle.device_causes.specs.Hidden.{hidden}
 use Rattle.device_causes.specs.Interfaces.{interface_code}
 use Rattle.device_causes.specs.Libraries.{static_spots, unlisted_classes}
 use Rattle.device_causes.specs.Platform.{platform_classes}
-use Rattle.device_causes.specs.Sets.{Triple}
+use Rattle.link_listing.specs.Texts.{Triple}
 use Rattle.vet_base.specs.Members.{In}
 use Rattle.vet_base.proofs.Members.{from_map, in_either}
 use Rattle.vet_base.proofs.Orders.{less_cmp}

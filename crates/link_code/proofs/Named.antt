@@ -13,10 +13,10 @@ use Rattle.app_machine.specs.declared.app.Class.{Class}
 use Rattle.app_machine.specs.declared.app.Key.{Key}
 use Rattle.vet_base.specs.Members.{first_given, first_index}
 use Rattle.app_machine.specs.Lookups.{elem_key, is_field, instance_key, up}
-use Rattle.link_listing.specs.Texts.{Triple, field_of, method_of}
+use Rattle.link_listing.specs.Texts.{Triple, same_triple, field_of, method_of}
 use Rattle.link_listing.specs.MemberRows.{Fields}
 use Rattle.link_code.specs.Named.{key_of, named_of}
-use Rattle.link_code.specs.Statics.{same_triple, number_among, number_of, resolved}
+use Rattle.link_code.specs.Statics.{number_among, number_of, resolved}
 use Rattle.link_code.specs.StaticList.{static_among, static_index}
 use Rattle.link_code.specs.Code.{taken_by, call_takes, call_fits}
 use Rattle.vet_base.proofs.Firsts.{index_below, given_below}

@@ -7,10 +7,10 @@ use Rattle.std.specs.declared.cmp.Ordering.TheVariants.{Equal}
 use Rattle.app_machine.specs.Names.{same_name}
 use Rattle.vet_base.specs.Ascending.{Ascends}
 use Rattle.app_machine.specs.Sound.{name_order}
-use Rattle.link_listing.specs.Texts.{Triple}
+use Rattle.link_listing.specs.Texts.{Triple, same_triple}
 use Rattle.link_listing.specs.Orders.{triple_order}
 use Rattle.link_listing.proofs.Triples.{triple_total}
-use Rattle.link_code.specs.Statics.{same_triple, number_among}
+use Rattle.link_code.specs.Statics.{number_among}
 use Rattle.std.proofs.lemmas.Bool.{and_parts, and_from}
 use Rattle.vet_base.proofs.Orders.{then_equal, both_equal}
 use Rattle.std.proofs.lemmas.List.{get_or_default}

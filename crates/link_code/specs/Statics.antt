@@ -1,15 +1,15 @@
 -- The field that a reference to a static field stands for: the one of the first class that defines it, upward along superclasses,
 -- and then through the interfaces of these classes in the order met, and behind them those interfaces' own interfaces, each once.
 -- Android documentation, Dalvik bytecode: `sstaticop`. All superclasses come before the interfaces.
-use Rattle.std.specs.Prelude.{ℕ, zero, suc, Bool, false, List, [], ◌++◌, length, Option, Some, None, filter_map, flat_map, unwrap_or, ◌&&◌, if◌then◌else◌}
+use Rattle.std.specs.Prelude.{ℕ, zero, suc, Bool, false, List, [], ◌++◌, length, Option, Some, None, filter_map, flat_map, unwrap_or, if◌then◌else◌}
 use Rattle.app_machine.specs.declared.app.App.{App}
 use Rattle.app_machine.specs.declared.app.Class.{Class}
-use Rattle.app_machine.specs.Names.{Name, same_name}
+use Rattle.app_machine.specs.Names.{Name}
 use Rattle.vet_base.specs.Members.{first_index, first_given}
 use Rattle.dex_tables.specs.declared.dex.Dex.{Dex}
 use Rattle.app_machine.specs.Lookups.{class_named, up}
 use Rattle.link_hierarchy.specs.Hierarchy.{firsts}
-use Rattle.link_listing.specs.Texts.{Triple, field_of}
+use Rattle.link_listing.specs.Texts.{Triple, same_triple, field_of}
 use Rattle.link_listing.specs.MemberRows.{Fields}
 use Rattle.link_listing.specs.Orders.{named_triple}
 
@@ -55,9 +55,6 @@ class_of_static app fields at = unwrap_or (first_given (own_name fields at.1 at.
 -- the field that a reference to a static field stands for
 unfoldable pub resolved : App → Fields → Triple → Triple
 resolved app fields at = (class_of_static app fields at, at.1, at.2)
-
-abbrev pub same_triple : Triple → Triple → Bool
-same_triple a b = same_name a.0 b.0 && same_name a.1 b.1 && same_name a.2 b.2
 
 unfoldable pub number_among : List Triple → Triple → ℕ
 number_among statics at = unwrap_or (first_index (λ s. same_triple s at) statics) 0

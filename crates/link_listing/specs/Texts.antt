@@ -1,16 +1,19 @@
 -- What an index of a DEX file names. Where there is no such row the name is empty; a file that was read has each row.
 -- Android documentation, Dalvik Executable format: "string_id_item", "type_id_item", "proto_id_item", "field_id_item", "method_id_item".
-use Rattle.std.specs.Prelude.{ℕ, List, [], map, Some, None, slice_get}
+use Rattle.std.specs.Prelude.{ℕ, Bool, ◌&&◌, List, [], map, Some, None, slice_get}
 use Rattle.dex_tables.specs.declared.dex.Dex.{Dex}
 use Rattle.dex_tables.specs.declared.dex.FieldId.{FieldId}
 use Rattle.dex_tables.specs.declared.dex.MethodRow.{MethodRow}
 use Rattle.app_machine.specs.declared.call.Proto.{Proto}
 use Rattle.app_machine.specs.declared.call.MethodRef.{MethodRef}
-use Rattle.app_machine.specs.Names.{Name}
+use Rattle.app_machine.specs.Names.{Name, same_name}
 
 -- a class, a name, and a type or descriptor: what tells a field or a method from all others
 abbrev pub Triple : Type 0
 Triple = Name × Name × Name
+
+abbrev pub same_triple : Triple → Triple → Bool
+same_triple a b = same_name a.0 b.0 && same_name a.1 b.1 && same_name a.2 b.2
 
 unfoldable pub text_of : Dex → ℕ → Name
 text_of dex i = elim (slice_get dex.strings i) [ None ↦ [] | Some text ↦ text ]
