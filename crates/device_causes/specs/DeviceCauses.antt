@@ -1,16 +1,16 @@
 -- Why a device may do more than the machine, as far as app and lists tell: each kind in ascending order and once.
 use Rattle.std.specs.Prelude.{if◌then◌else◌, List, [], ◌++◌, map, filter}
-use Rattle.std.specs.Ordering.{ordering_then}
-use Rattle.std.specs.declared.cmp.Ordering.{Ordering}
 use Rattle.app_machine.specs.declared.app.App.{App}
 use Rattle.app_machine.specs.declared.lists.Lists.{Lists}
 use Rattle.app_machine.specs.Names.{Name}
 use Rattle.app_machine.specs.Sound.{name_order}
 use Rattle.device_lists.specs.declared.DeviceLists.{DeviceLists}
 use Rattle.link_access.specs.Access.{Accesses}
+use Rattle.link_listing.specs.Orders.{triple_order}
 use Rattle.link_listing.specs.Texts.{Triple}
 use Rattle.outcomes.specs.declared.outcome.Cause.{Cause}
 use Rattle.outcomes.specs.declared.outcome.Cause.TheVariants.{Hidden, InterfaceCode, PlatformClass, UnlistedClass, LibraryStatic, Click, NamedClass}
+use Rattle.outcomes.specs.declared.outcome.MethodName.{MethodName}
 use Rattle.outcomes.specs.Ascending.{ascending}
 use Rattle.outcomes.specs.Causes.{is_app_class}
 use Rattle.outcomes.specs.Spots.{at_spot}
@@ -20,12 +20,13 @@ use Rattle.device_causes.specs.Platform.{platform_classes}
 use Rattle.device_causes.specs.Libraries.{unlisted_classes, static_spots}
 use Rattle.device_causes.specs.Clicks.{odd_clicks}
 
--- by class, name and descriptor
-abbrev pub method_order : Triple → Triple → Ordering
-method_order a b = ordering_then (ordering_then (name_order a.0 b.0) (name_order a.1 b.1)) (name_order a.2 b.2)
+-- the method of a class, a name and a descriptor
+abbrev pub method_called : Triple → MethodName
+method_called m = record { class = m.0; name = m.1; descriptor = m.2 }
 
-abbrev pub methods_told : (Triple → Cause) → List Triple → List Cause
-methods_told cause methods = map cause (ascending method_order methods)
+-- by class, name and descriptor
+abbrev pub methods_told : (MethodName → Cause) → List Triple → List Cause
+methods_told cause methods = map (λ method. cause (method_called method)) (ascending triple_order methods)
 
 abbrev pub names_told : (Name → Cause) → List Name → List Cause
 names_told cause names = map cause (ascending name_order names)

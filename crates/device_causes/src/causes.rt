@@ -4,7 +4,7 @@ ghost use Rattle.std.specs.Prelude.{◌≡◌, IfOk, filter, map};
 ghost use Rattle.app_machine.specs.Sound.{SoundApp};
 ghost use Rattle.outcomes.specs.Causes.{is_app_class};
 ghost use Rattle.outcomes.specs.Spots.{at_spot};
-ghost use Rattle.device_causes.specs.DeviceCauses.{hidden_causes, interface_causes, platform_causes, unlisted_causes, static_causes, click_causes, named_causes, strict_causes, device_causes};
+ghost use Rattle.device_causes.specs.DeviceCauses.{hidden_causes, interface_causes, platform_causes, unlisted_causes, static_causes, click_causes, method_called, named_causes, strict_causes, device_causes};
 
 use crate::clicks::odd_clicks;
 use crate::hidden::hidden;
@@ -14,9 +14,22 @@ use crate::platform::platform_classes;
 use app_machine::{App, Lists};
 use device_lists::DeviceLists;
 use link_access::Accesses;
-use outcomes::{Cause, ascending_of, place_in};
+use link_listing::Triple;
+use outcomes::{Cause, MethodName, ascending_of, place_in};
 use std::alloc::Global;
 use vet_base::{Memory, Name};
+
+/// The method of a class, a name and a descriptor.
+fn method_called(method: Triple) -> MethodName
+    ensures { result ≡ method_called method }
+{
+    let (class, name, descriptor) = method;
+    MethodName {
+        class,
+        name,
+        descriptor,
+    }
+}
 
 #[tactic(auto, unfolding(crate::specs::DeviceCauses::hidden_causes))]
 fn hidden_causes(alloc: Global, app: &App, access: &Accesses) -> Result<Vec<Cause>, Memory>
@@ -25,7 +38,7 @@ fn hidden_causes(alloc: Global, app: &App, access: &Accesses) -> Result<Vec<Caus
 {
     let mut causes = Vec::new(alloc);
     for method in ascending_of(alloc, hidden(alloc, app, access)?)? {
-        causes.push(Cause::Hidden(method))?;
+        causes.push(Cause::Hidden(method_called(method)))?;
     }
     Ok(causes)
 }
@@ -36,7 +49,7 @@ fn interface_causes(alloc: Global, access: &Accesses) -> Result<Vec<Cause>, Memo
 {
     let mut causes = Vec::new(alloc);
     for method in ascending_of(alloc, interface_code(alloc, access)?)? {
-        causes.push(Cause::InterfaceCode(method))?;
+        causes.push(Cause::InterfaceCode(method_called(method)))?;
     }
     Ok(causes)
 }
@@ -106,7 +119,7 @@ fn click_causes(
 {
     let mut causes = Vec::new(alloc);
     for method in ascending_of(alloc, odd_clicks(alloc, app, access, lists)?)? {
-        causes.push(Cause::Click(method))?;
+        causes.push(Cause::Click(method_called(method)))?;
     }
     Ok(causes)
 }

@@ -11,7 +11,12 @@ pub struct Place {
 }
 
 /// A method by its class, its name and the text of its descriptor.
-pub type MethodName = (Name, Name, Name);
+#[derive(Debug, Drop)]
+pub struct MethodName {
+    pub class: Name,
+    pub name: Name,
+    pub descriptor: Name,
+}
 
 /// Data of a source category may come to a sink category at a place. The declaration does not name the pair.
 #[derive(Debug, Drop)]

@@ -5,6 +5,7 @@ use Rattle.app_machine.specs.declared.call.MethodRef.{MethodRef}
 use Rattle.app_machine.specs.Names.{Name, descriptor_of}
 use Rattle.printed_text.specs.Printed.{escaped}
 use Rattle.outcomes.specs.declared.outcome.Finding.{Finding}
+use Rattle.outcomes.specs.declared.outcome.MethodName.{MethodName}
 use Rattle.outcomes.specs.declared.outcome.Place.{Place}
 
 -- a method: class, name and descriptor
@@ -26,8 +27,8 @@ unfoldable pub class_line : List ℕ → Name → List ℕ
 class_line word name = word ++ escaped name ++ codes "\n"
 
 -- the line of a cause that names a method
-unfoldable pub method_line : List ℕ → Name × Name × Name → List ℕ
-method_line word m = word ++ escaped m.0 ++ codes "->" ++ escaped m.1 ++ escaped m.2 ++ codes "\n"
+unfoldable pub method_line : List ℕ → MethodName → List ℕ
+method_line word m = word ++ escaped m.class ++ codes "->" ++ escaped m.name ++ escaped m.descriptor ++ codes "\n"
 
 -- a word of the report with a number
 unfoldable pub counted_line : List ℕ → ℕ → List ℕ

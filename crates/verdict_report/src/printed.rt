@@ -99,10 +99,10 @@ pub fn put_method_line(text: &mut Text, word: &[u8], method: &MethodName) -> Res
     ensures { OnOk result (text.new.items ≡ text.old.items ++ method_line word.now method.now) }
 {
     put(text, word)?;
-    put_name(text, method.0.as_bytes())?;
+    put_name(text, method.class.as_bytes())?;
     put(text, b"->".as_slice())?;
-    put_name(text, method.1.as_bytes())?;
-    put_name(text, method.2.as_bytes())?;
+    put_name(text, method.name.as_bytes())?;
+    put_name(text, method.descriptor.as_bytes())?;
     put(text, b"\n".as_slice())
 }
 
