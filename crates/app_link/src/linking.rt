@@ -23,7 +23,7 @@ use std::alloc::Global;
 use vet_base::{Name, Stop};
 
 /// Why files are no app: the first of these, in this order.
-#[derive(Debug, Drop)]
+#[derive(Drop)]
 pub enum LinkFault {
     /// A class of this name stands a second time.
     TwoClasses(Name),

@@ -3,14 +3,14 @@ use vet_base::{Name, Seq, Shared};
 
 /// A key under which an object keeps values: all elements, or an instance field by class, name and
 /// type.
-#[derive(Debug, Drop)]
+#[derive(Drop)]
 pub enum Key {
     Elem,
     Field(Name, Name, Name),
 }
 
 /// A class or interface of the app.
-#[derive(Debug, Drop)]
+#[derive(Drop)]
 pub struct Class {
     pub name: Name,
     pub superclass: Option<Name>,
@@ -23,7 +23,7 @@ pub struct Class {
 }
 
 /// A linked app.
-#[derive(Debug, Drop)]
+#[derive(Drop)]
 pub struct App {
     /// By name.
     pub classes: Seq<Class>,

@@ -1,7 +1,7 @@
 use vet_base::{Name, Shared};
 
 /// The parameters and the result of a method, each the descriptor of a type.
-#[derive(Debug, Drop)]
+#[derive(Drop)]
 pub struct Proto {
     pub params: Shared<Name>,
     /// `V` where there is none.
@@ -9,7 +9,7 @@ pub struct Proto {
 }
 
 /// A method as an instruction names it.
-#[derive(Debug, Drop)]
+#[derive(Drop)]
 pub struct MethodRef {
     pub class: Name,
     pub name: Name,

@@ -10,7 +10,7 @@ pub enum Kind {
 }
 
 /// A component of the manifest.
-#[derive(Debug, Drop)]
+#[derive(Drop)]
 pub struct Component {
     pub kind: Kind,
     pub class: Name,

@@ -13,7 +13,7 @@ pub enum FallbackWord {
 }
 
 /// A class of the library.
-#[derive(Debug, Drop)]
+#[derive(Drop)]
 pub struct LibClass {
     pub name: Name,
     /// The class itself first, and then the classes above it, each once.
@@ -30,7 +30,7 @@ pub enum SummaryId {
 }
 
 /// A method that the system calls on an object of the class.
-#[derive(Debug, Drop)]
+#[derive(Drop)]
 pub struct Callback {
     pub class: Name,
     pub name: Name,
@@ -40,7 +40,7 @@ pub struct Callback {
 }
 
 /// What the office says of the library.
-#[derive(Debug, Drop)]
+#[derive(Drop)]
 pub struct Lists {
     /// How many rows may be derivable.
     pub rows: u32,

@@ -3,7 +3,7 @@ use vet_base::{KeyId, Name, Seq, Shared};
 
 /// What one instruction does, in registers of its method. A wide value stands in two neighbouring
 /// registers: the first is read and both are written.
-#[derive(Debug, Drop)]
+#[derive(Drop)]
 pub enum Act {
     /// Nothing.
     Skip,
@@ -41,7 +41,7 @@ pub enum Act {
 
 /// An instruction: its address in code units, its act, where control goes next, and the handlers
 /// that cover it.
-#[derive(Debug, Drop)]
+#[derive(Drop)]
 pub struct Step {
     pub pc: u32,
     pub act: Act,
@@ -52,7 +52,7 @@ pub struct Step {
 }
 
 /// A method of the app with code, or a native one. A native method has no steps, registers and ins.
-#[derive(Debug, Drop)]
+#[derive(Drop)]
 pub struct Method {
     pub at: MethodRef,
     pub is_static: bool,

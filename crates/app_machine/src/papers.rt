@@ -10,7 +10,7 @@ pub enum Word {
 }
 
 /// What the manifest says of an app.
-#[derive(Debug, Drop)]
+#[derive(Drop)]
 pub struct Manifest {
     pub package: Name,
     pub dex_files: u32,
@@ -20,7 +20,7 @@ pub struct Manifest {
 }
 
 /// What the layouts say of an app.
-#[derive(Debug, Drop)]
+#[derive(Drop)]
 pub struct Layouts {
     /// The names of click methods, each once.
     pub clicks: Seq<Name>,
@@ -28,7 +28,7 @@ pub struct Layouts {
 }
 
 /// The flows that a developer declares: the name of a source category and of a sink category.
-#[derive(Debug, Drop)]
+#[derive(Drop)]
 pub struct Declaration {
     pub pairs: Seq<(Name, Name)>,
 }

@@ -3,7 +3,7 @@ use vet_base::{Name, Seq};
 
 /// The result of a library method. Positions count arguments, a wide one once, with the receiver
 /// as 0.
-#[derive(Debug, Drop)]
+#[derive(Drop)]
 pub enum Gives {
     /// A value without place and labels.
     Blank,
@@ -18,7 +18,7 @@ pub enum Gives {
 }
 
 /// What the lists say of a library method. Categories and shared objects stand by their number.
-#[derive(Debug, Drop)]
+#[derive(Drop)]
 pub struct Summary {
     pub class: Name,
     pub name: Name,

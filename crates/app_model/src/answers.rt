@@ -1,7 +1,7 @@
 use vet_base::Name;
 
 /// What a call comes to.
-#[derive(Clone, Copy, Debug)]
+#[derive(Clone, Copy)]
 pub enum Target<'a> {
     /// The number of a method of the app.
     Body(u32),
@@ -12,7 +12,7 @@ pub enum Target<'a> {
 }
 
 /// An event in the life of a component: it comes in the state `from` and leads to the state `to`.
-#[derive(Clone, Copy, Debug)]
+#[derive(Clone, Copy)]
 pub struct EventRow {
     pub from: u8,
     /// The method that runs.

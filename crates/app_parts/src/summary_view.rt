@@ -20,7 +20,7 @@ pub enum SummaryView<'a> {
 
 /// What the result of a library call is. From which positions a joined one comes, `is_joined_from`
 /// tells.
-#[derive(Clone, Copy, Debug)]
+#[derive(Clone, Copy)]
 pub enum CallResult {
     /// A value without place and labels.
     Blank,

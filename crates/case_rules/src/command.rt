@@ -2,7 +2,7 @@ use crate::{Case, Content, Line, RulingWord};
 use vet_base::{Name, Shared};
 
 /// What a party asks of the desk.
-#[derive(Debug, Drop)]
+#[derive(Drop)]
 pub enum Command {
     /// A reference of one's own, and the app.
     Submit(Name, Content),
@@ -21,7 +21,7 @@ pub enum Command {
 /// What the list of cases shows for a command. Submit needs `found` and `queued`; Show, Report,
 /// Appeal, Review and Rule need `found`; Decide needs `first`; List needs `lines`. The other fields
 /// decide nothing.
-#[derive(Debug, Drop)]
+#[derive(Drop)]
 pub struct View {
     /// The case that the command names.
     pub found: Option<Case>,

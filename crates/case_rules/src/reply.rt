@@ -48,7 +48,7 @@ pub enum Reply {
 }
 
 /// The one change that a command makes.
-#[derive(Debug, Drop)]
+#[derive(Drop)]
 pub enum Change {
     Add(Case),
     /// Adds an entry to the case of this developer and reference.
@@ -59,7 +59,7 @@ pub enum Change {
 }
 
 /// What is to be done for a command.
-#[derive(Debug, Drop)]
+#[derive(Drop)]
 pub enum Plan {
     /// Nothing changes.
     Say(Reply),

@@ -2,7 +2,7 @@ use fact_rows::Row;
 use vet_base::Seq;
 
 /// What a certificate says: the digest of the files, and the rows of the table, which ascend.
-#[derive(Debug, Drop)]
+#[derive(Drop)]
 pub struct Cert {
     pub digest: [u8; 32],
     pub rows: Seq<Row>,

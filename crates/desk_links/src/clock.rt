@@ -12,7 +12,7 @@ pub trait Clock {
 }
 
 /// A clock that stands still.
-#[derive(Clone, Copy, Debug)]
+#[derive(Clone, Copy)]
 pub struct FixedClock {
     day: u32,
 }

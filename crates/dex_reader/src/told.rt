@@ -6,7 +6,7 @@ use std::alloc::Global;
 use vet_base::Name;
 
 /// Why bytes are no DEX file: the first test that fails.
-#[derive(Debug, Drop)]
+#[derive(Drop)]
 pub enum DexFault {
     /// The first eight bytes are not the magic of version 035.
     Magic,

@@ -7,7 +7,7 @@ use std::alloc::Global;
 use vet_base::Shared;
 
 /// A call of a disk in memory, with what it was asked.
-#[derive(Debug, Drop)]
+#[derive(Drop)]
 pub enum DiskCall {
     Len,
     /// The offset, and how many bytes there was room for.

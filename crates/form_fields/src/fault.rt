@@ -2,7 +2,7 @@ use crate::{Key, Section};
 use vet_base::Name;
 
 /// The test that a form fails.
-#[derive(Debug, Drop)]
+#[derive(Drop)]
 pub enum Fault {
     NotToml,
     Missing(Section, Key),

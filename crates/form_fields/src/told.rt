@@ -9,7 +9,7 @@ use vet_base::{Memory, Name, Stop};
 
 /// Why a text is no form: the first test that fails. A key within an array is named with the
 /// array, as `component.kind`.
-#[derive(Debug, Drop)]
+#[derive(Drop)]
 pub enum FormFault {
     /// The text is not UTF-8, or TOML does not read it.
     NotToml,

@@ -15,7 +15,7 @@ use toml::Table;
 use vet_base::{Memory, Name, Stop};
 
 /// The class, the name, the descriptor and the static word of a method row.
-#[derive(Debug, Eq, PartialOrd, Ord, Drop)]
+#[derive(Eq, PartialOrd, Ord, Drop)]
 pub struct MethodKey {
     pub class: Name,
     pub name: Name,

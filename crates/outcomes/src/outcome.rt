@@ -4,14 +4,14 @@ use app_model::MethodRef;
 use vet_base::Name;
 
 /// An instruction: its method and its address there.
-#[derive(Debug, Drop)]
+#[derive(Drop)]
 pub struct Place {
     pub at: MethodRef,
     pub pc: u32,
 }
 
 /// A method by its class, its name and the text of its descriptor.
-#[derive(Debug, Drop)]
+#[derive(Drop)]
 pub struct MethodName {
     pub class: Name,
     pub name: Name,
@@ -19,7 +19,7 @@ pub struct MethodName {
 }
 
 /// Data of a source category may come to a sink category at a place. The declaration does not name the pair.
-#[derive(Debug, Drop)]
+#[derive(Drop)]
 pub struct Finding {
     pub source: Name,
     pub sink: Name,
@@ -27,7 +27,7 @@ pub struct Finding {
 }
 
 /// Why nothing certain can be said of an app.
-#[derive(Debug, Drop)]
+#[derive(Drop)]
 pub enum Cause {
     /// The lists say nothing of what is called here.
     NoSummary(Place),

@@ -10,7 +10,7 @@ pub enum Role {
 }
 
 /// One who has a token for the desk.
-#[derive(Debug, Drop)]
+#[derive(Drop)]
 pub struct Party {
     pub name: Name,
     pub role: Role,

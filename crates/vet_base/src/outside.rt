@@ -19,7 +19,7 @@ pub enum FileFault {
 }
 
 /// A call of files that failed, with the name of the file.
-#[derive(Debug, Drop)]
+#[derive(Drop)]
 pub enum FailedCall {
     Read(Name),
     Write(Name),

@@ -5,7 +5,7 @@ use crate::Memory;
 use std::alloc::{AllocError, AllocFailed};
 
 /// Why a reading stopped: want of memory, or its first fault.
-#[derive(Debug, Drop)]
+#[derive(Drop)]
 pub enum Stop<F> {
     Memory,
     Fault(F),
