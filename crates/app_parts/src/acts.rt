@@ -10,7 +10,7 @@ use app_machine::{Act, App, CallKind};
 use vet_base::{KeyId, Name};
 
 /// The register RES, which holds the result of the last call or filled array.
-const RESULT: u32 = 65536;
+pub const RESULT: u32 = 65_536;
 
 /// Whether the act writes the register: a destination, or RES for a call and a filled array.
 pub fn writes(act: &Act, register: u32) -> bool

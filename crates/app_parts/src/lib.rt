@@ -10,7 +10,7 @@ mod puts;
 mod summary_view;
 mod types;
 
-pub use acts::{class_initialised, key_named, names_register, static_named, writes};
+pub use acts::{RESULT, class_initialised, key_named, names_register, static_named, writes};
 pub use kinds::{is_by_receiver, is_static_call};
 pub use layout::{parameter_type, position_at};
 pub use places::{is_position, place_at};

@@ -5,7 +5,7 @@ ghost use Rattle.begin_rules.specs.BeginGiven.{begins, with_code};
 
 use crate::parameters::{Start, at_registers};
 use app_machine::{App, Method};
-use fact_rows::Row;
+use fact_rows::{NATIVE, Row};
 use rule_ground::Sink;
 
 /// A body with code is reached, and its parameters hold what they may.
@@ -37,7 +37,7 @@ pub fn begin<S: Sink>(
         None => Ok(()),
         Some(method) => {
             if method.is_native {
-                start.put(Row::Unknown(start.first(), 2), out)
+                start.put(Row::Unknown(start.first(), NATIVE), out)
             } else {
                 with_code(start, sources, method, out)
             }

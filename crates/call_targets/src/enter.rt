@@ -10,16 +10,9 @@ use app_index::LibraryIndex;
 use app_machine::{App, CallKind, Method, MethodRef, SummaryId};
 use app_model::summary_of;
 use app_parts::{SummaryView, is_reflective, is_static_call};
-use fact_rows::{Activation, Node, Row};
+use fact_rows::{Activation, NATIVE, NO_SUMMARY, Node, REFLECTIVE, Row};
 use rule_ground::{Conclusion, Content, Premises, Sink, callee, entry};
 use vet_base::Name;
-
-/// Why what comes next may not be modelled.
-const NO_SUMMARY: u8 = 1;
-
-const NATIVE: u8 = 2;
-
-const REFLECTIVE: u8 = 3;
 
 /// A call instruction at a node.
 #[derive(Clone, Copy)]

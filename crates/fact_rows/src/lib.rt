@@ -6,6 +6,7 @@
 
 ghost use Rattle.fact_rows.specs.Order.{RowOrder};
 
+mod cause;
 mod context;
 mod field;
 mod fields;
@@ -15,6 +16,7 @@ mod row;
 mod site;
 mod table;
 
+pub use cause::{NATIVE, NO_SUMMARY, REFLECTIVE};
 pub use context::{Activation, Ctx, Node};
 pub use field::Field;
 pub use fields::Fields;

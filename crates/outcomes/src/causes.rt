@@ -12,7 +12,7 @@ use crate::names::copied;
 use crate::places::place_in;
 use crate::{Cause, Place};
 use app_model::{App, Class};
-use fact_rows::Row;
+use fact_rows::{NATIVE, NO_SUMMARY, REFLECTIVE, Row};
 use std::alloc::Global;
 use std::collections::BTreeSet;
 use vet_base::{Memory, Name};
@@ -53,8 +53,8 @@ fn named_cause(cause: u8, place: Place) -> Cause
     ensures { result ≡ named_cause cause place }
 {
     match cause {
-        1 => Cause::NoSummary(place),
-        2 => Cause::Native(place),
+        NO_SUMMARY => Cause::NoSummary(place),
+        NATIVE => Cause::Native(place),
         _ => Cause::Reflective(place),
     }
 }
@@ -86,7 +86,7 @@ fn no_summaries(alloc: Global, app: &App, rows: &[Row]) -> Result<Vec<Cause>, Me
     requires within { AreWithin app.now rows.now }
     ensures { IfOk result (λ v. v.items ≡ no_summaries app.now rows.now) }
 {
-    causes_by(alloc, app, 1, rows)
+    causes_by(alloc, app, NO_SUMMARY, rows)
 }
 
 /// Those at which it may stand before native code.
@@ -95,7 +95,7 @@ fn natives(alloc: Global, app: &App, rows: &[Row]) -> Result<Vec<Cause>, Memory>
     requires within { AreWithin app.now rows.now }
     ensures { IfOk result (λ v. v.items ≡ natives app.now rows.now) }
 {
-    causes_by(alloc, app, 2, rows)
+    causes_by(alloc, app, NATIVE, rows)
 }
 
 /// Those at which it may stand at reflection.
@@ -104,7 +104,7 @@ fn reflectives(alloc: Global, app: &App, rows: &[Row]) -> Result<Vec<Cause>, Mem
     requires within { AreWithin app.now rows.now }
     ensures { IfOk result (λ v. v.items ≡ reflectives app.now rows.now) }
 {
-    causes_by(alloc, app, 3, rows)
+    causes_by(alloc, app, REFLECTIVE, rows)
 }
 
 #[tactic(auto, unfolding(crate::specs::Causes::providers))]
