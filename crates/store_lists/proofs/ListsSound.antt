@@ -27,9 +27,8 @@ use Rattle.store_lists.specs.Classes.{above_in, parent_row, parents_at, parents_
 use Rattle.method_fields.specs.Positions.{flag_at, pairs_at, named_at, listed_at}
 use Rattle.app_machine.specs.Summaries.{position_count}
 use Rattle.method_fields.specs.Gives.{gives_at}
-use Rattle.method_fields.specs.Signature.{proto_at}
 use Rattle.store_lists.specs.Methods.{sink_at, signature_at, summary_of, method_row, methods_of}
-use Rattle.store_lists.specs.Callbacks.{callback_at, callback_row, callbacks_of}
+use Rattle.store_lists.specs.Callbacks.{called_at, callback_of, callback_at, callback_row, callbacks_of}
 use Rattle.store_lists.specs.Device.{device_at, statics_of}
 use Rattle.store_lists.specs.Lists.{are_categories, categories_at, shared_object, shared_row, shared_of, rows_of, rows_once, all_rows, arrays_at, lists_form}
 use Rattle.app_machine.specs.SoundLists.{SoundGives, TwoPositions, NamedPosition, SoundSink, SoundClass, SoundSummary, SoundCallback, SoundLists}
@@ -169,16 +168,20 @@ record CallbacksCounted (categories n : ℕ) (callbacks : CallbackRows) : Type 0
   is : length callbacks.rows ≡ n
   sound : All (SoundCallback categories) callbacks.rows
 
+sources_sound : (categories : List Name) (at : Signature) (t : Members) → Yields (SoundCallback (length categories)) (callback_of categories at t)
+unfolding callback_of
+sources_sound categories at t =
+    yields_then _ _ (named_at section.Callback key.Sources (position_count false at.proto) categories t) _ (named_are_within section.Callback key.Sources (position_count false at.proto) categories t)
+    (λ sources within. yields_value _ _ (record { sources = within }))
+
 callback_sound : (categories : List Name) (d : Data) → Yields (λ r. SoundCallback (length categories) r.0) (callback_at categories d)
 unfolding callback_at
 callback_sound categories d =
     yields_past _ (table_in section.Lists key.Callback d) _
     (λ t. yields_past _ (known section.Callback t) _
-    (λ _. yields_past _ (text_at section.Callback key.Class spelling.Class t) _
-    (λ class. yields_past _ (text_at section.Callback key.Name spelling.Text t) _
-    (λ name. yields_past _ (proto_at section.Callback t) _
-    (λ proto. yields_then _ _ (named_at section.Callback key.Sources (position_count false proto.0) categories t) _ (named_are_within section.Callback key.Sources (position_count false proto.0) categories t)
-    (λ sources within. yields_value _ _ (record { sources = within })))))))
+    (λ _. yields_past _ (called_at t) _
+    (λ at. yields_then (SoundCallback (length categories)) _ (callback_of categories at t) _ (sources_sound categories at t)
+    (λ callback sound. yields_value _ _ sound))))
 
 callback_counted : (categories : List Name) (n : ℕ) (d : Data) (callbacks : CallbackRows) → CallbacksCounted (length categories) n callbacks
     → Yields (CallbacksCounted (length categories) (n + 1)) (callback_row categories d callbacks)

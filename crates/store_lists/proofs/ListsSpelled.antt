@@ -30,7 +30,7 @@ use Rattle.method_fields.specs.Positions.{flag_at, pairs_at, named_at, listed_at
 use Rattle.method_fields.specs.Gives.{gives_at}
 use Rattle.method_fields.specs.Signature.{proto_at}
 use Rattle.store_lists.specs.Methods.{sink_at, is_listed, listed_class, signature_at, summary_of, method_row, methods_of}
-use Rattle.store_lists.specs.Callbacks.{callback_at, callback_row, callbacks_of}
+use Rattle.store_lists.specs.Callbacks.{called_at, callback_of, callback_at, callback_row, callbacks_of}
 use Rattle.store_lists.specs.Device.{device_at, statics_of}
 use Rattle.store_lists.specs.Lists.{are_categories, categories_at, shared_object, shared_row, shared_of, rows_of, rows_once, all_rows, arrays_at, lists_form}
 use Rattle.method_fields.specs.Spelled.{SpelledProto}
@@ -164,16 +164,28 @@ methods_spelled listed ds = yields_each (λ n r. All Method r.rows) (method_row 
 abbrev Called : Callback → Type 0
 Called c = SpelledMethod c.class c.name c.proto
 
+called_spelled : (t : Members) → Yields Signed (called_at t)
+unfolding called_at fits
+called_spelled t =
+    yields_then (Fits spelling.Class) _ (text_at section.Callback key.Class spelling.Class t) _ (text_fits section.Callback key.Class spelling.Class t)
+    (λ class named. yields_then (Fits spelling.Text) _ (text_at section.Callback key.Name spelling.Text t) _ (text_fits section.Callback key.Name spelling.Text t)
+    (λ name short. yields_then (λ r. SpelledProto r.0) _ (proto_at section.Callback t) _ (proto_spelled section.Callback t)
+    (λ proto typed. yields_value _ _ (record { of_class = named; named = short; typed = typed }))))
+
+sources_spelled : (categories : List Name) (at : Signature) (t : Members) → Signed at → Yields Called (callback_of categories at t)
+unfolding callback_of
+sources_spelled categories at t spelled =
+    yields_past _ (named_at section.Callback key.Sources (position_count false at.proto) categories t) _
+    (λ sources. yields_value _ _ spelled)
+
 callback_spelled : (categories : List Name) (d : Data) → Yields (λ r. Called r.0) (callback_at categories d)
-unfolding callback_at fits
+unfolding callback_at
 callback_spelled categories d =
     yields_past _ (table_in section.Lists key.Callback d) _
     (λ t. yields_past _ (known section.Callback t) _
-    (λ _. yields_then (Fits spelling.Class) _ (text_at section.Callback key.Class spelling.Class t) _ (text_fits section.Callback key.Class spelling.Class t)
-    (λ class named. yields_then (Fits spelling.Text) _ (text_at section.Callback key.Name spelling.Text t) _ (text_fits section.Callback key.Name spelling.Text t)
-    (λ name short. yields_then (λ r. SpelledProto r.0) _ (proto_at section.Callback t) _ (proto_spelled section.Callback t)
-    (λ proto typed. yields_past _ (named_at section.Callback key.Sources (position_count false proto.0) categories t) _
-    (λ sources. yields_value _ _ (record { of_class = named; named = short; typed = typed })))))))
+    (λ _. yields_then Signed _ (called_at t) _ (called_spelled t)
+    (λ at spelled. yields_then Called _ (callback_of categories at t) _ (sources_spelled categories at t spelled)
+    (λ callback one. yields_value _ _ one))))
 
 callback_row_spelled : (categories : List Name) (n : ℕ) (d : Data) (callbacks : CallbackRows) → All Called callbacks.rows → Yields (λ r. All Called r.rows) (callback_row categories d callbacks)
 unfolding callback_row

@@ -1,13 +1,13 @@
 //! The rows of callbacks.
 ghost use Rattle.std.specs.Prelude.{◌≡◌, ◌≤◌, ◌++◌, ◌∷◌, [], IfOk, length, map};
-ghost use Rattle.store_lists.specs.Callbacks.{callback_at, callback_row, callbacks_of};
+ghost use Rattle.store_lists.specs.Callbacks.{called_at, callback_of, callback_at, callback_row, callbacks_of};
 ghost use Rattle.method_fields.specs.Positions.{named_at, named_row, named_rows};
 ghost use Rattle.toml.specs.View.{table_view, view};
 ghost use Rattle.vet_base.specs.Script.{Gives};
 
 use app_machine::Callback;
 use form_fields::{Fault, Index, Key, Section, Shape, Spelling, known, table_in, text_at};
-use method_fields::{MethodKey, items_at, named_row, position_count, proto_at};
+use method_fields::{MethodKey, Signature, items_at, named_row, position_count, proto_at};
 use std::alloc::Global;
 use toml::{Table, Value};
 use vet_base::{Memory, Name, Seq, Stop};
@@ -67,7 +67,7 @@ fn with_callback(
     Ok(CallbackRows { rows, keys })
 }
 
-/// A callback, and what tells it from others. It is no static method.
+/// A callback, and what tells it from others.
 #[tactic(auto, unfolding(crate::specs::Callbacks::callback_at), using(vet_base::proofs::Scripts::run_bind))]
 fn callback_at(
     alloc: Global,
@@ -79,25 +79,47 @@ fn callback_at(
 {
     let table = table_in(value, Section::Lists, Key::Callback)?;
     known(alloc, table, Section::Callback)?;
+    let at = called_at(alloc, table)?;
+    let key = at.key()?;
+    let callback = callback_of(alloc, table, categories, at)?;
+    Ok((callback, key))
+}
+
+/// The first keys of a row. A callback is no static method.
+#[tactic(auto, unfolding(crate::specs::Callbacks::called_at), using(vet_base::proofs::Scripts::run_bind))]
+fn called_at(alloc: Global, table: &Table) -> Result<Signature, Stop<Fault>>
+    ensures { Gives (λ x. x) result (called_at (table_view table.now)) }
+{
     let class = text_at(alloc, table, Section::Callback, Key::Class, Spelling::Class)?;
     let name = text_at(alloc, table, Section::Callback, Key::Name, Spelling::Text)?;
     let (proto, descriptor) = proto_at(alloc, table, Section::Callback)?;
-    let sources = sources_at(alloc, table, position_count(false, &proto), categories)?;
-    let key_class = class.copy()?;
-    let key_name = name.copy()?;
-    let callback = Callback {
+    Ok(Signature {
         class,
         name,
         proto,
-        sources: Seq::from_vec(sources),
-    };
-    let key = MethodKey {
-        class: key_class,
-        name: key_name,
         descriptor,
         is_static: false,
-    };
-    Ok((callback, key))
+    })
+}
+
+/// What a row says beside them.
+#[tactic(auto, unfolding(crate::specs::Callbacks::callback_of), using(vet_base::proofs::Scripts::run_bind))]
+fn callback_of(
+    alloc: Global,
+    table: &Table,
+    categories: &Index<Name>,
+    at: Signature,
+) -> Result<Callback, Stop<Fault>>
+    requires { length categories.now ≤ 200 }
+    ensures { Gives (λ x. x) result (callback_of categories.now at (table_view table.now)) }
+{
+    let sources = sources_at(alloc, table, position_count(false, &at.proto), categories)?;
+    Ok(Callback {
+        class: at.class,
+        name: at.name,
+        proto: at.proto,
+        sources: Seq::from_vec(sources),
+    })
 }
 
 /// Positions, each with the category with which its value comes labelled.
