@@ -58,10 +58,8 @@ impl Classes {
     pub fn with(self, row: LibClass) -> Result<Self, Memory>
         ensures { IfOk result (λ x. x ≡ self ++ row ∷ []) }
     {
-        let name = row.name.copy()?;
-        let twin = row.name.copy()?;
         let Classes { mut rows, names } = self;
-        let names = names.with(name, twin)?;
+        let names = with_name(names, &row.name)?;
         rows.push(row)?;
         Ok(Classes { rows, names })
     }
@@ -151,11 +149,20 @@ fn parents_above(
     Ok(above)
 }
 
+/// The names and one more.
+pub(crate) fn with_name(names: Index<Name>, name: &Name) -> Result<Index<Name>, Memory>
+    ensures { IfOk result (λ x. x ≡ names ++ name.now ∷ []) }
+{
+    let key = name.copy()?;
+    let twin = name.copy()?;
+    names.with(key, twin)
+}
+
 /// An index of one name.
 fn only(alloc: Global, name: &Name) -> Result<Index<Name>, Memory>
     ensures { IfOk result (λ x. x ≡ name.now ∷ []) }
 {
-    Index::new(alloc).with(name.copy()?, name.copy()?)
+    with_name(Index::new(alloc), name)
 }
 
 /// The classes above one parent more, whose row stands earlier.

@@ -8,7 +8,7 @@ ghost use Rattle.toml.specs.View.{table_view, view};
 ghost use Rattle.vet_base.specs.Script.{Gives};
 
 use crate::callbacks::{CallbackRows, callbacks_of};
-use crate::classes::classes_of;
+use crate::classes::{classes_of, with_name};
 use crate::device::{DeviceKeys, StaticRows, device_at, statics_of};
 use crate::methods::{Listed, MethodRows, methods_of};
 use app_machine::{LibClass, Lists};
@@ -282,10 +282,8 @@ fn with_shared(shared: SharedRows, object: SharedObject) -> Result<SharedRows, M
       names = shared.names ++ object.name ∷ [];
     }) }
 {
-    let name = object.name.copy()?;
-    let twin = object.name.copy()?;
     let SharedRows { mut rows, names } = shared;
-    let names = names.with(name, twin)?;
+    let names = with_name(names, &object.name)?;
     rows.push((object.name, object.class))?;
     Ok(SharedRows { rows, names })
 }
