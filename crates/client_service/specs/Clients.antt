@@ -3,8 +3,8 @@ use Rattle.std.specs.Prelude.{◌≡◌, ◌<◌, ◌≤◌, ℕ, List, ◌++◌
 use Rattle.vet_base.specs.Outside.{Told, held_by}
 use Rattle.client_form.specs.declared.client.Client.{Client}
 use Rattle.client_form.specs.Form.{IsClient, FirstFault}
-use Rattle.client_service.specs.declared.client.Unfit.{Unfit}
-use Rattle.client_service.specs.declared.client.Unfit.TheVariants.{Absent, TooLong, Form}
+use Rattle.verdict_report.specs.declared.unfit.Unfit.{Unfit}
+use Rattle.verdict_report.specs.declared.unfit.Unfit.TheVariants.{Absent, TooLong, Form}
 use Rattle.client_service.specs.declared.ready.Halt.{Halt}
 use Rattle.client_service.specs.declared.ready.Halt.TheVariants.{Refused, ReadFault, Memory}
 use Rattle.client_service.specs.declared.ready.Refusal.TheVariants as refusals

@@ -12,7 +12,7 @@ use Rattle.verdict.specs.declared.outcome.Part.TheVariants.{Manifest, Layouts, D
 use Rattle.verdict.specs.declared.outcome.Reason.{Reason}
 use Rattle.app_folder.specs.declared.folder.Halt.{Halt as FolderHalt}
 use Rattle.app_folder.specs.declared.folder.Halt.TheVariants as folders
-use Rattle.client_service.specs.declared.client.Unfit.{Unfit}
+use Rattle.verdict_report.specs.declared.unfit.Unfit.{Unfit}
 use Rattle.client_service.specs.declared.ready.Refusal.{Refusal}
 use Rattle.client_service.specs.declared.ready.Refusal.TheVariants.{Client as BadClient, File, NotText, TooLong}
 use Rattle.client_service.specs.declared.ready.Halt.{Halt}

@@ -4,19 +4,13 @@ use Rattle.std.specs.Fmt.{decimal}
 use Rattle.printed_text.specs.Printed.{escaped}
 use Rattle.verdict.specs.declared.outcome.Outcome.TheVariants.{Refused}
 use Rattle.verdict.specs.declared.outcome.Part.{Part}
-use Rattle.verdict_report.specs.Reasons.{form_reason, part_name}
+use Rattle.verdict_report.specs.declared.unfit.Unfit.{Unfit}
+use Rattle.verdict_report.specs.Reasons.{part_name, unfit_text}
 use Rattle.verdict_report.specs.Report.{report_text}
-use Rattle.client_service.specs.declared.client.Unfit.{Unfit}
-use Rattle.client_service.specs.declared.client.Unfit.TheVariants as unfits
 use Rattle.client_service.specs.declared.ready.Refusal.{Refusal}
 use Rattle.client_service.specs.declared.ready.Refusal.TheVariants.{Client, File, NotText, TooLong}
 
 -- why the client's file is refused, in the words of the report on an app
-unfoldable pub unfit_text : Unfit → List ℕ
-unfit_text unfits.Absent = codes "absent"
-unfit_text unfits.TooLong = codes "longer than 16777216"
-unfit_text (unfits.Form fault) = form_reason fault
-
 unfoldable pub bad_client_text : Unfit → List ℕ
 bad_client_text unfit = codes "refused client.toml: " ++ unfit_text unfit ++ codes "\n"
 

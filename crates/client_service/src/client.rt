@@ -9,17 +9,8 @@ use client_form::{Client, read_client};
 use form_fields::FormFault;
 use printed_text::FILE_LIMIT;
 use std::alloc::{AllocError, Global};
+use verdict_report::Unfit;
 use vet_base::{FileFault, Files};
-
-/// Why the client's file is refused.
-#[derive(Drop)]
-pub enum Unfit {
-    /// The file is not there.
-    Absent,
-    /// The file has more than 16,777,216 bytes.
-    TooLong,
-    Form(FormFault),
-}
 
 #[tactic(auto, unfolding(crate::specs::Clients::client_path))]
 fn client_path(alloc: Global, dir: &str) -> Result<String, AllocError>

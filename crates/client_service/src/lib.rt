@@ -10,7 +10,6 @@ mod saying;
 mod texts;
 mod words;
 
-pub use client::Unfit;
 pub use outside::Status;
 pub use ready::Refusal;
 pub use run::submit;

@@ -6,7 +6,7 @@ ghost use Rattle.client_service.specs.Posting.{text_part, HaltsAs, GivesApp, Mak
 ghost use Rattle.client_service.specs.Reading.{Leaves};
 ghost use Rattle.client_service.specs.Words.{asked_words, IsWithin};
 
-use crate::client::{Unfit, client_in};
+use crate::client::client_in;
 use crate::content::content_in;
 use crate::words::Submitting;
 use app_folder::Halt as FolderHalt;
@@ -15,6 +15,7 @@ use client_form::Client;
 use client_http::{MakeFault, request_bytes};
 use std::alloc::{AllocError, Global};
 use verdict::{Part, Reason};
+use verdict_report::Unfit;
 use vet_base::{Files, Memory, Name};
 
 /// Why nothing is sent.

@@ -1,26 +1,13 @@
 //! What is printed. Each text is one line, which ends with one line feed.
-ghost use Rattle.std.specs.Prelude.{◌≡◌, ◌++◌, OnOk, IfOk};
-ghost use Rattle.client_service.specs.Texts.{accepted_text, answered_text, bad_client_text, no_answer_text, not_text_text, read_fault_text, refused_text, too_long_text, unfit_text};
+ghost use Rattle.std.specs.Prelude.{◌≡◌, IfOk};
+ghost use Rattle.client_service.specs.Texts.{accepted_text, answered_text, bad_client_text, no_answer_text, not_text_text, read_fault_text, refused_text, too_long_text};
 
-use crate::client::Unfit;
 use crate::ready::Refusal;
 use printed_text::{put, put_name};
 use std::alloc::Global;
 use verdict::{Outcome, Part};
-use verdict_report::{push_part_name, put_form_reason, report};
+use verdict_report::{Unfit, push_part_name, put_unfit, report};
 use vet_base::Memory;
-
-/// Adds why the client's file is refused.
-#[tactic(auto, unfolding(crate::specs::Texts::unfit_text))]
-fn put_unfit(text: &mut Vec<u8>, unfit: &Unfit) -> Result<(), Memory>
-    ensures { OnOk result (text.new.items ≡ text.old.items ++ unfit_text unfit.now) }
-{
-    match unfit {
-        Unfit::Absent => put(text, b"absent".as_slice()),
-        Unfit::TooLong => put(text, b"longer than 16777216".as_slice()),
-        Unfit::Form(fault) => put_form_reason(text, fault),
-    }
-}
 
 #[tactic(auto, unfolding(crate::specs::Texts::bad_client_text))]
 fn bad_client(alloc: Global, unfit: &Unfit) -> Result<Vec<u8>, Memory>

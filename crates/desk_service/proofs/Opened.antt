@@ -17,8 +17,8 @@ use Rattle.sha2.specs.Sha256.{sha256}
 use Rattle.desk_service.specs.declared.lists_judge.OfficeLists.{OfficeLists}
 use Rattle.desk_service.specs.declared.opening.Halt.{Halt}
 use Rattle.desk_service.specs.declared.opening.Halt.TheVariants.{Refused, ReadFault, Memory}
-use Rattle.desk_service.specs.declared.opening.Unfit.{Unfit}
-use Rattle.desk_service.specs.declared.opening.Unfit.TheVariants.{Absent, TooLong, Form}
+use Rattle.verdict_report.specs.declared.unfit.Unfit.{Unfit}
+use Rattle.verdict_report.specs.declared.unfit.Unfit.TheVariants.{Absent, TooLong, Form}
 use Rattle.desk_service.specs.Opening.{HasBytes, IsAbsent, IsTooLong, IsUnfit, IsUnfitOffice, IsUnfitLists, SaysOffice, HasLists, Opened, Refusal, Opens, unfit_office, unfit_lists, both_fit, OpensAs, OpensOffice, OpensLists, OpensDesk}
 
 -- what there is of a file

@@ -15,8 +15,8 @@ use Rattle.office_forms.specs.Office.{office_form}
 use Rattle.desk_service.specs.declared.lists_judge.OfficeLists.{OfficeLists}
 use Rattle.desk_service.specs.declared.opening.Paper.{Paper}
 use Rattle.desk_service.specs.declared.opening.Paper.TheVariants.{Office, Lists}
-use Rattle.desk_service.specs.declared.opening.Unfit.{Unfit}
-use Rattle.desk_service.specs.declared.opening.Unfit.TheVariants.{Absent, TooLong, Form}
+use Rattle.verdict_report.specs.declared.unfit.Unfit.{Unfit}
+use Rattle.verdict_report.specs.declared.unfit.Unfit.TheVariants.{Absent, TooLong, Form}
 use Rattle.desk_service.specs.declared.opening.Halt.{Halt}
 use Rattle.desk_service.specs.declared.opening.Halt.TheVariants.{Refused, ReadFault, Memory}
 

@@ -2,19 +2,12 @@
 use Rattle.std.specs.Prelude.{ℕ, List, ◌++◌, codes}
 use Rattle.std.specs.Fmt.{decimal}
 use Rattle.printed_text.specs.Printed.{escaped}
-use Rattle.verdict_report.specs.Reasons.{form_reason}
+use Rattle.verdict_report.specs.declared.unfit.Unfit.{Unfit}
+use Rattle.verdict_report.specs.Reasons.{unfit_text}
 use Rattle.desk_service.specs.declared.opening.Paper.{Paper}
-use Rattle.desk_service.specs.declared.opening.Unfit.{Unfit}
-use Rattle.desk_service.specs.declared.opening.Unfit.TheVariants.{Absent, TooLong, Form}
 use Rattle.desk_service.specs.Opening.{paper_name}
 
--- why a file is refused, in the words of the report on an app
-unfoldable pub unfit_text : Unfit → List ℕ
-unfit_text Absent = codes "absent"
-unfit_text TooLong = codes "longer than 16777216"
-unfit_text (Form fault) = form_reason fault
-
--- which file of the office is refused, and why
+-- which file of the office is refused, and why in the words of the report on an app
 unfoldable pub refused_text : Paper → Unfit → List ℕ
 refused_text paper unfit = codes "refused " ++ paper_name paper ++ codes ": " ++ unfit_text unfit ++ codes "\n"
 

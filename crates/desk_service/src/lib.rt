@@ -12,6 +12,6 @@ mod texts;
 
 pub use desk_words::database_path;
 pub use laws::a_clear_decision_is_of_a_safe_app;
-pub use opening::{Paper, Unfit};
+pub use opening::Paper;
 pub use outside::{Outside, Status};
 pub use run::serve;

@@ -8,6 +8,7 @@ use office_forms::{FormFault, one_form_or_fault, read_lists, read_office};
 use printed_text::FILE_LIMIT;
 use std::alloc::{AllocError, Global};
 use store_office::Office;
+use verdict_report::Unfit;
 use vet_base::{FileFault, Files, Memory};
 
 /// A file of the office.
@@ -15,16 +16,6 @@ use vet_base::{FileFault, Files, Memory};
 pub enum Paper {
     Office,
     Lists,
-}
-
-/// Why it is refused.
-#[derive(Drop)]
-pub enum Unfit {
-    /// The file is not there.
-    Absent,
-    /// The file has more than 16,777,216 bytes.
-    TooLong,
-    Form(FormFault),
 }
 
 /// Why a desk could not be opened.

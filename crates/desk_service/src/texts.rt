@@ -1,25 +1,13 @@
 //! What is printed. Each text is one line, which ends with one line feed.
-ghost use Rattle.std.specs.Prelude.{◌≡◌, ◌++◌, codes, OnOk, IfOk};
+ghost use Rattle.std.specs.Prelude.{◌≡◌, codes, IfOk};
 ghost use Rattle.std.specs.Fmt.{decimal};
-ghost use Rattle.desk_service.specs.Texts.{unfit_text, refused_text, read_fault_text, served_text, door_fault_text};
+ghost use Rattle.desk_service.specs.Texts.{refused_text, read_fault_text, served_text, door_fault_text};
 
-use crate::opening::{Paper, Unfit, name_of};
+use crate::opening::{Paper, name_of};
 use printed_text::{put, put_name};
 use std::alloc::Global;
-use verdict_report::put_form_reason;
+use verdict_report::{Unfit, put_unfit};
 use vet_base::Memory;
-
-/// Adds why a file is refused.
-#[tactic(auto, unfolding(crate::specs::Texts::unfit_text))]
-fn put_unfit(text: &mut Vec<u8>, unfit: &Unfit) -> Result<(), Memory>
-    ensures { OnOk result (text.new.items ≡ text.old.items ++ unfit_text unfit.now) }
-{
-    match unfit {
-        Unfit::Absent => put(text, b"absent".as_slice()),
-        Unfit::TooLong => put(text, b"longer than 16777216".as_slice()),
-        Unfit::Form(fault) => put_form_reason(text, fault),
-    }
-}
 
 /// Which file of the office is refused, and why.
 #[tactic(auto, unfolding(crate::specs::Texts::refused_text))]

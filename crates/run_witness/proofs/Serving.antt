@@ -7,18 +7,18 @@ use Rattle.std.proofs.lemmas.Option.{none-some, same_Some}
 use Rattle.vet_base.specs.Outside.{HasRisen, Told, held_by}
 use Rattle.form_fields.specs.declared.told.FormFault.{FormFault}
 use Rattle.form_fields.specs.declared.told.FormFault.TheVariants as forms
-use Rattle.verdict_report.specs.Reasons.{form_reason}
+use Rattle.verdict_report.specs.Reasons.{form_reason, unfit_text}
 use Rattle.desk_words.specs.Numbers.{digits as spelled, number, positive}
 use Rattle.desk_words.specs.Serve.{Serve, is_serve, count_of}
 use Rattle.desk_words.specs.Words.{is_file_name}
 use Rattle.desk_service.specs.declared.opening.Paper.{Paper}
 use Rattle.desk_service.specs.declared.opening.Paper.TheVariants.{Office, Lists}
-use Rattle.desk_service.specs.declared.opening.Unfit.{Unfit}
-use Rattle.desk_service.specs.declared.opening.Unfit.TheVariants.{Absent, TooLong, Form}
+use Rattle.verdict_report.specs.declared.unfit.Unfit.{Unfit}
+use Rattle.verdict_report.specs.declared.unfit.Unfit.TheVariants.{Absent, TooLong, Form}
 use Rattle.desk_service.specs.Opening.{Opens, OpensAs, Opened, Refusal, IsUnfitLists, paper_name}
 use Rattle.desk_service.specs.Serving.{Seen, Serves, ComesToSay, Ends, KeepsFiles, PrintsNothing}
 use Rattle.desk_service.specs.Serving.{Prints as PrintsText}
-use Rattle.desk_service.specs.Texts.{unfit_text, refused_text, served_text, door_fault_text}
+use Rattle.desk_service.specs.Texts.{refused_text, served_text, door_fault_text}
 use Rattle.run_witness.specs.Servings.{Prints, Fails, Holds, HasTwo, NoServing, ServingsEnd}
 
 abbrev first : List ℕ → ℕ

@@ -7,8 +7,8 @@ use Rattle.form_fields.specs.declared.told.FormFault.{FormFault}
 use Rattle.desk_words.specs.Serve.{Serve, parse}
 use Rattle.desk_service.specs.declared.opening.Paper.{Paper}
 use Rattle.desk_service.specs.declared.opening.Paper.TheVariants.{Office, Lists}
-use Rattle.desk_service.specs.declared.opening.Unfit.{Unfit}
-use Rattle.desk_service.specs.declared.opening.Unfit.TheVariants.{Form}
+use Rattle.verdict_report.specs.declared.unfit.Unfit.{Unfit}
+use Rattle.verdict_report.specs.declared.unfit.Unfit.TheVariants.{Form}
 use Rattle.desk_service.specs.Opening.{paper_path}
 use Rattle.desk_service.specs.Saying.{status}
 use Rattle.desk_service.specs.Serving.{Seen, Answers}

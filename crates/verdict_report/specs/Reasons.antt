@@ -15,6 +15,8 @@ use Rattle.verdict.specs.declared.outcome.Part.TheVariants as part
 use Rattle.verdict.specs.declared.outcome.Reason.{Reason}
 use Rattle.verdict.specs.declared.outcome.Reason.TheVariants as reason
 use Rattle.printed_text.specs.Printed.{escaped}
+use Rattle.verdict_report.specs.declared.unfit.Unfit.{Unfit}
+use Rattle.verdict_report.specs.declared.unfit.Unfit.TheVariants as unfits
 use Rattle.verdict_report.specs.Printed.{method_text}
 
 unfoldable pub first_dex_name : List ℕ
@@ -44,6 +46,12 @@ form_reason (forms.Unknown key) = codes "unknown " ++ escaped key
 form_reason (forms.Range key) = codes "range " ++ escaped key
 form_reason (forms.Twice name) = codes "twice " ++ escaped name
 form_reason forms.Memory = codes "memory"
+
+-- why a file that stands beside those of an app is refused
+unfoldable pub unfit_text : Unfit → List ℕ
+unfit_text unfits.Absent = codes "absent"
+unfit_text unfits.TooLong = codes "longer than 16777216"
+unfit_text (unfits.Form fault) = form_reason fault
 
 unfoldable pub dex_reason : DexFault → List ℕ
 dex_reason told.Magic = codes "magic"
