@@ -109,7 +109,8 @@ fn kept<K: Keeper>(
     Ok(reply)
 }
 
-/// The desk's reply, once what changes is kept.
+/// The desk's reply, once what changes is kept. `obey` proves from what is proved of it alone that the cases stay those
+/// of a desk.
 fn obeyed<K: Keeper, J: Judge>(
     alloc: Global,
     desk: &Desk<J>,

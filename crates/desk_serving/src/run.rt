@@ -11,7 +11,8 @@ use case_keeper::Keeper;
 use desk_links::{Clock, Door, DoorFault};
 use std::alloc::Global;
 
-/// Connections are taken and served.
+/// Connections are taken and served. It is proved of the loop which runs there are; `serve_door` proves from it alone
+/// that such a run is one of the desk's machine.
 fn served_door<K: Keeper, D: Door, C: Clock, J: Judge>(
     alloc: Global,
     desk: &Desk<J>,

@@ -139,7 +139,7 @@ fn found_by_recheck<F: Files>(
     }
 }
 
-/// What `make` finds. It reads no file.
+/// What `make` finds, whatever the files tell.
 fn found_by_make<T: Threads + Wait + Sync, L: Lookout>(
     alloc: Global,
     app_seed: u32,

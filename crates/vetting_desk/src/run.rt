@@ -110,7 +110,8 @@ fn finished<F: Files, O: Sink>(alloc: Global, files: &mut F, out: &mut O, found:
     }
 }
 
-/// Finds what the words and the files come to, writes the file that is due, if any, and prints the answer.
+/// Finds what the words and the files come to, writes the file that is due, if any, and prints the answer. It is proved
+/// how that ends; `vet` proves from it alone what is due, and what that says of an app.
 fn run<F: Files, O: Sink, T: Threads + Wait + Sync, L: Lookout>(
     alloc: Global,
     words: &[String],
