@@ -1,7 +1,8 @@
 //! Rules 14 to 16, 18 and 19: what follows from an effect.
 ghost use Rattle.std.specs.Prelude.{◌≡◌, OnOk, fold};
 ghost use Rattle.app_machine.specs.Sound.{SoundApp};
-ghost use Rattle.effect_rules.specs.EffectGiven.{lifts, spreads, spread_to, spread_on, statics_hold, is_handed, effect_gives, step_here};
+ghost use Rattle.effect_rules.specs.EffectGiven.{lifts, spreads, spread_to, spread_on, statics_hold};
+ghost use Rattle.effect_rules.specs.EffectGiven.{is_handed, effect_gives, step_here};
 
 use access_path::{Path, cut};
 use app_machine::App;

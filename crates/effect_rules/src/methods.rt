@@ -1,6 +1,7 @@
 //! Rules 17, 20 and 21: what follows from the effects of activations.
-ghost use Rattle.std.specs.Prelude.{◌≡◌, OnOk, fold, slice_get};
-ghost use Rattle.effect_rules.specs.EffectGiven.{caller_has, called_has, state_in, own_to, own_gives, is_beside, stays, component_gives, method_gives, live_takes, live_gives};
+ghost use Rattle.std.specs.Prelude.{◌≡◌, OnOk, flat_map, fold, slice_get};
+ghost use Rattle.effect_rules.specs.EffectGiven.{caller_has, called_has, state_in, own_to, own_gives, is_beside};
+ghost use Rattle.effect_rules.specs.EffectGiven.{stays, component_gives, method_gives, live_takes, live_gives};
 
 use access_path::Path;
 use app_machine::App;
@@ -48,9 +49,9 @@ impl Join for Callers {
 
 /// The node has the effects of the activation that it enters.
 #[derive(Drop)]
-pub struct Called {
-    pub by: Activation,
-    pub node: Node,
+struct Called {
+    by: Activation,
+    node: Node,
 }
 
 impl Join for Called {
@@ -68,6 +69,19 @@ impl Join for Called {
             _ => Ok(()),
         }
     }
+}
+
+/// What follows where the node enters the activation.
+pub fn call<F: Facts, S: Sink>(
+    facts: &F,
+    by: Activation,
+    node: Node,
+    out: &mut S,
+) -> Result<(), S::Refusal>
+    ensures { OnOk result (out.new ≡ fold S.then out.old (flat_map (called_has by node)
+        (F.hits facts.now (Key.MethodEffectsOf by)))) }
+{
+    for_each_hit(facts, &Key::MethodEffectsOf(by), &Called { by, node }, out)
 }
 
 /// The state to which the event of the component leads.

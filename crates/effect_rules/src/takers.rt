@@ -1,21 +1,22 @@
 //! Rules 14, 15, 18 and 19 from the side of what holds the object.
-ghost use Rattle.std.specs.Prelude.{◌≡◌, OnOk, fold};
+ghost use Rattle.std.specs.Prelude.{◌≡◌, OnOk, flat_map, fold};
 ghost use Rattle.app_machine.specs.Sound.{SoundApp};
-ghost use Rattle.effect_rules.specs.EffectGiven.{back_lifts, back_on, points_take, static_takes, handed_takes, step_here};
+ghost use Rattle.effect_rules.specs.EffectGiven.{back_lifts, back_on, points_take};
+ghost use Rattle.effect_rules.specs.EffectGiven.{static_takes, handed_takes, step_here};
 
 use access_path::cut;
 use app_machine::App;
 use app_model::step_at;
 use fact_rows::{Node, Row, Site};
-use rule_ground::{Conclusion, Join, Premises, Sink, is_among};
+use rule_ground::{Conclusion, Facts, Join, Key, Premises, Sink, for_each_hit, is_among};
 use vet_base::KeyId;
 
 /// An object that holds another.
 #[derive(Drop)]
-pub struct Holder {
-    pub held: Site,
-    pub key: KeyId,
-    pub site: Site,
+struct Holder {
+    held: Site,
+    key: KeyId,
+    site: Site,
 }
 
 impl Join for Holder {
@@ -35,13 +36,28 @@ impl Join for Holder {
     }
 }
 
+/// What follows where an object of the site holds one of the other site under the key.
+pub fn hold<F: Facts, S: Sink>(
+    facts: &F,
+    held: Site,
+    key: KeyId,
+    site: Site,
+    out: &mut S,
+) -> Result<(), S::Refusal>
+    ensures { OnOk result (out.new ≡ fold S.then out.old (flat_map (back_lifts held key site)
+        (F.hits facts.now (Key.EffectsOn held)))) }
+{
+    let with = Holder { held, key, site };
+    for_each_hit(facts, &Key::EffectsOn(held), &with, out)
+}
+
 /// A register that holds the object.
 #[derive(Drop)]
-pub struct Register<'a> {
-    pub app: &'a App,
-    pub node: Node,
-    pub register: u32,
-    pub site: Site,
+struct Register<'a> {
+    app: &'a App,
+    node: Node,
+    register: u32,
+    site: Site,
 }
 
 /// The effect comes to the pc, where the step goes on there or is caught there.
@@ -90,11 +106,33 @@ impl<'a> Join for Register<'a> {
     }
 }
 
+/// What follows where the register may hold an object of the site.
+pub fn point<F: Facts, S: Sink>(
+    app: &App,
+    facts: &F,
+    node: Node,
+    register: u32,
+    site: Site,
+    out: &mut S,
+) -> Result<(), S::Refusal>
+    requires { SoundApp app.now }
+    ensures { OnOk result (out.new ≡ fold S.then out.old (flat_map (points_take app.now node register site)
+        (F.hits facts.now (Key.EffectsIn node.by site)))) }
+{
+    let with = Register {
+        app,
+        node,
+        register,
+        site,
+    };
+    for_each_hit(facts, &Key::EffectsIn(node.by, site), &with, out)
+}
+
 /// A static that holds it.
 #[derive(Drop)]
-pub struct Static {
-    pub number: u32,
-    pub site: Site,
+struct Static {
+    number: u32,
+    site: Site,
 }
 
 impl Join for Static {
@@ -114,9 +152,23 @@ impl Join for Static {
     }
 }
 
+/// What follows where the static may hold an object of the site.
+pub fn hold_static<F: Facts, S: Sink>(
+    facts: &F,
+    number: u32,
+    site: Site,
+    out: &mut S,
+) -> Result<(), S::Refusal>
+    ensures { OnOk result (out.new ≡ fold S.then out.old (flat_map (static_takes number site)
+        (F.hits facts.now (Key.EffectsOn site)))) }
+{
+    let with = Static { number, site };
+    for_each_hit(facts, &Key::EffectsOn(site), &with, out)
+}
+
 /// The object is handed.
 #[derive(Drop)]
-pub struct HandedObject(pub Site);
+struct HandedObject(Site);
 
 impl Join for HandedObject {
     ghost ready = { λ j. Unit {0} };
@@ -133,4 +185,12 @@ impl Join for HandedObject {
             _ => Ok(()),
         }
     }
+}
+
+/// What follows where the library may have been handed an object of the site.
+pub fn hand<F: Facts, S: Sink>(facts: &F, site: Site, out: &mut S) -> Result<(), S::Refusal>
+    ensures { OnOk result (out.new ≡ fold S.then out.old (flat_map (handed_takes site)
+        (F.hits facts.now (Key.EffectsOn site)))) }
+{
+    for_each_hit(facts, &Key::EffectsOn(site), &HandedObject(site), out)
 }
