@@ -92,9 +92,8 @@ impl FlowRows {
         &self.rows
     }
 
-    /// Those that tell something of the app by themselves, in ascending order: that a value may come to a
-    /// sink, and that a run may come to what is not modelled. Nothing else goes wrong but that memory is
-    /// wanting.
+    /// Those that tell something of the app by themselves, in ascending order: that a value may come to a sink,
+    /// and that a run may come to what is not modelled. Nothing else goes wrong but that memory is wanting.
     #[tactic(auto, using(crate::proofs::InOrder::telling_in_order))]
     pub fn telling(&self, alloc: Global) -> Result<Vec<Row>, Memory>
         ensures { IfOk result (λ rows. rows.items ≡ filter tells self.now) }
@@ -105,8 +104,7 @@ impl FlowRows {
         Ok(rows)
     }
 
-    /// All rows, in ascending order. They are copied for that, so memory may be wanting, and then they are
-    /// gone.
+    /// All rows, in ascending order. They are copied for that, so memory may be wanting, and then they are gone.
     #[tactic(auto, using(crate::proofs::InOrder::sorted_in_order))]
     pub fn into_ascending(self, alloc: Global) -> Result<Seq<Row>, Memory>
         ensures { IfOk result (λ rows. rows ≡ self) }

@@ -140,9 +140,9 @@ fn told_of(alloc: Global, fault: Fault) -> LinkFault
 /// Classes stand by name, methods by class, name and descriptor, keys and statics by class, name and type. A reference
 /// to a field is looked up along superclasses, a static one then through the interfaces too.
 ///
-/// An error is the first fault, in this order: classes, members and components in file order, the hierarchy, the code
-/// by the order of methods, and then the limits of 100,000 classes, 400,000 methods, 400,000 fields and 33,554,432 code
-/// units.
+/// An error is the first fault, in this order: classes, members and components in
+/// file order, the hierarchy, the code by the order of methods, and then the limits
+/// of 100,000 classes, 400,000 methods, 400,000 fields and 33,554,432 code units.
 #[tactic(auto, using(crate::proofs::ShortCodes::short_codes, crate::proofs::OneAnswer::one_answer, crate::proofs::FirstFaults::told_first))]
 pub fn link(
     alloc: Global,

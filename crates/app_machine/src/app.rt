@@ -1,8 +1,7 @@
 use crate::{Component, Method, Proto};
 use vet_base::{Name, Seq, Shared};
 
-/// A key under which an object keeps values: all elements, or an instance field by class, name and
-/// type.
+/// A key under which an object keeps values: all elements, or an instance field by class, name and type.
 #[derive(Drop)]
 pub enum Key {
     Elem,

@@ -21,8 +21,7 @@ pub struct LibClass {
     pub fallback: Option<FallbackWord>,
 }
 
-/// What a library call does: the method row of that number, or the default of the class of that
-/// number.
+/// What a library call does: the method row of that number, or the default of the class of that number.
 #[derive(Clone, Copy, Debug, PartialEq, Eq, PartialOrd, Ord, Hash)]
 pub enum SummaryId {
     Row(u32),

@@ -1,8 +1,7 @@
 use crate::Proto;
 use vet_base::{Name, Seq};
 
-/// The result of a library method. Positions count arguments, a wide one once, with the receiver
-/// as 0.
+/// The result of a library method. Positions count arguments, a wide one once, with the receiver as 0.
 #[derive(Drop)]
 pub enum Gives {
     /// A value without place and labels.

@@ -81,8 +81,7 @@ pub fn static_named(act: &Act) -> Option<u32>
     }
 }
 
-/// The class that the act initialises: that of a new object, of a static field or of a static
-/// method.
+/// The class that the act initialises: that of a new object, of a static field or of a static method.
 #[tactic(auto, unfolding(app_machine::specs::Lookups::class_initialised))]
 pub fn class_initialised<'a>(app: &'a App, act: &'a Act) -> Option<&'a Name>
     ensures { option_copied result ≡ class_initialised app.now act.now }

@@ -8,9 +8,8 @@ use crate::types::is_wide;
 use app_machine::{CallKind, MethodRef, Proto};
 use vet_base::Name;
 
-/// The first register of the position of a call with these argument registers: of its receiver,
-/// where it has one, and then of each argument. A call has fewer positions than registers, or as
-/// many.
+/// The first register of the position of a call with these argument registers: of its receiver, where
+/// it has one, and then of each argument. A call has fewer positions than registers, or as many.
 #[tactic(auto, unfolding(app_machine::specs::Library::positions))]
 pub fn place_at(kind: CallKind, at: &MethodRef, args: &[u32], position: usize) -> Option<u32>
     ensures same { result ≡ slice_get (positions kind at.now args.now) position }

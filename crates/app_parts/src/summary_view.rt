@@ -18,8 +18,7 @@ pub enum SummaryView<'a> {
     Default(FallbackWord),
 }
 
-/// What the result of a library call is. From which positions a joined one comes, `is_joined_from`
-/// tells.
+/// What the result of a library call is. From which positions a joined one comes, `is_joined_from` tells.
 #[derive(Clone, Copy)]
 pub enum CallResult {
     /// A value without place and labels.
@@ -51,8 +50,7 @@ pub fn result_of(view: SummaryView) -> CallResult
     }
 }
 
-/// Whether the result of a call of the method is joined from the position. By a default it is joined
-/// from all.
+/// Whether the result of a call of the method is joined from the position. By a default it is joined from all.
 pub fn is_joined_from(view: SummaryView, at: &MethodRef, is_static: bool, position: usize) -> bool
     ensures { result ≡ joined_from (shown_summary view.entry at.now is_static).gives position }
 {

@@ -2,7 +2,8 @@ ghost use Rattle.std.specs.Prelude.{◌≡◌, ◌==◌, ◌||◌, ◌↔◌, Is
 ghost use Rattle.std.specs.List.{list_any};
 ghost use Rattle.app_machine.specs.Sound.{SoundApp};
 ghost use Rattle.fact_rows.specs.InApp.{InApp};
-ghost use Rattle.app_rows.specs.Tests.{are_fields_in, is_field_in, is_key_in, is_path_in, is_state_of, is_static_in, is_summary_in};
+ghost use Rattle.app_rows.specs.Tests.{are_fields_in, is_field_in, is_key_in, is_path_in};
+ghost use Rattle.app_rows.specs.Tests.{is_state_of, is_static_in, is_summary_in};
 
 use crate::nodes::{is_activation_in, is_node_in, is_register_in};
 use crate::sites::is_site_in;

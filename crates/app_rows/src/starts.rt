@@ -29,8 +29,7 @@ impl Model for StartRows {
 }
 
 impl StartRows {
-    /// The application's, where there is one, which is the first component; else that of each
-    /// component.
+    /// The application's, where there is one, which is the first component; else that of each component.
     pub fn new(app: &App) -> StartRows
         requires { SoundApp app.now }
         ensures { result ≡ start_rows app.now }

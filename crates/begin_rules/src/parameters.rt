@@ -3,7 +3,8 @@ ghost use Rattle.std.specs.Prelude.{◌≡◌, ◌+◌, ◌-◌, ◌<◌, ◌^�
 ghost use Rattle.flow_rules.specs.Nodes.{activation_in, entry as entry_of};
 ghost use Rattle.app_machine.specs.Events.{parameter_type as type_of};
 ghost use Rattle.rule_ground.specs.Below.{for_below};
-ghost use Rattle.begin_rules.specs.BeginGiven.{says, is_object as is_object_type, by_source, in_register, at_position, at_index};
+ghost use Rattle.begin_rules.specs.BeginGiven.{says, is_object as is_object_type, by_source};
+ghost use Rattle.begin_rules.specs.BeginGiven.{in_register, at_position, at_index};
 
 use access_path::{Path, cut};
 use app_machine::Method;

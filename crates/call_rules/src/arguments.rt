@@ -3,7 +3,8 @@ ghost use Rattle.std.specs.Prelude.{◌≡◌, OnOk, fold, length};
 ghost use Rattle.app_machine.specs.Sound.{SoundApp};
 ghost use Rattle.rule_ground.specs.Below.{for_below};
 ghost use Rattle.call_targets.specs.EnterGiven.{step_here};
-ghost use Rattle.call_rules.specs.PassGiven.{hangs_on as decides, passed, argument_gets, argument_passed, argument_at, call_passes, calls_on};
+ghost use Rattle.call_rules.specs.PassGiven.{hangs_on as decides, passed, argument_gets};
+ghost use Rattle.call_rules.specs.PassGiven.{argument_passed, argument_at, call_passes, calls_on};
 
 use crate::initialised::is_initialised;
 use app_machine::{Act, App, CallKind};

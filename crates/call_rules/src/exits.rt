@@ -2,7 +2,8 @@
 ghost use Rattle.std.specs.Prelude.{◌≡◌, OnOk, fold, flat_map};
 ghost use Rattle.std.specs.Option.{option_copied};
 ghost use Rattle.app_machine.specs.Sound.{SoundApp};
-ghost use Rattle.call_rules.specs.ExitGiven.{returned_on, caught_on, thrown, left, caller_takes, exit_taken, exits_taken};
+ghost use Rattle.call_rules.specs.ExitGiven.{returned_on, caught_on, thrown, left};
+ghost use Rattle.call_rules.specs.ExitGiven.{caller_takes, exit_taken, exits_taken};
 
 use app_machine::{App, Step};
 use app_model::step_at;

@@ -5,7 +5,9 @@ ghost use Rattle.app_machine.specs.Sound.{SoundApp};
 ghost use Rattle.app_machine.specs.State.{holds};
 ghost use Rattle.call_targets.specs.EnterGiven.{step_here};
 ghost use Rattle.call_rules.specs.PassGiven.{is_initialised as initialises};
-ghost use Rattle.call_rules.specs.InitGiven.{is_initialised_at as initialises_at, tainted, register_gets, registers_get, caller_gets, effect_gives, effect_comes, effects_come, effect_taints, call_taints, bodies_taint};
+ghost use Rattle.call_rules.specs.InitGiven.{is_initialised_at as initialises_at, tainted, register_gets};
+ghost use Rattle.call_rules.specs.InitGiven.{registers_get, caller_gets, effect_gives, effect_comes};
+ghost use Rattle.call_rules.specs.InitGiven.{effects_come, effect_taints, call_taints, bodies_taint};
 
 use access_path::Path;
 use app_machine::{Act, App};
@@ -243,7 +245,8 @@ struct Called<'a, F> {
 impl<'a, F: Facts> Join for Called<'a, F> {
     ghost ready = { λ j. Unit {0} };
 
-    ghost gives = { λ j row. call_taints (F.hits j.facts.now) j.by j.pointer.node j.pointer.register j.pointer.site row };
+    ghost gives = { λ j row. call_taints (F.hits j.facts.now) j.by j.pointer.node j.pointer.register
+        j.pointer.site row };
 
     fn give<S: Sink>(&self, row: Row, out: &mut S) -> Result<(), S::Refusal> {
         match row {

@@ -4,7 +4,8 @@ ghost use Rattle.app_machine.specs.Lookups.{is_static_call as is_static_of};
 ghost use Rattle.app_machine.specs.Sound.{SoundApp};
 ghost use Rattle.app_machine.specs.SoundLists.{SoundLists};
 ghost use Rattle.app_machine.specs.Summaries.{summary};
-ghost use Rattle.call_targets.specs.EnterGiven.{with_code, enters, argument_of, argument_register as register_of, passed_to, uses_row, looks_up};
+ghost use Rattle.call_targets.specs.EnterGiven.{with_code, enters, argument_of, argument_register as register_of};
+ghost use Rattle.call_targets.specs.EnterGiven.{passed_to, uses_row, looks_up};
 
 use app_index::LibraryIndex;
 use app_machine::{App, CallKind, Method, MethodRef, SummaryId};

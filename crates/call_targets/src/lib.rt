@@ -1,5 +1,4 @@
-//! Rules 22, 23, 27 and 28 in code: the bodies that a node enters, and the rows of the lists that it
-//! uses.
+//! Rules 22, 23, 27 and 28 in code: the bodies that a node enters, and the rows of the lists that it uses.
 #![tactic(auto)]
 
 mod enter;

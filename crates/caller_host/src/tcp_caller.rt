@@ -15,9 +15,9 @@ const CONNECTION_LIMIT: u64 = 120;
 /// The longest pause before a dial, in seconds.
 const PAUSE_LIMIT: u64 = 30;
 
-/// A caller that dials ports of 127.0.0.1. The first dial is made at once, and before each later one it pauses, for 1
-/// second, then 2, 4 and so on up to 30, so that a desk that starts anew is found. Each read or write fails once those of
-/// its connection waited for 120 seconds together.
+/// A caller that dials ports of 127.0.0.1. The first dial is made at once, and before each later
+/// one it pauses, for 1 second, then 2, 4 and so on up to 30, so that a desk that starts anew is
+/// found. Each read or write fails once those of its connection waited for 120 seconds together.
 #[derive(Drop)]
 pub struct TcpCaller<R: Net + Clock + Drop> {
     rt: R,

@@ -1,11 +1,14 @@
-ghost use Rattle.std.specs.Prelude.{◌≡◌, ◌≤◌, ◌<◌, ◌+◌, ◌==◌, ℕ, List, ◌++◌, ◌∷◌, [], None, Some, true, false, Bool, find, is_some, length, vec_len, IfOk, OnOk, OnErr, slice_index_or, if◌then◌else◌, ◌&&◌};
+ghost use Rattle.std.specs.Prelude.{◌≡◌, ◌≤◌, ◌<◌, ◌+◌, ◌==◌, ℕ, List, ◌++◌, ◌∷◌, [], None};
+ghost use Rattle.std.specs.Prelude.{Some, true, false, Bool, find, is_some, length, vec_len};
+ghost use Rattle.std.specs.Prelude.{IfOk, OnOk, OnErr, slice_index_or, if◌then◌else◌, ◌&&◌};
 ghost use Rattle.std.specs.Ordering.{nat_cmp};
 ghost use Rattle.std.specs.List.{slice_get, AllWithin};
 ghost use Rattle.std.specs.Option.{option_copied, option_and_then};
 ghost use Rattle.std.specs.BTreeMap.{get};
 ghost use Rattle.std.specs.BTreeSet.{contains};
 ghost use Rattle.case_rules.specs.Cases.{name_cmp, is_named, is_of, is_queued, has_open_appeal, amended};
-ghost use Rattle.case_keeper.specs.MemoryKeeper.{IsIndex, IsPast, Adds, Notes, NotesChange, Owns, SameNotes, amended_by, owned_by, waiting_for};
+ghost use Rattle.case_keeper.specs.MemoryKeeper.{IsIndex, IsPast, Adds, Notes, NotesChange, Owns};
+ghost use Rattle.case_keeper.specs.MemoryKeeper.{SameNotes, amended_by, owned_by, waiting_for};
 
 use crate::amending::amended;
 use crate::placing::{
@@ -54,8 +57,8 @@ pub fn first_queued_from(cases: &[Case], from: usize) -> usize
     cases.len()
 }
 
-/// Notes the place of a case of a new name, for the name and for the developer. After want of memory all is noted as
-/// before.
+/// Notes the place of a case of a new name, for the name and for
+/// the developer. After want of memory all is noted as before.
 fn note_place(
     alloc: Global,
     places: &mut Places,

@@ -1,5 +1,4 @@
-//! What keeps the cases of the desk: a trait that tells its list of cases where it can, and a keeper
-//! in memory.
+//! What keeps the cases of the desk: a trait that tells its list of cases where it can, and a keeper in memory.
 #![tactic(auto)]
 
 mod amending;

@@ -49,8 +49,8 @@ impl MemKeeper {
         MemKeeper::failing(alloc, Vec::new(alloc))
     }
 
-    /// A keeper without cases. Its calls but `faults` are numbered from 1, and the n-th fails exactly where n is
-    /// in `calls`.
+    /// A keeper without cases. Its calls but `faults` are numbered
+    /// from 1, and the n-th fails exactly where n is in `calls`.
     pub fn failing(alloc: Global, calls: Vec<u64>) -> Self
         ensures { result ≡ record { cases = []; failing = calls.items; calls = 0; faults = 0 } }
     {

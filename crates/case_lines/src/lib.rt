@@ -1,5 +1,5 @@
-//! Commands to the desk and its replies as lines of text, put to whatever keeper of cases, for programs that test
-//! keepers.
+//! Commands to the desk and its replies as lines of text, put
+//! to whatever keeper of cases, for programs that test keepers.
 #![tactic(auto)]
 
 mod putting;

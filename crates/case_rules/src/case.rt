@@ -61,8 +61,7 @@ pub struct Entry {
     pub ruling: Option<Ruling>,
 }
 
-/// A submitted app with what was decided on it, oldest first. A case is named by its developer and
-/// its reference.
+/// A submitted app with what was decided on it, oldest first. A case is named by its developer and its reference.
 #[derive(Debug, Drop)]
 pub struct Case {
     /// The developer.

@@ -18,9 +18,8 @@ pub enum Command {
     List,
 }
 
-/// What the list of cases shows for a command. Submit needs `found` and `queued`; Show, Report,
-/// Appeal, Review and Rule need `found`; Decide needs `first`; List needs `lines`. The other fields
-/// decide nothing.
+/// What the list of cases shows for a command. Submit needs `found` and `queued`; Show, Report, Appeal,
+/// Review and Rule need `found`; Decide needs `first`; List needs `lines`. The other fields decide nothing.
 #[derive(Drop)]
 pub struct View {
     /// The case that the command names.
@@ -29,7 +28,6 @@ pub struct View {
     pub first: Option<Case>,
     /// How many cases of the party have no entry.
     pub queued: u64,
-    /// A developer's own cases by reference or, for a reviewer, the open appeals by developer and
-    /// reference.
+    /// A developer's own cases by reference or, for a reviewer, the open appeals by developer and reference.
     pub lines: Shared<Line>,
 }

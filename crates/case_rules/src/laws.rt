@@ -6,7 +6,8 @@ ghost use Rattle.case_rules.specs.Desk.{Judgement, Turn, desk, reply_to, cases_t
 ghost use Rattle.case_rules.specs.Docket.{IsDocket};
 ghost use Rattle.case_rules.specs.Laws.{KeepsCases, AllBy, AllByOthers, AreFormed};
 ghost use Rattle.case_rules.specs.Runs.{Standing, Connection, IsDeskRun, turns_of, replies_in, failures_in};
-ghost use Rattle.case_rules.specs.Earlier.{EarlierCase, IsEarlierCase, IsEarlierCommand, earlier_desk, raised, raised_reply};
+ghost use Rattle.case_rules.specs.Earlier.{EarlierCase, IsEarlierCase, IsEarlierCommand};
+ghost use Rattle.case_rules.specs.Earlier.{earlier_desk, raised, raised_reply};
 
 use crate::{Case, Command, Content, Refusal, Reply};
 

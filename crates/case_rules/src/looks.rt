@@ -1,7 +1,8 @@
 ghost use Rattle.std.specs.Prelude.{◌≡◌, nat_eq};
 ghost use Rattle.std.specs.Option.{option_copied};
 ghost use Rattle.std.specs.Cmp.Lexicographic.{pointwise};
-ghost use Rattle.case_rules.specs.Cases.{same_content, last, is_named, is_open, is_under, is_queued, has_edition, has_open_appeal, stage, state_of};
+ghost use Rattle.case_rules.specs.Cases.{same_content, last, is_named, is_open, is_under, is_queued};
+ghost use Rattle.case_rules.specs.Cases.{has_edition, has_open_appeal, stage, state_of};
 
 use crate::{Appeal, Case, Content, Entry, Ruling, State};
 use vet_base::{Name, Shared};

@@ -1,5 +1,6 @@
 ghost use Rattle.std.specs.Prelude.{◌≡◌, List, IfOk};
-ghost use Rattle.case_rules.specs.Rules.{Gives, is_developer, is_reviewer, is_appealable, submit, decide, show, report, appeal, review, rule, answered, planned, session_of};
+ghost use Rattle.case_rules.specs.Rules.{Gives, is_developer, is_reviewer, is_appealable, submit, decide};
+ghost use Rattle.case_rules.specs.Rules.{show, report, appeal, review, rule, answered, planned, session_of};
 ghost use Rattle.case_rules.specs.Docket.{IsFormed, IsDocket, Shows, ShowsQueued, TakesDecision};
 ghost use Rattle.case_rules.specs.Cases.{is_named, new_case};
 ghost use Rattle.case_rules.specs.Desk.{Judgement, plan_over};

@@ -49,7 +49,8 @@ impl<S: Alter + Drop> Database<S> {
         Ok(())
     }
 
-    /// The case that the database has of this developer and reference. Whether it has their name is for the caller to ask.
+    /// The case that the database has of this developer and
+    /// reference. Whether it has their name is for the caller to ask.
     pub fn find(
         &mut self,
         alloc: Global,

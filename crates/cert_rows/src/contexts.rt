@@ -1,6 +1,7 @@
 //! Contexts, activations and nodes.
 ghost use Rattle.std.specs.Prelude.{◌≡◌, ◌++◌, ◌∷◌, [], OnOk};
-ghost use Rattle.cert_rows.specs.Reading.{Reads, two_from, lone_from, call2_from, ctx_of, ctx_from, activation_from, node_from};
+ghost use Rattle.cert_rows.specs.Reading.{Reads, two_from, lone_from, call2_from, ctx_of};
+ghost use Rattle.cert_rows.specs.Reading.{ctx_from, activation_from, node_from};
 ghost use Rattle.cert_rows.specs.Spelling.{tagged, ctx_bytes, activation_bytes, node_bytes};
 ghost use Rattle.cert_rows.specs.Fitting.{AreSmall};
 ghost use Rattle.fact_rows.specs.Order.{numbers_of_ctx, numbers_of_activation, numbers_of_node};

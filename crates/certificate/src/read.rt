@@ -5,7 +5,8 @@ ghost use Rattle.fact_rows.specs.declared.row.Row.{Row as RowValue};
 ghost use Rattle.cert_rows.specs.Fitting.{IsKnown};
 ghost use Rattle.certificate.specs.Cert.{IsCert, magic};
 ghost use Rattle.certificate.specs.Laws.{IsStopOf};
-ghost use Rattle.certificate.specs.Reading.{fault_at, old_magic, is_above, magic_from, digest_from, count_from, next_row, rows_from, cert_from};
+ghost use Rattle.certificate.specs.Reading.{fault_at, old_magic, is_above, magic_from, digest_from};
+ghost use Rattle.certificate.specs.Reading.{count_from, next_row, rows_from, cert_from};
 
 use crate::{Cert, CertFault};
 use cert_rows::{RowFault, row_from, rows_are_found, rows_are_read_again, u4_from};

@@ -16,8 +16,8 @@ fn size_of(files: &[Shared<u8>]) -> usize
     size
 }
 
-/// A length that the body of the app's submission has at least, whatever its reference, found without making it: how many
-/// bytes its files have together.
+/// A length that the body of the app's submission has at least, whatever its
+/// reference, found without making it: how many bytes its files have together.
 #[tactic(auto, using(crate::proofs::Sizes::body_is_longer))]
 pub fn least_size(content: &Content) -> usize
     ensures { (reference : List ℕ) → result ≤ length (body_of reference content.now) }

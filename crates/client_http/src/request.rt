@@ -27,7 +27,8 @@ pub enum MakeFault {
 /// The texts of an app, where all three are UTF-8.
 #[tactic(auto, using(desk_routes::proofs::Utf8::reads, desk_routes::proofs::Utf8::no_text))]
 fn texts_of(content: &Content) -> Result<Texts<'_>, MakeFault>
-    ensures ok { IfOk result (λ texts. AreTexts content.now texts.manifest.now texts.layouts.now texts.declaration.now) }
+    ensures ok { IfOk result (λ texts. AreTexts content.now
+        texts.manifest.now texts.layouts.now texts.declaration.now) }
     ensures err { IfErr result (HasNoText content.now) }
 {
     let Ok(manifest) = std::str::from_utf8(content.manifest.as_slice()) else {

@@ -17,11 +17,11 @@ pub enum ReplyFault {
     Ended,
     /// The link failed; its count of faults rose.
     ReadFault,
-    /// The bytes up to the end of the head are no head, or it does not have one Content-Length alone, of one to ten
-    /// decimal digits.
+    /// The bytes up to the end of the head are no head, or it does not
+    /// have one Content-Length alone, of one to ten decimal digits.
     BadReply,
-    /// 16,384 bytes came that hold no end of a head, the head has more than 64 fields, or the Content-Length is above
-    /// 1,048,576.
+    /// 16,384 bytes came that hold no end of a head, the head has
+    /// more than 64 fields, or the Content-Length is above 1,048,576.
     TooLong,
     Memory,
 }

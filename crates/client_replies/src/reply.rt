@@ -1,4 +1,5 @@
-ghost use Rattle.std.specs.Prelude.{◌≡◌, ◌≢◌, ◌⊎◌, ◌≤◌, ◌<◌, ◌+◌, ◌++◌, ℕ, List, [], true, false, drop, IfSome, IfOk, IfErr, OnOk, Ok, Err, length, vec_len};
+ghost use Rattle.std.specs.Prelude.{◌≡◌, ◌≢◌, ◌⊎◌, ◌≤◌, ◌<◌, ◌+◌, ◌++◌, ℕ, List, [], true, false};
+ghost use Rattle.std.specs.Prelude.{drop, IfSome, IfOk, IfErr, OnOk, Ok, Err, length, vec_len};
 ghost use Rattle.vet_base.specs.Outside.{HasRisen};
 ghost use Rattle.desk_http.specs.Came.{Takes, IsAtEnd, TakesSome};
 ghost use Rattle.desk_http.specs.Heads.{HasNoEnd, IsHeadEnd};
@@ -89,12 +90,12 @@ fn behind(alloc: Global, bytes: &[u8], place: usize) -> Result<Vec<u8>, ReplyFau
     Ok(bytes[place..].to_vec(alloc)?)
 }
 
-/// Reads one reply (RFC 9112): a head of at most 16,384 bytes and 64 fields, and a body of as many bytes as its one
-/// Content-Length says, at most 1,048,576. However the input is cut into pieces, the answer is that of the bytes that
-/// come: the reply with which they begin, or their first fault in the order `TooLong` of the head, `BadReply`,
-/// `TooLong` of the length, `Ended`. `ReadFault` comes only where the link failed in this call. Memory grows with the
-/// bytes that came and not with the length that is announced. What is read behind the reply is lost, so a connection
-/// serves one.
+/// Reads one reply (RFC 9112): a head of at most 16,384 bytes and 64 fields, and a body of as many
+/// bytes as its one Content-Length says, at most 1,048,576. However the input is cut into pieces,
+/// the answer is that of the bytes that come: the reply with which they begin, or their first fault
+/// in the order `TooLong` of the head, `BadReply`, `TooLong` of the length, `Ended`. `ReadFault`
+/// comes only where the link failed in this call. Memory grows with the bytes that came and not with
+/// the length that is announced. What is read behind the reply is lost, so a connection serves one.
 pub fn read_reply<L: Link>(alloc: Global, link: &mut L) -> Result<Answered, ReplyFault>
     ensures answer { IfSome (L.told link.old) (λ told. Answers told.coming result) }
     ensures taken { TakesSome (L.told link.old) (L.told link.new) }

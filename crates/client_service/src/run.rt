@@ -47,17 +47,17 @@ fn run<F: Files, O: Sink, N: Caller>(
 /// with one line feed and goes out in one put. `None` exactly where the words are not these, DIR of 1 to 1,024 bytes
 /// and REF of 1 to 64 bytes of `A-Z a-z 0-9 . _ -`; then nothing was done.
 ///
-/// `DIR/client.toml` says the desk's port on this machine, the developer's token and how often one tries. Then the
-/// files of the app are read in the order of `check`, but for the lists, and its request is made, once. Each try dials,
-/// writes these bytes and reads a reply, on a connection of its own; the first whole reply that is neither 503 nor 507
-/// ends them. The desk reads the request as the submission of this app under this reference, so a second try changes
-/// nothing.
+/// `DIR/client.toml` says the desk's port on this machine, the developer's token and how often one
+/// tries. Then the files of the app are read in the order of `check`, but for the lists, and its
+/// request is made, once. Each try dials, writes these bytes and reads a reply, on a connection of
+/// its own; the first whole reply that is neither 503 nor 507 ends them. The desk reads the
+/// request as the submission of this app under this reference, so a second try changes nothing.
 ///
 /// The status is:
 /// - 0: the desk answered 200 or 201, `accepted REF`.
 /// - 3: the desk answered otherwise, `desk answered CODE`; or the first file that is absent, too long or not of its
-///   form is refused, `refused NAME: REASON`, a text that is not UTF-8, `refused NAME: not text`, or a body of more than
-///   67,108,864 bytes, `refused submission: longer than 67108864`. Where something is refused nothing was dialled.
+///   form is refused, `refused NAME: REASON`, a text that is not UTF-8, `refused NAME: not text`, or a body of more
+///   than 67,108,864 bytes, `refused submission: longer than 67108864`. Where something is refused nothing was dialled.
 /// - 5: the read of a file failed in this call, `read fault DIR/NAME`. Nothing was dialled.
 /// - 6: the put failed in this call, and a front of the text that was due was printed.
 /// - 7: memory ran out; nothing was printed. What was dialled and written stays.

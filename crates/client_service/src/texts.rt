@@ -1,6 +1,7 @@
 //! What is printed. Each text is one line, which ends with one line feed.
 ghost use Rattle.std.specs.Prelude.{◌≡◌, IfOk};
-ghost use Rattle.client_service.specs.Texts.{accepted_text, answered_text, bad_client_text, no_answer_text, not_text_text, read_fault_text, refused_text, too_long_text};
+ghost use Rattle.client_service.specs.Texts.{accepted_text, answered_text, bad_client_text, no_answer_text};
+ghost use Rattle.client_service.specs.Texts.{not_text_text, read_fault_text, refused_text, too_long_text};
 
 use crate::ready::Refusal;
 use printed_text::{put, put_name};

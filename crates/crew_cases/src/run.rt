@@ -96,8 +96,8 @@ pub fn run_of(rt: &HostRuntime, lines: &str) -> io::Result<Run> {
     Ok(run)
 }
 
-/// How a run ends, of `serve` where its words are these and else of `vet`: what is printed, what the watch tells, and
-/// the status.
+/// How a run ends, of `serve` where its words are these and else of
+/// `vet`: what is printed, what the watch tells, and the status.
 pub fn end_of<T: Threads + Wait + Sync>(
     alloc: Global,
     rt: &T,

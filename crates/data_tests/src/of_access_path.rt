@@ -52,7 +52,8 @@ fn of_six_keys_the_last_is_left_open(rt: HostRuntime) {
     assert_eq!(rt; looks, (true, [false, true, true, true]));
 }
 
-/// What lies behind the first key of six, whether that covers the five others, and what lies behind the first key in it.
+/// What lies behind the first key of six, whether that covers
+/// the five others, and what lies behind the first key in it.
 fn behind_six() -> (Option<Path>, bool, Option<Path>) {
     match rest(&rising(6), KeyId(1)) {
         Some(path) => (Some(path), covers(&path, &SIX[1..]), rest(&path, KeyId(1))),

@@ -1,8 +1,10 @@
 //! The connections of a caller in memory: those that dials will make, the present one, and those that are over.
-ghost use Rattle.std.specs.Prelude.{◌≡◌, ◌≤◌, ◌<◌, ◌+◌, ◌||◌, ◌++◌, ◌∷◌, ℕ, List, Option, Some, None, Ok, map, drop, option_map, length, All, IfOk, IfSome, is_err, is_none, vec_len, vec_capacity};
+ghost use Rattle.std.specs.Prelude.{◌≡◌, ◌≤◌, ◌<◌, ◌+◌, ◌||◌, ◌++◌, ◌∷◌, ℕ, List, Option, Some, None, Ok, map, drop};
+ghost use Rattle.std.specs.Prelude.{option_map, length, All, IfOk, IfSome, is_err, is_none, vec_len, vec_capacity};
 ghost use Rattle.desk_links.specs.Links.{Talk, Reads, Writes, IsFront};
 ghost use Rattle.desk_links.specs.Memory.{LinkState};
-ghost use Rattle.desk_callers.specs.Memory.{line, told_by, hung, failed_of, is_refused, takes_none, NeverFails, IsWaiting, count_of};
+ghost use Rattle.desk_callers.specs.Memory.{line, told_by, hung, failed_of, is_refused};
+ghost use Rattle.desk_callers.specs.Memory.{takes_none, NeverFails, IsWaiting, count_of};
 
 use desk_links::{Link, LinkFault, MemLink};
 use std::alloc::{AllocError, Global};

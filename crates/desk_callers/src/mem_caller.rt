@@ -53,10 +53,11 @@ fn written_to(line: &Option<MemLink>) -> &[u8]
 }
 
 impl MemCaller {
-    /// A caller before its first dial. The k-th dial uses up the k-th entry of `dials`, whether it fails or not: None is
-    /// a dial that fails, and Some the bytes of the reply on the connection that it makes, which takes at most `room`
-    /// bytes. A dial past the list fails. The calls of `dial`, `read` and `write` are numbered from 1 together, and the
-    /// n-th fails where n is in `failing`; a write of some bytes fails where no room is left, or without a connection.
+    /// A caller before its first dial. The k-th dial uses up the k-th entry of `dials`, whether it
+    /// fails or not: None is a dial that fails, and Some the bytes of the reply on the connection
+    /// that it makes, which takes at most `room` bytes. A dial past the list fails. The calls of
+    /// `dial`, `read` and `write` are numbered from 1 together, and the n-th fails where n is in
+    /// `failing`; a write of some bytes fails where no room is left, or without a connection.
     pub fn new(
         alloc: Global,
         dials: Vec<Option<Vec<u8>>>,

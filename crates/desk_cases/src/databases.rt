@@ -143,8 +143,8 @@ fn over<S: Filed>(rt: &HostRuntime) -> io::Result<()> {
     all_raised::<S>(rt, statements.as_str(), questions.as_str())
 }
 
-/// Over files on disks of whatever kind: a call that names what holds a file at once with the store of files is dear to
-/// prove.
+/// Over files on disks of whatever kind: a call that names what
+/// holds a file at once with the store of files is dear to prove.
 fn over_files<D: Stopping>(rt: &HostRuntime) -> io::Result<()> {
     over::<FileStore<D>>(rt)
 }

@@ -23,8 +23,8 @@ pub enum HttpFault {
     Memory,
 }
 
-/// A request: whether it is a POST and no GET, its target as it came, the value of the first field `x-desk-token`, and
-/// its body.
+/// A request: whether it is a POST and no GET, its target as it
+/// came, the value of the first field `x-desk-token`, and its body.
 #[derive(Drop)]
 pub struct Asked {
     pub post: bool,

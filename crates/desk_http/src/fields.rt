@@ -2,7 +2,9 @@ ghost use Rattle.std.specs.Prelude.{◌≡◌, ◌≤◌, ◌<◌, ◌+◌, [], 
 ghost use Rattle.std.specs.Option.{option_map};
 ghost use Rattle.std.specs.Str.Parse.{digits_value};
 ghost use Rattle.httparse.specs.Spans.{header_bytes, IsHeaderWithin};
-ghost use Rattle.desk_http.specs.Fields.{content_length, transfer_encoding, desk_token, has_name, values_of, is_any, first_of, is_length, length_in, announced, length_after, length_by_fields, is_get, is_post};
+ghost use Rattle.desk_http.specs.Fields.{content_length, transfer_encoding, desk_token, has_name};
+ghost use Rattle.desk_http.specs.Fields.{values_of, is_any, first_of, is_length, length_in, announced};
+ghost use Rattle.desk_http.specs.Fields.{length_after, length_by_fields, is_get, is_post};
 
 use crate::HttpFault;
 use httparse::spans::HeaderSpan;

@@ -1,4 +1,5 @@
-ghost use Rattle.std.specs.Prelude.{◌≡◌, ◌⊎◌, ◌≤◌, ◌<◌, ◌+◌, ◌++◌, ℕ, List, [], true, false, Ok, Err, IfOk, IfErr, OnErr, length, take, vec_len};
+ghost use Rattle.std.specs.Prelude.{◌≡◌, ◌⊎◌, ◌≤◌, ◌<◌, ◌+◌, ◌++◌, ℕ, List, [], true, false};
+ghost use Rattle.std.specs.Prelude.{Ok, Err, IfOk, IfErr, OnErr, length, take, vec_len};
 ghost use Rattle.vet_base.specs.Outside.{HasRisen};
 ghost use Rattle.desk_http.specs.Came.{Takes, IsAtEnd};
 

@@ -1,7 +1,8 @@
 ghost use Rattle.std.specs.Prelude.{◌≡◌, ◌≤◌, ◌++◌, ℕ, length, take, IfOk, OnOk, OnErr, Err};
 ghost use Rattle.vet_base.specs.Outside.{HasRisen};
 ghost use Rattle.http.specs.StatusCode.{IsStatusCode};
-ghost use Rattle.desk_http.specs.Replies.{phrase_of, type_of, version, content_type, connection, close, colon, space, crlf, status_line, field, reply_head, reply_bytes, Wrote, Sends};
+ghost use Rattle.desk_http.specs.Replies.{phrase_of, type_of, version, content_type, connection, close, colon};
+ghost use Rattle.desk_http.specs.Replies.{space, crlf, status_line, field, reply_head, reply_bytes, Wrote, Sends};
 
 use crate::fields::content_length;
 use desk_links::{Link, LinkFault};

@@ -1,7 +1,9 @@
-ghost use Rattle.std.specs.Prelude.{◌≡◌, ◌↔◌, true, ◌≤◌, ◌<◌, ◌==◌, ◌&&◌, ◌||◌, ◌++◌, [], ◌∷◌, Some, false, min, map, length, not, IfOk, OnErr, is_err, vec_len, vec_capacity, if◌then◌else◌};
+ghost use Rattle.std.specs.Prelude.{◌≡◌, ◌↔◌, true, ◌≤◌, ◌<◌, ◌==◌, ◌&&◌, ◌||◌, ◌++◌, [], ◌∷◌, Some, false, min};
+ghost use Rattle.std.specs.Prelude.{map, length, not, IfOk, OnErr, is_err, vec_len, vec_capacity, if◌then◌else◌};
 ghost use Rattle.vet_base.specs.Outside.{HasRisen};
 ghost use Rattle.desk_links.specs.Links.{Reads, Writes, IsFront, Opens};
-ghost use Rattle.desk_links.specs.Memory.{fresh, fails_next, counted, told_by_door, written_in, given_count, written_of};
+ghost use Rattle.desk_links.specs.Memory.{fresh, fails_next, counted, told_by_door};
+ghost use Rattle.desk_links.specs.Memory.{written_in, given_count, written_of};
 
 use crate::calls::Calls;
 use crate::tape::Tape;

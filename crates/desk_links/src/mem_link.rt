@@ -38,7 +38,11 @@ impl MemLink {
         room: usize,
         failing: Vec<u64>,
     ) -> Result<MemLink, Memory>
-        ensures { IfOk result (λ link. link ≡ record { tape = fresh room input.items; sizes = pieces.items; calls = record { failing = failing.items; calls = 0; faults = 0 } }) }
+        ensures { IfOk result (λ link. link ≡ record {
+          tape = fresh room input.items;
+          sizes = pieces.items;
+          calls = record { failing = failing.items; calls = 0; faults = 0 };
+        }) }
     {
         Ok(MemLink {
             tape: Tape::new(alloc, input, room)?,

@@ -75,7 +75,10 @@ impl Tape {
     /// Gives the next bytes, as many as the size for this read says.
     pub(crate) fn read(&mut self, sizes: &[usize], room: &mut [u8]) -> usize
         ensures count { result ≡ given_count sizes.now self.old (length room.old) }
-        ensures tape { self.new ≡ record self.old { coming = drop result self.old.coming; reads = min (self.old.reads + 1) 18446744073709551615 } }
+        ensures tape { self.new ≡ record self.old {
+          coming = drop result self.old.coming;
+          reads = min (self.old.reads + 1) 18446744073709551615;
+        } }
         ensures room { room.new ≡ take result self.old.coming ++ drop result room.old }
     {
         let most = match sizes.get(self.reads) {
@@ -92,7 +95,10 @@ impl Tape {
     /// Takes the bytes for which there is room.
     pub(crate) fn write(&mut self, bytes: &[u8]) -> usize
         ensures count { result ≡ min (length bytes.now) self.old.room }
-        ensures tape { self.new ≡ record self.old { written = self.old.written ++ take result bytes.now; room = self.old.room - result } }
+        ensures tape { self.new ≡ record self.old {
+          written = self.old.written ++ take result bytes.now;
+          room = self.old.room - result;
+        } }
     {
         let count = bytes.len().min(self.store.len() - self.used);
         self.store[self.used..self.used + count].copy_from_slice(&bytes[..count]);

@@ -3,7 +3,8 @@ ghost use Rattle.std.specs.Prelude.{◌≡◌, ◌∷◌, map, option_map, IfSom
 ghost use Rattle.std.specs.Option.{option_copied};
 ghost use Rattle.serde_json.specs.View.{view};
 ghost use Rattle.desk_routes.specs.Faults.{Gives};
-ghost use Rattle.desk_routes.specs.Bodies.{json_of, text_at, name_at, list_at, decoded, all_decoded, dex_at, uphold, overturn, word_of, word_at};
+ghost use Rattle.desk_routes.specs.Bodies.{json_of, text_at, name_at, list_at, decoded, all_decoded};
+ghost use Rattle.desk_routes.specs.Bodies.{dex_at, uphold, overturn, word_of, word_at};
 
 use crate::fault::{Fault, Field};
 use base64::DecodeAllocError;

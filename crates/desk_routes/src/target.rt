@@ -1,6 +1,7 @@
 ghost use Rattle.std.specs.Prelude.{◌≡◌, ◌≤◌, length, option_map};
 ghost use Rattle.std.specs.List.{position_or_len};
-ghost use Rattle.desk_routes.specs.Routes.{cases, decisions, reviews, rulings, case_front, report_end, appeal_end, is_slash, page_by, case_page, route_of, act_of, may_ask};
+ghost use Rattle.desk_routes.specs.Routes.{cases, decisions, reviews, rulings, case_front, report_end, appeal_end};
+ghost use Rattle.desk_routes.specs.Routes.{is_slash, page_by, case_page, route_of, act_of, may_ask};
 
 use store_office::Role;
 

@@ -1,6 +1,7 @@
 //! The files of an office, read in their order: the office file, and then the lists.
 ghost use Rattle.std.specs.Prelude.{◌≡◌, string_bytes, IfOk};
-ghost use Rattle.desk_service.specs.Opening.{paper_name, paper_path, ReadsPaper, Leaves, HaltsForm, OpensOffice, OpensLists, OpensDesk};
+ghost use Rattle.desk_service.specs.Opening.{paper_name, paper_path, ReadsPaper, Leaves};
+ghost use Rattle.desk_service.specs.Opening.{HaltsForm, OpensOffice, OpensLists, OpensDesk};
 
 use crate::lists_judge::OfficeLists;
 use desk_serving::Desk;

@@ -1,5 +1,5 @@
-//! The desk as it serves: a command carried out over a keeper's cases, one connection, and connections one after the
-//! other.
+//! The desk as it serves: a command carried out over a keeper's
+//! cases, one connection, and connections one after the other.
 #![tactic(auto)]
 
 mod judge;

@@ -81,7 +81,8 @@ fn decided<K: Keeper, J: Judge>(
         → Fits (settled case.now
         (decision_by (session_of reviewer.now desk.now.office.appeal_days day (J.edition desk.now.judge)) judgement)).0
         cases }
-    ensures settles { IfOk result (λ reply. IsSettled (J.finds desk.now.judge) (session_of reviewer.now desk.now.office.appeal_days
+    ensures settles { IfOk result (λ reply. IsSettled (J.finds desk.now.judge)
+        (session_of reviewer.now desk.now.office.appeal_days
         day (J.edition desk.now.judge)) case.now (K.told keeper.old) (K.told keeper.new) reply) }
     ensures err { IfErr result (λ _. K.told keeper.new ≡ K.told keeper.old) }
     ensures cause { KeepCause (K.fault_count keeper.old) (K.fault_count keeper.new) result }
@@ -122,7 +123,8 @@ fn obeyed<K: Keeper, J: Judge>(
     requires ready { J.ready desk.now.judge }
     requires docket { TellsDocket (K.told keeper.old) }
     requires formed { IsFormed command.now }
-    ensures obeys { IfOk result (λ reply. Obeys (J.finds desk.now.judge) (session_of party.now desk.now.office.appeal_days day
+    ensures obeys { IfOk result (λ reply. Obeys (J.finds desk.now.judge)
+        (session_of party.now desk.now.office.appeal_days day
         (J.edition desk.now.judge)) command.now (K.told keeper.old) (K.told keeper.new) reply) }
     ensures err { IfErr result (λ _. K.told keeper.new ≡ K.told keeper.old) }
     ensures cause { KeepCause (K.fault_count keeper.old) (K.fault_count keeper.new) result }
@@ -148,7 +150,8 @@ pub fn obey<K: Keeper, J: Judge>(
     requires ready { J.ready desk.now.judge }
     requires docket { TellsDocket (K.told keeper.old) }
     requires formed { IsFormed command.now }
-    ensures obeys { IfOk result (λ reply. Obeys (J.finds desk.now.judge) (session_of party.now desk.now.office.appeal_days day
+    ensures obeys { IfOk result (λ reply. Obeys (J.finds desk.now.judge)
+        (session_of party.now desk.now.office.appeal_days day
         (J.edition desk.now.judge)) command.now (K.told keeper.old) (K.told keeper.new) reply) }
     ensures docket { TellsDocket (K.told keeper.new) }
     ensures err { IfErr result (λ _. K.told keeper.new ≡ K.told keeper.old) }

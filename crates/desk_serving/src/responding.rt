@@ -6,7 +6,8 @@ ghost use Rattle.case_rules.specs.Docket.{IsFormed};
 ghost use Rattle.desk_http.specs.declared.asked.Asked.{Asked};
 ghost use Rattle.desk_http.specs.declared.asked.HttpFault.{HttpFault};
 ghost use Rattle.desk_serving.specs.Obeying.{TellsDocket};
-ghost use Rattle.desk_serving.specs.Responding.{setting_of, IsCommand, Responds, IsCoded, RaisesStore, SaysStoreFailed, SaysNoMemory, SaysOther};
+ghost use Rattle.desk_serving.specs.Responding.{setting_of, IsCommand, Responds, IsCoded, RaisesStore};
+ghost use Rattle.desk_serving.specs.Responding.{SaysStoreFailed, SaysNoMemory, SaysOther};
 
 use crate::judge::{Desk, Judge};
 use crate::obeying::obey;

@@ -69,8 +69,8 @@ pub fn serve_door<K: Keeper, D: Door, C: Clock, J: Judge>(
         (outside (K.told keeper.new) (K.fault_count keeper.new) (D.Link.told door.new) (D.Link.fault_count door.new))
         result }
 
-    // Where keeper and door tell what they hold, it is a run of the desk's machine, with as many connections as there
-    // are.
+    // Where keeper and door tell what they hold, it is a run of
+    // the desk's machine, with as many connections as there are.
     ensures machine { IsMachineRun
         (outside (K.told keeper.old) (K.fault_count keeper.old) (D.Link.told door.old) (D.Link.fault_count door.old))
         (outside (K.told keeper.new) (K.fault_count keeper.new) (D.Link.told door.new) (D.Link.fault_count door.new)) }

@@ -1,7 +1,9 @@
 //! The words that ask for a vetting.
 ghost use Rattle.std.specs.Prelude.{◌≡◌, ◌<◌, ◌≤◌, IfSome};
 ghost use Rattle.std.specs.Option.{option_map};
-ghost use Rattle.desk_words.specs.Words.{is_check, is_certify, is_recheck, is_make, is_file_name, workers, seed_of, size_of, check_words, certify_words, recheck_words, folder_words, make_words, vetting_words, IsWithin};
+ghost use Rattle.desk_words.specs.Words.{is_check, is_certify, is_recheck, is_make, is_file_name, workers};
+ghost use Rattle.desk_words.specs.Words.{seed_of, size_of, check_words, certify_words, recheck_words};
+ghost use Rattle.desk_words.specs.Words.{folder_words, make_words, vetting_words, IsWithin};
 
 use crate::number::{number_in, positive_in};
 

@@ -4,7 +4,9 @@ ghost use Rattle.std.specs.Prelude.{◌≡◌, IfOk, filter, map};
 ghost use Rattle.app_machine.specs.Sound.{SoundApp};
 ghost use Rattle.outcomes.specs.Causes.{is_app_class};
 ghost use Rattle.outcomes.specs.Spots.{at_spot};
-ghost use Rattle.device_causes.specs.DeviceCauses.{hidden_causes, interface_causes, platform_causes, unlisted_causes, static_causes, click_causes, method_called, named_causes, strict_causes, device_causes};
+ghost use Rattle.device_causes.specs.DeviceCauses.{hidden_causes, interface_causes, platform_causes};
+ghost use Rattle.device_causes.specs.DeviceCauses.{unlisted_causes, static_causes, click_causes, method_called};
+ghost use Rattle.device_causes.specs.DeviceCauses.{named_causes, strict_causes, device_causes};
 
 use crate::clicks::odd_clicks;
 use crate::hidden::hidden;

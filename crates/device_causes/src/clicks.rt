@@ -4,7 +4,9 @@ ghost use Rattle.std.specs.Prelude.{◌≡◌, ◌++◌, IfOk, OnOk, map};
 ghost use Rattle.app_machine.specs.Lookups.{up};
 ghost use Rattle.app_machine.specs.Names.{click_descriptor, same_name};
 ghost use Rattle.app_machine.specs.Sound.{SoundApp};
-ghost use Rattle.device_causes.specs.Clicks.{context_class, menu_descriptor, context_names, any_context, is_context, is_activity, activity_names, all_activity_names, comes_elsewhere, is_odd_click, clicks_in, odd_clicks};
+ghost use Rattle.device_causes.specs.Clicks.{context_class, menu_descriptor, context_names, any_context};
+ghost use Rattle.device_causes.specs.Clicks.{is_context, is_activity, activity_names, all_activity_names};
+ghost use Rattle.device_causes.specs.Clicks.{comes_elsewhere, is_odd_click, clicks_in, odd_clicks};
 ghost use Rattle.device_causes.specs.Sets.{is_among, IsSetOf};
 
 use crate::interfaces::method_named;

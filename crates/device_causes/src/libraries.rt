@@ -3,7 +3,10 @@
 ghost use Rattle.std.specs.Prelude.{◌≡◌, ◌++◌, IfOk, OnOk, filter, map};
 ghost use Rattle.app_machine.specs.Sound.{SoundApp};
 ghost use Rattle.outcomes.specs.Causes.{is_app_class};
-ghost use Rattle.device_causes.specs.Libraries.{is_unlisted, unlisted_above, unlisted_classes, statics_in, defined_statics, listed_statics, is_foreign, is_unknown, mark_of, put_mark, got_mark, touches, is_touching, spot_of, spots_in, static_spots};
+ghost use Rattle.device_causes.specs.Libraries.{is_unlisted, unlisted_above, unlisted_classes, statics_in};
+ghost use Rattle.device_causes.specs.Libraries.{defined_statics, listed_statics, is_foreign, is_unknown, mark_of};
+ghost use Rattle.device_causes.specs.Libraries.{put_mark, got_mark, touches, is_touching, spot_of, spots_in};
+ghost use Rattle.device_causes.specs.Libraries.{static_spots};
 ghost use Rattle.device_causes.specs.Sets.{IsListOf, IsSetOf};
 
 use crate::platform::{is_library_class, library_names};
@@ -262,7 +265,8 @@ fn add_spots(
     spots: &mut Vec<Spot>,
 ) -> Result<(), Memory>
     requires { marks.now ≡ map (mark_of access.now.entries device.now) app.now.statics }
-    ensures { OnOk result (spots.new.items ≡ spots.old.items ++ spots_in app.now access.now.entries device.now i method.now) }
+    ensures { OnOk result (spots.new.items ≡ spots.old.items
+        ++ spots_in app.now access.now.entries device.now i method.now) }
 {
     for step in method.steps.as_slice() {
         if is_touching(app, access, device, marks, step) {

@@ -1,7 +1,8 @@
 //! Classes of the app with names of the platform.
 
 ghost use Rattle.std.specs.Prelude.{◌≡◌, IfOk, map};
-ghost use Rattle.device_causes.specs.Platform.{fit_length, longer_fit, longest_fit, has_platform_name, is_library_class, is_platform_class, platform_classes};
+ghost use Rattle.device_causes.specs.Platform.{fit_length, longer_fit, longest_fit, has_platform_name};
+ghost use Rattle.device_causes.specs.Platform.{is_library_class, is_platform_class, platform_classes};
 ghost use Rattle.device_causes.specs.Sets.{IsSetOf};
 
 use crate::sets::NameSet;

@@ -1,5 +1,5 @@
-//! What the lists say of a device beside what the machine is told: names of the platform, and static fields that no one
-//! writes.
+//! What the lists say of a device beside what the machine is told:
+//! names of the platform, and static fields that no one writes.
 #![tactic(auto)]
 
 use vet_base::{Name, Seq};

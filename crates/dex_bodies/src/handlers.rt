@@ -1,6 +1,7 @@
 ghost use Rattle.std.specs.Prelude.{◌≡◌, ◌<◌, ◌≤◌, ◌^◌, length, IfOk};
 ghost use Rattle.vet_base.specs.Script.{Gives};
-ghost use Rattle.dex_bodies.specs.Handlers.{pair_row, pairs_at, pair_count, catches_all, handler_size_at, catch_all_at, handler_row, handler_rows_at};
+ghost use Rattle.dex_bodies.specs.Handlers.{pair_row, pairs_at, pair_count, catches_all, handler_size_at};
+ghost use Rattle.dex_bodies.specs.Handlers.{catch_all_at, handler_row, handler_rows_at};
 ghost use Rattle.dex_bodies.specs.Rising.{AreRising};
 
 use dex_tables::{Fault, Limit, Place, ReadError, Table, sleb_of, test_index, uleb_of};

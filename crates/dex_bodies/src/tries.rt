@@ -3,7 +3,8 @@ ghost use Rattle.std.specs.Option.{option_copied};
 ghost use Rattle.vet_base.specs.Script.{Gives};
 ghost use Rattle.dex_bodies.specs.Handlers.{handler_at};
 ghost use Rattle.dex_bodies.specs.Rising.{AreRising};
-ghost use Rattle.dex_bodies.specs.Tries.{padding_of, tries_begin, try_row, try_rows_at, try_of, joined_at, some_tries_at, tries_at};
+ghost use Rattle.dex_bodies.specs.Tries.{padding_of, tries_begin, try_row, try_rows_at};
+ghost use Rattle.dex_bodies.specs.Tries.{try_of, joined_at, some_tries_at, tries_at};
 
 use crate::handlers::{Handler, TRIES, handlers_of};
 use dex_tables::{Fault, Limit, Place, RawTry, ReadError, Table, u2_of, u4_of, uleb_of};

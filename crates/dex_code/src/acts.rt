@@ -1,6 +1,8 @@
 ghost use Rattle.std.specs.Prelude.{◌≡◌, ◌<◌, [], ◌∷◌, IfOk, IsTrue, length};
 ghost use Rattle.dex_code.specs.Insns.{kind_of, opcode_of};
-ghost use Rattle.dex_code.specs.Acts.{act_of, act_with, arguments_of, begins_wide, call_kind_of, class_act, field_act, naming_of, operands_of, plain_act, range_of, static_act, suits, wide_with, written};
+ghost use Rattle.dex_code.specs.Acts.{act_of, act_with, arguments_of, begins_wide, call_kind_of};
+ghost use Rattle.dex_code.specs.Acts.{class_act, field_act, naming_of, operands_of, plain_act};
+ghost use Rattle.dex_code.specs.Acts.{range_of, static_act, suits, wide_with, written};
 
 use crate::insn::Insn;
 use crate::names::Named;

@@ -26,8 +26,8 @@ pub struct Counts {
     pub methods: u32,
 }
 
-/// The code of a method: each line with the pc of its first unit, by ascending pc, and the try items as the file has
-/// them.
+/// The code of a method: each line with the pc of its first unit,
+/// by ascending pc, and the try items as the file has them.
 #[derive(Drop)]
 pub struct Decoded {
     pub lines: Seq<(u32, Insn)>,
@@ -60,8 +60,8 @@ fn decoded_of(alloc: Global, code: &RawCode, counts: &Counts) -> Result<Decoded,
     })
 }
 
-/// The instructions of a method, or the first fault of its units, for a file with so many strings, types, fields and
-/// methods.
+/// The instructions of a method, or the first fault of its units,
+/// for a file with so many strings, types, fields and methods.
 ///
 /// Three passes look for faults: `Opcode`, `Cut`, `Register` and `Index` by ascending pc and at one pc in that order;
 /// then `Target`, `Payload` and `FallsOff` in the same way; then `Tries` by number. All code is tested, reachable or

@@ -2,7 +2,8 @@ ghost use Rattle.std.specs.Prelude.{◌≡◌};
 ghost use Rattle.std.specs.Option.{option_copied};
 ghost use Rattle.vet_base.specs.Script.{Gives};
 ghost use Rattle.dex_code.specs.Find.{Ascend};
-ghost use Rattle.dex_code.specs.Flow.{all_start, found, flow_at, flows_at, is_followed, payload_stands, second_parts, stays, targets_stand, distances_in, suits};
+ghost use Rattle.dex_code.specs.Flow.{all_start, found, flow_at, flows_at, is_followed, payload_stands};
+ghost use Rattle.dex_code.specs.Flow.{second_parts, stays, targets_stand, distances_in, suits};
 
 use crate::fault::{CodeFault, Halt};
 use crate::find::{is_start, line_at};
@@ -37,8 +38,8 @@ fn all_second_are_starts(lines: &[(u32, Insn)], pc: u32, pairs: &[(i32, i32)]) -
     )
 }
 
-/// Whether an instruction starts wherever a switch goes by the table in its payload. What is no table of its kind has
-/// no distances.
+/// Whether an instruction starts wherever a switch goes by the table
+/// in its payload. What is no table of its kind has no distances.
 #[tactic(auto, unfolding(crate::specs::Flow::all_start))]
 fn table_goes_to_starts(lines: &[(u32, Insn)], pc: u32, kind: Kind, payload: Option<&Insn>) -> bool
     requires { Ascend lines.now }

@@ -128,8 +128,8 @@ fn meets(item: &RawTry, first: u32, last: u32) -> bool
     item.start <= last && u64::from(first) < u64::from(item.start) + u64::from(item.count)
 }
 
-/// Of the pcs from the first to the last: shares the addresses of a try that covers all, and leaves one that may cover
-/// some.
+/// Of the pcs from the first to the last: shares the addresses
+/// of a try that covers all, and leaves one that may cover some.
 fn part_one<'a>(
     shared: &mut Vec<u32>,
     left: &mut Vec<&'a RawTry>,
@@ -156,7 +156,8 @@ fn parted<'a>(
     first: u32,
     last: u32,
 ) -> Result<(Vec<u32>, Vec<&'a RawTry>), AllocError>
-    ensures { IfOk result (λ r. IsParted first last (map (λ t. t.now) tries.now) r.0.items (map (λ t. t.now) r.1.items)) }
+    ensures { IfOk result (λ r. IsParted first last (map (λ t. t.now) tries.now) r.0.items
+        (map (λ t. t.now) r.1.items)) }
 {
     let mut shared = Vec::new(alloc);
     let mut left = Vec::new(alloc);
@@ -200,8 +201,8 @@ fn references(alloc: Global, tries: &[RawTry]) -> Result<Vec<&RawTry>, AllocErro
     tries.iter().collect(alloc)
 }
 
-/// The addresses of the handlers that cover each line, each once, ascending. Lines that a try covers together share
-/// their list.
+/// The addresses of the handlers that cover each line, each once,
+/// ascending. Lines that a try covers together share their list.
 pub fn catches_of_lines(
     alloc: Global,
     tries: &[RawTry],

@@ -1,5 +1,6 @@
 ghost use Rattle.std.specs.Prelude.{◌≡◌, ◌<◌, ◌^◌};
-ghost use Rattle.dex_code.specs.Registers.{all_below, count_fits, count_of, first_more, index_fits, one_fits, registers_fit, second_more, third_more, three_fit, two_fit};
+ghost use Rattle.dex_code.specs.Registers.{all_below, count_fits, count_of, first_more, index_fits, one_fits};
+ghost use Rattle.dex_code.specs.Registers.{registers_fit, second_more, third_more, three_fit, two_fit};
 
 use crate::decoder::Counts;
 use crate::insn::Insn;

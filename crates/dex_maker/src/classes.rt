@@ -3,7 +3,9 @@ ghost use Rattle.std.specs.Option.{option_map};
 ghost use Rattle.std.specs.List.{sum_by};
 ghost use Rattle.dex_maker.specs.Codes.{raw_code};
 ghost use Rattle.dex_writer.specs.Tables.{type_index};
-ghost use Rattle.dex_maker.specs.Classes.{has_flag, begins_with_angle, is_static, is_direct, is_of, members_from, bodies_from, class_def, class_defs_from, code_width, method_width, unit_count, member_total};
+ghost use Rattle.dex_maker.specs.Classes.{has_flag, begins_with_angle, is_static, is_direct, is_of};
+ghost use Rattle.dex_maker.specs.Classes.{members_from, bodies_from, class_def, class_defs_from};
+ghost use Rattle.dex_maker.specs.Classes.{code_width, method_width, unit_count, member_total};
 
 use crate::codes::code_of;
 use crate::listing::{ListedClass, ListedCode, ListedField, ListedMethod};

@@ -2,7 +2,8 @@ ghost use Rattle.std.specs.Prelude.{◌≡◌, ◌≤◌, ◌++◌, ◌<◌, map
 ghost use Rattle.std.specs.Option.{option_map};
 ghost use Rattle.dalvik_formats.specs.Layouts.{layout_of};
 ghost use Rattle.dex_maker.specs.Lines.{width_of, width_sum};
-ghost use Rattle.dex_maker.specs.Codes.{index_for, target_bits, line_units, units_from, call_arguments, arguments_of, outs_of, handler_pair, raw_try, raw_code};
+ghost use Rattle.dex_maker.specs.Codes.{index_for, target_bits, line_units, units_from, call_arguments};
+ghost use Rattle.dex_maker.specs.Codes.{arguments_of, outs_of, handler_pair, raw_try, raw_code};
 
 use crate::listing::{ListedCode, ListedLine, ListedTry, Operand};
 use crate::payloads::{distance_bits, put_filled, put_packed, put_sparse};

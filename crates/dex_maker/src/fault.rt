@@ -19,8 +19,8 @@ pub enum IdTable {
 pub enum MakeFault {
     /// The table of that name, the first such one in the order of the header, needs more rows than it may have.
     TooMany(Name),
-    /// This line of this method, numbered from 0 over all methods of the listing, does not fit its instruction's
-    /// format.
+    /// This line of this method, numbered from 0 over all methods
+    /// of the listing, does not fit its instruction's format.
     Range(u32, u32),
     /// Memory ran out.
     Memory,

@@ -3,7 +3,10 @@ ghost use Rattle.std.specs.List.{list_all, sum_by};
 ghost use Rattle.dalvik_formats.specs.Layouts.{layout_of};
 ghost use Rattle.dex_maker.specs.Lines.{width_of, width_sum};
 ghost use Rattle.dex_maker.specs.Classes.{code_width, method_width, unit_count, member_total};
-ghost use Rattle.dex_maker.specs.Fits.{is_within, all_below, registers_fit, literal_fits, is_text, is_class, is_field, is_method, is_nothing, names_in, operand_fits, reach_of, is_line, target_fits, pair_stands, elements_fit, line_fits, misfit_from, code_misfit, misfit_in, first_misfit};
+ghost use Rattle.dex_maker.specs.Fits.{is_within, all_below, registers_fit, literal_fits, is_text};
+ghost use Rattle.dex_maker.specs.Fits.{is_class, is_field, is_method, is_nothing, names_in, operand_fits};
+ghost use Rattle.dex_maker.specs.Fits.{reach_of, is_line, target_fits, pair_stands, elements_fit};
+ghost use Rattle.dex_maker.specs.Fits.{line_fits, misfit_from, code_misfit, misfit_in, first_misfit};
 
 use crate::listing::{ListedClass, ListedCode, ListedLine, ListedMethod, Operand};
 use crate::payloads::distance;

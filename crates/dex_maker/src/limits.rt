@@ -2,7 +2,8 @@ ghost use Rattle.std.specs.Prelude.{◌≡◌, ◌≤◌, ◌<◌, ◌+◌, ◌�
 ghost use Rattle.std.specs.List.{sum_by};
 ghost use Rattle.dex_maker.specs.Budget.{left_after};
 ghost use Rattle.dex_maker.specs.Lines.{width_of, width_sum};
-ghost use Rattle.dex_maker.specs.Classes.{code_width, method_width, class_width, member_count, unit_count, member_total};
+ghost use Rattle.dex_maker.specs.Classes.{code_width, method_width, class_width};
+ghost use Rattle.dex_maker.specs.Classes.{member_count, unit_count, member_total};
 ghost use Rattle.dex_maker.specs.Made.{Makeable};
 
 use crate::listing::{ListedClass, ListedCode, ListedLine, ListedMethod, Listing};

@@ -29,8 +29,8 @@ pub struct ListedField {
     pub flags: u32,
 }
 
-/// A method; it is direct where its flags have 0x8 (static) or 0x2 (private) or its name begins with `<`, otherwise
-/// virtual.
+/// A method; it is direct where its flags have 0x8 (static) or
+/// 0x2 (private) or its name begins with `<`, otherwise virtual.
 #[derive(Drop)]
 pub struct ListedMethod {
     pub name: Name,

@@ -1,5 +1,7 @@
 ghost use Rattle.std.specs.Prelude.{◌≡◌, OnOk, IfOk};
-ghost use Rattle.dex_maker.specs.Naming.{with_fields, with_methods, with_superclass, with_class, with_classes, with_operand, with_line, with_lines, with_handlers, with_tries, with_code, with_bodies, with_all_bodies, tables_of};
+ghost use Rattle.dex_maker.specs.Naming.{with_fields, with_methods, with_superclass, with_class, with_classes};
+ghost use Rattle.dex_maker.specs.Naming.{with_operand, with_line, with_lines, with_handlers, with_tries};
+ghost use Rattle.dex_maker.specs.Naming.{with_code, with_bodies, with_all_bodies, tables_of};
 
 use crate::listing::{
     ListedClass, ListedCode, ListedField, ListedLine, ListedMethod, ListedTry, Listing, Operand,
@@ -146,8 +148,8 @@ fn name_all_bodies(
     Ok(())
 }
 
-/// The id tables of a listing: first what its classes and their members name, in its order, and then what its code
-/// names.
+/// The id tables of a listing: first what its classes and their
+/// members name, in its order, and then what its code names.
 #[tactic(auto, unfolding(crate::specs::Naming::tables_of))]
 pub fn tables_of(alloc: Global, listing: &Listing) -> Result<Tables, Memory>
     ensures { IfOk result (λ t. t ≡ tables_of listing.now) }

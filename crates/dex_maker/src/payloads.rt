@@ -1,7 +1,8 @@
 ghost use Rattle.std.specs.Prelude.{◌≡◌, ◌++◌, ◌<◌, pos, ◌-ℤ◌, slice_index, OnOk};
 ghost use Rattle.std.specs.List.{flat_map};
 ghost use Rattle.dex_maker.specs.Spelling.{two_units};
-ghost use Rattle.dex_maker.specs.Payloads.{distance_bits, key_units, target_units, packed_units, pair_key, pair_target, sparse_units, byte_units, element_count, filled_units};
+ghost use Rattle.dex_maker.specs.Payloads.{distance_bits, key_units, target_units, packed_units, pair_key};
+ghost use Rattle.dex_maker.specs.Payloads.{pair_target, sparse_units, byte_units, element_count, filled_units};
 
 use crate::spelling::unit_of;
 use crate::widths::start_of;

@@ -1,6 +1,7 @@
 ghost use Rattle.std.specs.Prelude.{◌≡◌, ◌∷◌, ◌++◌, ◌<◌, OnOk, slice_index};
 ghost use Rattle.dalvik_formats.specs.Layouts.{layout_of};
-ghost use Rattle.dex_maker.specs.Spelling.{unit_of, with_byte, with_halves, two_units, four_units, four_halves, listed_units, plain_units};
+ghost use Rattle.dex_maker.specs.Spelling.{unit_of, with_byte, with_halves, two_units};
+ghost use Rattle.dex_maker.specs.Spelling.{four_units, four_halves, listed_units, plain_units};
 
 use dalvik_formats::{Format, format_of};
 use vet_base::Memory;

@@ -1,6 +1,7 @@
 ghost use Rattle.std.specs.Prelude.{◌≡◌, ◌<◌, ◌^◌, length};
 ghost use Rattle.vet_base.specs.Script.{Gives};
-ghost use Rattle.dex_reader.specs.ClassData.{counted, sum_below, member_row, members_at, body_row, bodies_at, counts_at, some_class_data_at, class_data_at};
+ghost use Rattle.dex_reader.specs.ClassData.{counted, sum_below, member_row, members_at, body_row};
+ghost use Rattle.dex_reader.specs.ClassData.{bodies_at, counts_at, some_class_data_at, class_data_at};
 
 use dex_bodies::maybe_code_of;
 use dex_tables::{Body, Fault, Limit, Member, ReadError, Sizes, Table, Totals, uleb_of};

@@ -1,6 +1,7 @@
 ghost use Rattle.std.specs.Prelude.{◌≡◌, ◌<◌, ◌^◌, length};
 ghost use Rattle.vet_base.specs.Script.{Gives};
-ghost use Rattle.dex_reader.specs.Whole.{sizes_of, names_at, member_ids_at, ids_at, file_at, dex_at, dex_of as whole_of};
+ghost use Rattle.dex_reader.specs.Whole.{sizes_of, names_at, member_ids_at, ids_at};
+ghost use Rattle.dex_reader.specs.Whole.{file_at, dex_at, dex_of as whole_of};
 
 use crate::class_defs::class_rows_of;
 use crate::classes::classes_of;

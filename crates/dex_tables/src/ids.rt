@@ -1,6 +1,7 @@
 ghost use Rattle.std.specs.Prelude.{◌≡◌, ◌<◌, ◌^◌, length};
 ghost use Rattle.vet_base.specs.Script.{Gives};
-ghost use Rattle.dex_tables.specs.Tables.{type_row, types_at, proto_row, protos_at, field_row, fields_at, method_row, methods_at};
+ghost use Rattle.dex_tables.specs.Tables.{type_row, types_at, proto_row, protos_at};
+ghost use Rattle.dex_tables.specs.Tables.{field_row, fields_at, method_row, methods_at};
 
 use crate::dex::{FieldId, MethodRow, ProtoId};
 use crate::fault::{ReadError, Table};

@@ -1,5 +1,5 @@
-//! The tables of a DEX file: its header, its strings, types, prototypes, fields and methods, and the lists of types; with the
-//! numbers and texts of which they are made, and the faults that a file may have.
+//! The tables of a DEX file: its header, its strings, types, prototypes, fields and methods, and the lists
+//! of types; with the numbers and texts of which they are made, and the faults that a file may have.
 #![tactic(auto)]
 
 mod dex;

@@ -6,9 +6,9 @@ use crate::fault::{Fault, ReadError, Table};
 use std::alloc::Global;
 use vet_base::{Name, Stop, read_sleb, read_u2, read_u4, read_uleb};
 
-/// A `ushort` at an offset, least byte first, and the offset behind it. Past the end of the file it is
-/// [`Fault::Outside`] of the item that it belongs to (Dalvik Executable format, 'Bitfield, string, and constant
-/// definitions').
+/// A `ushort` at an offset, least byte first, and the offset behind it. Past
+/// the end of the file it is [`Fault::Outside`] of the item that it belongs to
+/// (Dalvik Executable format, 'Bitfield, string, and constant definitions').
 pub fn u2_of(file: &[u8], at: u32, item: u32) -> Result<(u16, u32), ReadError>
     requires { length file.now < 2 ^ 32 }
     ensures { Gives (λ x. x) result (u2_at file.now at item) }

@@ -243,8 +243,8 @@ fn index_of(field: Option<&Member>) -> Option<u32> {
     }
 }
 
-/// How many static fields a class has and the index of the last, and the same of its other fields with that of the
-/// first.
+/// How many static fields a class has and the index of the last,
+/// and the same of its other fields with that of the first.
 type FieldsLook = (usize, Option<u32>, usize, [Option<u32>; 2]);
 
 fn look_of_fields(class: &ClassDef) -> FieldsLook {

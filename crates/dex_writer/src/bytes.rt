@@ -1,6 +1,7 @@
 ghost use Rattle.std.specs.Prelude.{◌≡◌, ◌++◌, length, OnOk};
 ghost use Rattle.std.specs.List.{flat_map};
-ghost use Rattle.dex_writer.specs.Bytes.{u2_bytes, u4_bytes, groups_of, uleb_bytes, padding_of, text_len, string_item, type_list};
+ghost use Rattle.dex_writer.specs.Bytes.{u2_bytes, u4_bytes, groups_of, uleb_bytes};
+ghost use Rattle.dex_writer.specs.Bytes.{padding_of, text_len, string_item, type_list};
 
 use vet_base::{Memory, Name};
 

@@ -2,7 +2,9 @@ ghost use Rattle.std.specs.Prelude.{◌≡◌, ◌==◌, ◌++◌, ◌<◌, ◌^
 ghost use Rattle.std.specs.List.{flat_map};
 ghost use Rattle.dex_writer.specs.Bytes.{uleb_bytes, type_list, padding_of};
 ghost use Rattle.dex_writer.specs.Placed.{offset_of};
-ghost use Rattle.dex_writer.specs.ClassData.{members_bytes, maybe_code, body_code, bodies_bytes, virtuals_at, class_code, class_item, class_data, code_begin, data_begin, class_bytes, code_and_data, index_or_none, class_head, class_row, placed_row};
+ghost use Rattle.dex_writer.specs.ClassData.{members_bytes, maybe_code, body_code, bodies_bytes, virtuals_at};
+ghost use Rattle.dex_writer.specs.ClassData.{class_code, class_item, class_data, code_begin, data_begin, class_bytes};
+ghost use Rattle.dex_writer.specs.ClassData.{code_and_data, index_or_none, class_head, class_row, placed_row};
 
 use crate::bytes::{put_padding, put_type_list, put_u4, put_uleb};
 use crate::code_item::put_code;
@@ -127,7 +129,8 @@ fn put_class_code(
     ensures data { OnOk result (data.new.items ≡ data.old.items ++ class_code class.now) }
     ensures directs { IfOk result (λ r. r.directs.items ≡ bodies_bytes 0 (base + length data.old.items)
         class.now.directs) }
-    ensures virtuals { IfOk result (λ r. r.virtuals.items ≡ bodies_bytes 0 (virtuals_at (base + length data.old.items) class.now)
+    ensures virtuals { IfOk result (λ r. r.virtuals.items ≡ bodies_bytes 0
+        (virtuals_at (base + length data.old.items) class.now)
         class.now.virtuals) }
 {
     let mut directs = Vec::new(alloc);

@@ -2,7 +2,9 @@ ghost use Rattle.std.specs.Prelude.{◌≡◌, ◌++◌, ◌<◌, ◌^◌, ◌+�
 ghost use Rattle.std.specs.List.{flat_map};
 ghost use Rattle.dex_writer.specs.Bytes.{uleb_bytes};
 ghost use Rattle.dex_writer.specs.Placed.{rows_of};
-ghost use Rattle.dex_writer.specs.CodeItem.{pair_bytes, handler_size, catch_all_bytes, handler_bytes, try_bytes, handlers_bytes, try_items, before_tries, tries_bytes, code_head, code_item, code_bytes};
+ghost use Rattle.dex_writer.specs.CodeItem.{pair_bytes, handler_size, catch_all_bytes, handler_bytes};
+ghost use Rattle.dex_writer.specs.CodeItem.{try_bytes, handlers_bytes, try_items, before_tries};
+ghost use Rattle.dex_writer.specs.CodeItem.{tries_bytes, code_head, code_item, code_bytes};
 
 use crate::bytes::{put_padding, put_u2, put_u4, put_uleb, put_units};
 use dex_tables::{RawCode, RawTry};

@@ -1,9 +1,14 @@
-ghost use Rattle.std.specs.Prelude.{◌≡◌, ◌==◌, ◌++◌, ◌<◌, ◌≤◌, ◌^◌, ◌+◌, ◌*◌, length, drop, OnOk, IfOk, if◌then◌else◌, slice_index, replicate};
+ghost use Rattle.std.specs.Prelude.{◌≡◌, ◌==◌, ◌++◌, ◌<◌, ◌≤◌, ◌^◌, ◌+◌, ◌*◌, length, drop};
+ghost use Rattle.std.specs.Prelude.{OnOk, IfOk, if◌then◌else◌, slice_index, replicate};
 ghost use Rattle.std.specs.List.{flat_map};
 ghost use Rattle.dex_writer.specs.Placed.{pieces, placed_rows, rows_of, offsets_of, offset_of};
 ghost use Rattle.dex_writer.specs.Bytes.{u4_bytes, string_item};
 ghost use Rattle.dex_writer.specs.ClassData.{class_bytes, placed_row};
-ghost use Rattle.dex_writer.specs.File.{params_bytes, proto_row_bytes, member_row_bytes, types_at, protos_at, fields_at, methods_at, classes_at, data_at, params_data, class_begin, classes_data, strings_begin, strings_data, data_bytes, string_ids, proto_ids, class_defs, tables_bytes, section_bytes, header_begin, header_ids, header_bytes, file_bytes, AreShort};
+ghost use Rattle.dex_writer.specs.File.{params_bytes, proto_row_bytes, member_row_bytes, types_at, protos_at};
+ghost use Rattle.dex_writer.specs.File.{fields_at, methods_at, classes_at, data_at, params_data, class_begin};
+ghost use Rattle.dex_writer.specs.File.{classes_data, strings_begin, strings_data, data_bytes, string_ids};
+ghost use Rattle.dex_writer.specs.File.{proto_ids, class_defs, tables_bytes, section_bytes, header_begin};
+ghost use Rattle.dex_writer.specs.File.{header_ids, header_bytes, file_bytes, AreShort};
 
 use crate::bytes::{put_string, put_type_list, put_u2, put_u4, put_u4s};
 use crate::class_data::{place_of, put_class};

@@ -1,6 +1,9 @@
 ghost use Rattle.std.specs.Prelude.{◌≡◌, ◌++◌, IfOk, OnOk, map};
 ghost use Rattle.std.specs.List.{flat_map};
-ghost use Rattle.dex_writer.specs.Tables.{letter, shorty, string_index, type_index, proto_row, proto_index, field_row, field_index, method_row, method_index, no_tables, with_string, with_type, with_types, proto_types, with_proto, for_field, for_method, with_field, with_method, and_field, and_method};
+ghost use Rattle.dex_writer.specs.Tables.{letter, shorty, string_index, type_index, proto_row, proto_index};
+ghost use Rattle.dex_writer.specs.Tables.{field_row, field_index, method_row, method_index, no_tables};
+ghost use Rattle.dex_writer.specs.Tables.{with_string, with_type, with_types, proto_types, with_proto, for_field};
+ghost use Rattle.dex_writer.specs.Tables.{for_method, with_field, with_method, and_field, and_method};
 
 use crate::id_row::IdRow;
 use crate::interner::Interner;

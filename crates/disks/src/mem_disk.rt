@@ -37,9 +37,9 @@ impl Model for MemDisk {
 }
 
 impl MemDisk {
-    /// A disk with these bytes, all of which are there to stay. Its calls but `faults` are numbered from 1, and the n-th
-    /// fails exactly where n is in `failing`: a write or a cut that fails so leaves the bytes that a read gives as they
-    /// are, and a crash may leave others. A call that wanted memory has no number and is not in the list.
+    /// A disk with these bytes, all of which are there to stay. Its calls but `faults` are numbered from 1, and the
+    /// n-th fails exactly where n is in `failing`: a write or a cut that fails so leaves the bytes that a read gives
+    /// as they are, and a crash may leave others. A call that wanted memory has no number and is not in the list.
     pub fn new(alloc: Global, bytes: Vec<u8>, failing: Vec<u64>) -> Self
         ensures { result ≡ record {
           present = solid bytes.items;
@@ -115,7 +115,8 @@ impl Disk for MemDisk {
 
     fn read(&mut self, at: u64, room: &mut [u8]) -> Result<usize, DiskFault>
         ensures within { IfOk result (λ n. n ≤ length room.old) }
-        ensures answer { IfOk result (λ n. IfSome (Some (told_by self.old)) (λ t. Gives t.now.bytes at n room.old room.new)) }
+        ensures answer { IfOk result (λ n. IfSome (Some (told_by self.old))
+            (λ t. Gives t.now.bytes at n room.old room.new)) }
         ensures told { Some (told_by self.new) ≡ Some (told_by self.old) }
         ensures cause { DiskCause self.old.faults self.new.faults result }
         ensures numbered { FailsAsListed (fails_next self.old) result }

@@ -1,4 +1,5 @@
-ghost use Rattle.std.specs.Prelude.{◌≡◌, ◌≤◌, ◌<◌, ◌+◌, ◌^◌, ◌∷◌, ◌++◌, [], Ok, Err, length, take, IfOk, OnOk, OnErr, if◌then◌else◌};
+ghost use Rattle.std.specs.Prelude.{◌≡◌, ◌≤◌, ◌<◌, ◌+◌, ◌^◌, ◌∷◌, ◌++◌, [], Ok, Err};
+ghost use Rattle.std.specs.Prelude.{length, take, IfOk, OnOk, OnErr, if◌then◌else◌};
 ghost use Rattle.disks.specs.Disks.{over, wrote, shortened, solid};
 ghost use Rattle.disks.specs.Memory.{moment_of};
 

@@ -140,8 +140,7 @@ fn body_among(
     }
 }
 
-/// The body that the event of this number runs on the component, from the tables where it stands
-/// there.
+/// The body that the event of this number runs on the component, from the tables where it stands there.
 #[tactic(auto, using(crate::proofs::EventBodies::row_there))]
 pub fn known_body(
     app: &App,

@@ -1,5 +1,4 @@
-//! Which callbacks come to objects of a class: for each class of the app its callback rows are listed
-//! once.
+//! Which callbacks come to objects of a class: for each class of the app its callback rows are listed once.
 ghost use Rattle.std.specs.Prelude.{◌≡◌, IfNone, IfOk, IfSome, None, Some, length, slice_get};
 ghost use Rattle.app_machine.specs.Events.{callback_body};
 ghost use Rattle.app_machine.specs.Sound.{SoundApp};

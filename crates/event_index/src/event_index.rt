@@ -55,9 +55,8 @@ fn body_at(comings: &[Coming], row: u32) -> Option<u32>
 }
 
 impl<'a> EventIndex<'a> {
-    /// The index of the app and the lists, in time near linear in both, and in the classes of the app
-    /// times the callback rows. It is want of memory where the rows of types would take more than
-    /// 268,435,456 bytes.
+    /// The index of the app and the lists, in time near linear in both, and in the classes of the app times
+    /// the callback rows. It is want of memory where the rows of types would take more than 268,435,456 bytes.
     pub fn of(alloc: Global, app: &'a App, lists: &'a Lists) -> Result<EventIndex<'a>, Memory>
         requires app { SoundApp app.now }
         requires lists { SoundLists lists.now }

@@ -15,8 +15,7 @@ use std::alloc::Global;
 use std::collections::HashMap;
 use vet_base::Memory;
 
-/// The lists, types by number, listed classes by number, and for each of these a row of the types
-/// above it.
+/// The lists, types by number, listed classes by number, and for each of these a row of the types above it.
 #[derive(Drop)]
 pub struct Listed<'a> {
     pub lists: &'a Lists,
@@ -125,8 +124,7 @@ impl<'a> Listed<'a> {
         }
     }
 
-    /// The types that the lists have above the class of this name come to the row, and that of the
-    /// name itself.
+    /// The types that the lists have above the class of this name come to the row, and that of the name itself.
     #[tactic(auto, using(crate::proofs::Rows::adds_row_of, crate::proofs::ListedRows::adds_itself))]
     pub fn add(&self, row: &mut Bits, name: &[u8])
         requires listed { IsListed self.now }

@@ -165,7 +165,8 @@ impl Arrival {
         out: &mut S,
     ) -> Result<(), S::Refusal>
         requires { SoundApp index.now.0 }
-        ensures { OnOk result (out.new ≡ fold S.then out.old (calls_give index.now.0 index.now.1 self.now on class.now)) }
+        ensures { OnOk result (out.new ≡ fold S.then out.old
+            (calls_give index.now.0 index.now.1 self.now on class.now)) }
     {
         for row in 0..index.callback_count() {
             self.call_row(index, on, class, row, out)?;
@@ -183,7 +184,8 @@ impl Arrival {
         out: &mut S,
     ) -> Result<(), S::Refusal>
         requires { SoundApp index.now.0 }
-        ensures { OnOk result (out.new ≡ fold S.then out.old (calls_give index.now.0 index.now.1 self.now on class.now)) }
+        ensures { OnOk result (out.new ≡ fold S.then out.old
+            (calls_give index.now.0 index.now.1 self.now on class.now)) }
     {
         match index.comings(class) {
             Some(comings) => self.call_each(index, on, comings, out),

@@ -2,7 +2,8 @@
 ghost use Rattle.std.specs.Prelude.{◌≡◌, OnOk, fold, flat_map};
 ghost use Rattle.std.specs.Option.{option_copied};
 ghost use Rattle.app_machine.specs.Sound.{SoundApp};
-ghost use Rattle.event_rules.specs.GivenBack.{any_handed, entry_gives, entry_takes, handed_back, is_handed, label_back, label_handed, label_takes, pair_gives};
+ghost use Rattle.event_rules.specs.GivenBack.{any_handed, entry_gives, entry_takes, handed_back, is_handed};
+ghost use Rattle.event_rules.specs.GivenBack.{label_back, label_handed, label_takes, pair_gives};
 
 use crate::given_back::{Back, give_back, takes_nothing};
 use crate::handed::HandedObject;
@@ -24,7 +25,12 @@ struct Objects<'a> {
 impl<'a> Objects<'a> {
     /// What is known of them comes back to an event.
     fn back(&self, known: Known, by: Activation) -> Back<'a>
-        ensures { result ≡ record { index = self.now.index; object = record { site = self.now.site; known = known }; class = self.now.class; by = by } }
+        ensures { result ≡ record {
+          index = self.now.index;
+          object = record { site = self.now.site; known = known };
+          class = self.now.class;
+          by = by;
+        } }
     {
         Back {
             index: self.index,
@@ -48,7 +54,8 @@ struct Labels<'a> {
 impl<'a> Join for Labels<'a> {
     ghost ready = { λ j. SoundApp j.objects.index.now.0 };
 
-    ghost gives = { λ j row. label_back j.objects.index.now.0 j.objects.index.now.1 j.objects.site j.objects.class.now j.by
+    ghost gives = { λ j row. label_back j.objects.index.now.0 j.objects.index.now.1 j.objects.site j.objects.class.now
+        j.by
         row };
 
     fn give<S: Sink>(&self, row: Row, out: &mut S) -> Result<(), S::Refusal> {
@@ -158,7 +165,8 @@ pub fn hand_back<F: Facts, S: Sink>(
     out: &mut S,
 ) -> Result<(), S::Refusal>
     requires { SoundApp index.now.0 }
-    ensures { OnOk result (out.new ≡ fold S.then out.old (handed_back index.now.0 index.now.1 (F.hits facts.now) site)) }
+    ensures { OnOk result (out.new ≡ fold S.then out.old
+        (handed_back index.now.0 index.now.1 (F.hits facts.now) site)) }
 {
     match site_class(index.app(), index.lists(), site) {
         None => Ok(()),
@@ -184,7 +192,8 @@ struct FromLabel<'a> {
 impl<'a> Join for FromLabel<'a> {
     ghost ready = { λ j. SoundApp j.objects.index.now.0 };
 
-    ghost gives = { λ j row. label_takes j.objects.index.now.0 j.objects.index.now.1 (record { site = j.objects.site; known = j.known }) j.objects.class.now row };
+    ghost gives = { λ j row. label_takes j.objects.index.now.0 j.objects.index.now.1
+        (record { site = j.objects.site; known = j.known }) j.objects.class.now row };
 
     fn give<S: Sink>(&self, row: Row, out: &mut S) -> Result<(), S::Refusal> {
         match row {
@@ -205,7 +214,8 @@ struct WhereHanded<'a, F> {
 impl<'a, F: Facts> Join for WhereHanded<'a, F> {
     ghost ready = { λ j. SoundApp j.objects.index.now.0 };
 
-    ghost gives = { λ j row. is_handed j.objects.index.now.0 j.objects.index.now.1 (F.hits j.facts.now) (record { site = j.objects.site; known = j.known }) j.objects.class.now row };
+    ghost gives = { λ j row. is_handed j.objects.index.now.0 j.objects.index.now.1 (F.hits j.facts.now)
+        (record { site = j.objects.site; known = j.known }) j.objects.class.now row };
 
     fn give<S: Sink>(&self, row: Row, out: &mut S) -> Result<(), S::Refusal> {
         match row {
@@ -229,7 +239,8 @@ pub fn hand_label_back<F: Facts, S: Sink>(
     out: &mut S,
 ) -> Result<(), S::Refusal>
     requires { SoundApp index.now.0 }
-    ensures { OnOk result (out.new ≡ fold S.then out.old (label_handed index.now.0 index.now.1 (F.hits facts.now) object)) }
+    ensures { OnOk result (out.new ≡ fold S.then out.old
+        (label_handed index.now.0 index.now.1 (F.hits facts.now) object)) }
 {
     match site_class(index.app(), index.lists(), object.site) {
         None => Ok(()),

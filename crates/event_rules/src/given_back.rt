@@ -83,7 +83,8 @@ fn to_index<S: Sink>(
 ) -> Result<(), S::Refusal>
     requires sound { SoundApp with.now.index.now.0 }
     requires fits { (method.now.registers - method.now.ins) + index < 2 ^ 32 }
-    ensures { OnOk result (out.new ≡ fold S.then out.old (back_index with.now.index.now.0 with.now.index.now.1 with.now.object
+    ensures { OnOk result (out.new ≡ fold S.then out.old
+        (back_index with.now.index.now.0 with.now.index.now.1 with.now.object
         with.now.class.now with.now.by method.now index)) }
 {
     let kind = type_at(method.at.proto.params.as_slice(), index);

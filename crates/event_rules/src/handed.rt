@@ -18,7 +18,7 @@ pub struct HandedObject {
     pub known: Known,
 }
 
-/// How callbacks come to it.
+/// By which rule and premises callbacks come to the object, and what their receiver then holds.
 fn arrival(object: HandedObject) -> Arrival
     ensures { result ≡ handed_arrival object }
 {

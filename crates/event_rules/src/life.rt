@@ -27,7 +27,7 @@ fn rule_of(known: Known) -> u8
     }
 }
 
-/// How its events come to it.
+/// By which rule and premises its events come to it, and what their receiver then holds.
 fn arrival(standing: &Standing) -> Arrival
     ensures { result ≡ life_arrival standing.now }
 {

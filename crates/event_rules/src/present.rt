@@ -1,7 +1,8 @@
 //! Rule 42: callbacks and clicks come to a component that is there.
 ghost use Rattle.std.specs.Prelude.{◌≡◌, OnOk, fold, length};
 ghost use Rattle.app_machine.specs.Sound.{SoundApp};
-ghost use Rattle.event_rules.specs.EventGiven.{callbacks_give, click_gives, clicks_give, present_arrival, present_gives};
+ghost use Rattle.event_rules.specs.EventGiven.{callbacks_give, click_gives, clicks_give};
+ghost use Rattle.event_rules.specs.EventGiven.{present_arrival, present_gives};
 
 use crate::arrival::{Arrival, On};
 use crate::life::Standing;
@@ -10,7 +11,7 @@ use event_index::EventIndex;
 use fact_rows::{Ctx, Site};
 use rule_ground::{Premises, Sink};
 
-/// How they come to it.
+/// By which rule and premises callbacks and clicks come to the component, and what their receiver then holds.
 fn arrival(standing: &Standing) -> Arrival
     ensures { result ≡ present_arrival standing.now }
 {

@@ -1,6 +1,7 @@
 //! Rule 46: what an event returns is handed to the library.
 ghost use Rattle.std.specs.Prelude.{◌≡◌, OnOk, fold};
-ghost use Rattle.event_rules.specs.EventGiven.{exit_is, exit_leads, exit_points_give, exit_taint_gives, exit_taints, hands_over};
+ghost use Rattle.event_rules.specs.EventGiven.{exit_is, exit_leads, exit_points_give};
+ghost use Rattle.event_rules.specs.EventGiven.{exit_taint_gives, exit_taints, hands_over};
 
 use access_path::Path;
 use fact_rows::{Activation, Row, Site};

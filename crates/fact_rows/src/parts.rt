@@ -11,8 +11,7 @@ use crate::{Field, Kind, Row};
 use sorted_table::Stretch;
 use std::cmp::Ordering;
 
-/// The kind of a row and its fields in order; or the kind and some first fields, by which rows are
-/// looked up.
+/// The kind of a row and its fields in order; or the kind and some first fields, by which rows are looked up.
 #[derive(Drop)]
 pub struct Parts {
     pub kind: Kind,

@@ -1,7 +1,9 @@
 //! What stands at a key: one reader for each kind of value.
 ghost use Rattle.std.specs.Prelude.{◌≡◌, ◌≤◌, map, length, IfOk};
 ghost use Rattle.std.specs.Option.{option_copied};
-ghost use Rattle.form_fields.specs.Fields.{text_at, maybe_text_at, word_at, text_of_value, number_at, texts_at, maybe_texts_at, texts_in, text_items, text_item, all_fit, tables_at, table_in};
+ghost use Rattle.form_fields.specs.Fields.{text_at, maybe_text_at, word_at, text_of_value, number_at, texts_at};
+ghost use Rattle.form_fields.specs.Fields.{maybe_texts_at, texts_in, text_items, text_item, all_fit, tables_at};
+ghost use Rattle.form_fields.specs.Fields.{table_in};
 ghost use Rattle.toml.specs.View.{table_view, view};
 ghost use Rattle.vet_base.specs.Script.{Gives};
 

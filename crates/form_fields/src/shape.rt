@@ -1,7 +1,8 @@
 //! Of which types the items of an array have to be.
 ghost use Rattle.std.specs.Prelude.{◌≡◌, map, option_map, slice_get};
 ghost use Rattle.std.specs.List.{list_all};
-ghost use Rattle.form_fields.specs.Shape.{is_table, is_number, is_text, is_number_pair, number_and_texts, is_named_pair, has_shape, all_have};
+ghost use Rattle.form_fields.specs.Shape.{is_table, is_number, is_text, is_number_pair};
+ghost use Rattle.form_fields.specs.Shape.{number_and_texts, is_named_pair, has_shape, all_have};
 ghost use Rattle.toml.specs.View.{view};
 
 use crate::tree::items_in;

@@ -1,6 +1,7 @@
 //! How the texts of the forms are spelled.
 ghost use Rattle.std.specs.Prelude.{◌≡◌};
-ghost use Rattle.form_fields.specs.Spelling.{fits, is_short, is_class, is_prefix, is_category, are_category_bytes, is_category_byte, is_token, are_visible, is_visible};
+ghost use Rattle.form_fields.specs.Spelling.{fits, is_short, is_class, is_prefix, is_category, are_category_bytes};
+ghost use Rattle.form_fields.specs.Spelling.{is_category_byte, is_token, are_visible, is_visible};
 ghost use Rattle.store_office.specs.Reference.{is_reference};
 
 use store_office::is_reference;

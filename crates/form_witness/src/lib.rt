@@ -1,6 +1,6 @@
-//! Small facts that show that the definitions of what is read and listed mean what they should: tables
-//! of forms, rows of the lists, classes and code of files and how they are linked, generated apps. Each is a theorem over the
-//! definitions alone, so that a slip in a definition shows.
+//! Small facts that show that the definitions of what is read and listed mean what they should:
+//! tables of forms, rows of the lists, classes and code of files and how they are linked, generated
+//! apps. Each is a theorem over the definitions alone, so that a slip in a definition shows.
 #![tactic(auto)]
 
 ghost use Rattle.dex_writer.specs.declared.tables.Tables.{Tables};

@@ -1,7 +1,8 @@
 //! How the end of a log that was read becomes one closed gate, and how a log is begun.
 ghost use Rattle.std.specs.Prelude.{◌≡◌, ◌<◌, ◌∷◌, take, drop, IfOk, OnOk, IfSome};
 ghost use Rattle.disks.specs.Disks.{DiskCause};
-ghost use Rattle.gated_log.specs.Ends.{IsEnd, HasNothing, HasClosed, HasOpen, HasOther, LeavesFront, LeavesShort, IsShort, IsEmptyLog, ClosesAt};
+ghost use Rattle.gated_log.specs.Ends.{IsEnd, HasNothing, HasClosed, HasOpen, HasOther};
+ghost use Rattle.gated_log.specs.Ends.{LeavesFront, LeavesShort, IsShort, IsEmptyLog, ClosesAt};
 
 use crate::reading::piece;
 use crate::staying::{cut_to_stay, write_to_stay};
@@ -93,8 +94,8 @@ fn close<D: Disk>(disk: &mut D, end: u64, found: &[u8]) -> Result<(), DiskFault>
     }
 }
 
-/// Makes a log whose records end at an offset end there in one closed gate. After a fault the records are those that they
-/// were. At every moment a crash leaves the bytes before the offset and no whole record behind them.
+/// Makes a log whose records end at an offset end there in one closed gate. After a fault the records are those
+/// that they were. At every moment a crash leaves the bytes before the offset and no whole record behind them.
 pub fn closed_log<D: Disk>(alloc: Global, disk: &mut D, end: u64) -> Result<Log, DiskFault>
     requires ends { IfSome (D.told disk.old) (IsEnd end) }
     requires room { end < 18446744073709551613 }
@@ -125,8 +126,8 @@ fn begin_by<D: Disk>(disk: &mut D, found: &[u8]) -> Result<(), DiskFault>
     write_to_stay(disk, 0, &EMPTY)
 }
 
-/// Begins a log in a disk of at most nine bytes: its eight bytes and a closed gate. A disk that has just these stays as it
-/// is. At every moment a crash leaves at most nine bytes.
+/// Begins a log in a disk of at most nine bytes: its eight bytes and a closed gate. A disk
+/// that has just these stays as it is. At every moment a crash leaves at most nine bytes.
 pub fn begun_log<D: Disk>(alloc: Global, disk: &mut D) -> Result<Log, DiskFault>
     requires short { IfSome (D.told disk.old) IsShort }
     ensures log { IfOk result (λ log. log ≡ record { end = 8; gate = Gate.Closed }) }

@@ -1,5 +1,6 @@
-//! A log in a disk: records one behind another, each behind a gate of its own. A record counts where its gate is open, and
-//! a gate is opened by a write of its own, once its record is there to stay; so a crash leaves a record whole, or none.
+//! A log in a disk: records one behind another, each behind a gate of its own. A
+//! record counts where its gate is open, and a gate is opened by a write of its own,
+//! once its record is there to stay; so a crash leaves a record whole, or none.
 #![tactic(auto)]
 
 mod closing;

@@ -102,9 +102,9 @@ impl Log {
         Ok(())
     }
 
-    /// Makes the end a closed gate that is the last byte. After a fault the log ends where it did, and its gate says what
-    /// is left to mend. At every moment a crash leaves what was before the gate; where the gate was touched, with the
-    /// record behind it or without.
+    /// Makes the end a closed gate that is the last byte. After a fault the log ends where it
+    /// did, and its gate says what is left to mend. At every moment a crash leaves what was
+    /// before the gate; where the gate was touched, with the record behind it or without.
     pub fn mend<D: Disk>(&mut self, disk: &mut D) -> Result<(), DiskFault>
         requires stands { IfSome (D.told disk.old) (Stands self.old) }
         requires room { self.old.end < 18446744073709551615 }

@@ -9,8 +9,8 @@ ghost use Rattle.gated_log.specs.Format.{record_length, first_record};
 use disks::{Disk, DiskFault};
 use std::alloc::Global;
 
-/// Reads once, into the room behind its first bytes, and gives how many came: what stands behind as many from the
-/// offset on.
+/// Reads once, into the room behind its first bytes, and gives
+/// how many came: what stands behind as many from the offset on.
 fn read_behind<D: Disk>(
     disk: &mut D,
     at: u64,

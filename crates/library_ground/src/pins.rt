@@ -5,8 +5,7 @@ ghost use Rattle.library_ground.specs.Pinning.{are_free, may_stand, values_give}
 use fact_rows::{Node, Row};
 use rule_ground::{Facts, Join, Key, Sink, for_each_candidate};
 
-/// The premises that are known: a value of a position, the object that takes a value in, and what an
-/// object holds.
+/// The premises that are known: a value of a position, the object that takes a value in, and what an object holds.
 #[derive(Clone, Copy)]
 pub struct Pins {
     pub value: Option<Row>,

@@ -1,5 +1,6 @@
 //! The positions of a call, one after the other.
-ghost use Rattle.std.specs.Prelude.{◌≡◌, ◌≤◌, ◌∷◌, [], ℕ, None, List, MatchOption, OnOk, if◌then◌else◌, drop, fold, length};
+ghost use Rattle.std.specs.Prelude.{◌≡◌, ◌≤◌, ◌∷◌, [], ℕ, None, List, MatchOption};
+ghost use Rattle.std.specs.Prelude.{OnOk, if◌then◌else◌, drop, fold, length};
 ghost use Rattle.app_machine.specs.Names.{is_wide};
 ghost use Rattle.rule_ground.specs.declared.conclusion.Conclusion.{Conclusion as ConclusionOf};
 ghost use Rattle.library_ground.specs.CallRow.{shown_call};
@@ -22,8 +23,7 @@ pub trait AtPlace {
         ensures { OnOk result (out.new ≡ fold S.then out.old (gives self.now position register)) };
 }
 
-/// The positions that are left: that of the receiver, and those of arguments of these types in the
-/// registers.
+/// The positions that are left: that of the receiver, and those of arguments of these types in the registers.
 #[derive(Clone, Copy)]
 struct Places<'a> {
     receiver: Option<u32>,
@@ -114,7 +114,8 @@ pub fn for_each_place<J: AtPlace, S: Sink>(
     out: &mut S,
 ) -> Result<(), S::Refusal>
     requires { J.ready with.now }
-    ensures { OnOk result (out.new ≡ fold S.then out.old (at_places (J.gives with.now) 0 (shown_call call.now).places)) }
+    ensures { OnOk result (out.new ≡ fold S.then out.old
+        (at_places (J.gives with.now) 0 (shown_call call.now).places)) }
 {
     let mut places = Places::of(call);
     for position in 0..call.args.len() {

@@ -1,7 +1,8 @@
 //! Rule 39: elements of an object become elements of another.
 ghost use Rattle.std.specs.Prelude.{◌≡◌, OnOk, fold};
 ghost use Rattle.library_ground.specs.CallRow.{shown_call};
-ghost use Rattle.library_heap_rules.specs.HeapGiven.{copy_at, copy_element, copy_gives, copy_into, copy_rest, copy_row, label_into};
+ghost use Rattle.library_heap_rules.specs.HeapGiven.{copy_at, copy_element, copy_gives, copy_into};
+ghost use Rattle.library_heap_rules.specs.HeapGiven.{copy_rest, copy_row, label_into};
 
 use crate::pairs::{OfSecond, Position};
 use access_path::{Path, cut, rest};

@@ -58,7 +58,8 @@ fn of_position<F: Facts, S: Sink>(position: &Position<'_, F>, out: &mut S) -> Re
 impl<'a, F: Facts> AtPlace for OfPosition<'a, F> {
     ghost ready = { λ j. Unit {0} };
 
-    ghost gives = { λ j position register. at_position (F.hits j.facts.now) j.pins (shown_call j.call) position register };
+    ghost gives = { λ j position register. at_position (F.hits j.facts.now) j.pins
+        (shown_call j.call) position register };
 
     fn give<S: Sink>(&self, position: usize, register: u32, out: &mut S) -> Result<(), S::Refusal> {
         if may_stand(self.pins.value, self.call.node, register) {

@@ -2,7 +2,8 @@
 ghost use Rattle.std.specs.Prelude.{◌≡◌, ◌<◌, ℕ, All, OnOk, fold, map};
 ghost use Rattle.app_machine.specs.Sound.{SoundApp};
 ghost use Rattle.library_ground.specs.CallRow.{shown_call, IsWithin};
-ghost use Rattle.library_heap_rules.specs.HeapGiven.{static_filled, statics_filled, store_content, store_gives, store_row};
+ghost use Rattle.library_heap_rules.specs.HeapGiven.{static_filled, statics_filled};
+ghost use Rattle.library_heap_rules.specs.HeapGiven.{store_content, store_gives, store_row};
 
 use crate::pairs::{OfSecond, Position};
 use app_machine::App;
@@ -18,7 +19,8 @@ fn store<S: Sink>(
     content: Content,
     out: &mut S,
 ) -> Result<(), S::Refusal>
-    ensures { OnOk result (out.new ≡ fold S.then out.old (store_content (shown_call call.now) register number content)) }
+    ensures { OnOk result (out.new ≡ fold S.then out.old
+        (store_content (shown_call call.now) register number content)) }
 {
     out.put(Conclusion {
         rule: 38,
@@ -102,7 +104,8 @@ fn fill_each<S: Sink>(
 ) -> Result<(), S::Refusal>
     requires sound { SoundApp app.now }
     requires small { All (λ (store : ℕ × ℕ). store.1 < 65536) stores.now }
-    ensures { OnOk result (out.new ≡ fold S.then out.old (map (static_filled app.now (shown_call call.now)) stores.now)) }
+    ensures { OnOk result (out.new ≡ fold S.then out.old
+        (map (static_filled app.now (shown_call call.now)) stores.now)) }
 {
     for store in stores {
         out.put(Conclusion {

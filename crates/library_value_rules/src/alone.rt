@@ -3,7 +3,8 @@ ghost use Rattle.std.specs.Prelude.{◌≡◌, ◌<◌, ℕ, OnOk, fold};
 ghost use Rattle.app_machine.specs.Sound.{SoundApp};
 ghost use Rattle.app_machine.specs.State.{shared_static};
 ghost use Rattle.library_ground.specs.CallRow.{shown_call, IsWithin};
-ghost use Rattle.library_value_rules.specs.ValueGiven.{alone_gives, made, result_alone, shared_gives, shared_label, source_gives};
+ghost use Rattle.library_value_rules.specs.ValueGiven.{alone_gives, made, result_alone};
+ghost use Rattle.library_value_rules.specs.ValueGiven.{shared_gives, shared_label, source_gives};
 
 use crate::result::{give_result, label_result};
 use app_machine::App;
@@ -115,7 +116,8 @@ pub fn give_alone<F: Facts, S: Sink>(
 ) -> Result<(), S::Refusal>
     requires sound { SoundApp app.now }
     requires within { IsWithin (shown_call call.now) }
-    ensures { OnOk result (out.new ≡ fold S.then out.old (alone_gives app.now (F.hits facts.now) (shown_call call.now))) }
+    ensures { OnOk result (out.new ≡ fold S.then out.old
+        (alone_gives app.now (F.hits facts.now) (shown_call call.now))) }
 {
     if call.has_result() {
         give(app, facts, call, call.gives(), out)

@@ -1,7 +1,8 @@
 //! Rules 30 and 31: what a value gives at a position whatever the result is.
 ghost use Rattle.std.specs.Prelude.{◌≡◌, OnOk, fold};
 ghost use Rattle.library_ground.specs.CallRow.{shown_call};
-ghost use Rattle.library_value_rules.specs.ValueGiven.{arrives, handed_with, hands, label_hands, labels_handed, with_value};
+ghost use Rattle.library_value_rules.specs.ValueGiven.{arrives, handed_with, hands, label_hands};
+ghost use Rattle.library_value_rules.specs.ValueGiven.{labels_handed, with_value};
 
 use access_path::Path;
 use fact_rows::Row;

@@ -1,5 +1,4 @@
-//! Rules 30 to 36 in code: what a library call does with the values of its positions, and what its
-//! result is.
+//! Rules 30 to 36 in code: what a library call does with the values of its positions, and what its result is.
 #![tactic(auto)]
 
 mod alone;

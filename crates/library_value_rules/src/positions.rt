@@ -2,7 +2,8 @@
 ghost use Rattle.std.specs.Prelude.{◌≡◌, OnOk, fold};
 ghost use Rattle.app_machine.specs.Sound.{SoundApp};
 ghost use Rattle.library_ground.specs.CallRow.{shown_call, IsWithin};
-ghost use Rattle.library_value_rules.specs.ValueGiven.{at_position, content_gives, position_gives, row_gives, value_gives};
+ghost use Rattle.library_value_rules.specs.ValueGiven.{at_position, content_gives};
+ghost use Rattle.library_value_rules.specs.ValueGiven.{position_gives, row_gives, value_gives};
 
 use crate::alone::give_alone;
 use crate::handed::{arrive, hand, hand_labels};
@@ -114,7 +115,8 @@ fn of_position<F: Facts, S: Sink>(
 impl<'a, F: Facts> AtPlace for OfPosition<'a, F> {
     ghost ready = { λ j. Unit {0} };
 
-    ghost gives = { λ j position register. at_position (F.hits j.facts.now) j.pins (shown_call j.call) position register };
+    ghost gives = { λ j position register. at_position (F.hits j.facts.now) j.pins
+        (shown_call j.call) position register };
 
     fn give<S: Sink>(&self, position: usize, register: u32, out: &mut S) -> Result<(), S::Refusal> {
         if may_stand(self.pins.value, self.call.node, register) {

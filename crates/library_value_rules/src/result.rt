@@ -1,7 +1,8 @@
 //! Rules 32, 33 and 35: what a value of a position gives to the result.
 ghost use Rattle.std.specs.Prelude.{◌≡◌, OnOk, fold};
 ghost use Rattle.library_ground.specs.CallRow.{shown_call};
-ghost use Rattle.library_value_rules.specs.ValueGiven.{joined, labelled, result_gives, results, returned, taken, took, took_rest};
+ghost use Rattle.library_value_rules.specs.ValueGiven.{joined, labelled, result_gives, results};
+ghost use Rattle.library_value_rules.specs.ValueGiven.{returned, taken, took, took_rest};
 
 use crate::handed::with_value;
 use access_path::{Path, cut, rest};

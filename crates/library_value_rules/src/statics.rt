@@ -6,7 +6,8 @@ ghost use Rattle.app_machine.specs.SoundLists.{SoundLists};
 ghost use Rattle.app_machine.specs.State.{shared_static};
 ghost use Rattle.rule_ground.specs.Below.{for_below};
 ghost use Rattle.library_ground.specs.CallRow.{call_row, shown_call};
-ghost use Rattle.library_value_rules.specs.StaticGiven.{gives_shared, is_shared_of, row_shares, static_call, static_gives, static_row, static_user};
+ghost use Rattle.library_value_rules.specs.StaticGiven.{gives_shared, is_shared_of, row_shares, static_call};
+ghost use Rattle.library_value_rules.specs.StaticGiven.{static_gives, static_row, static_user};
 
 use crate::result::give_result;
 use access_path::Path;

@@ -1,7 +1,8 @@
 //! The members of classes, and who sees them.
 
 ghost use Rattle.std.specs.Prelude.{◌≡◌, ◌++◌, IfOk, OnOk};
-ghost use Rattle.link_access.specs.Access.{may_run, method_access, methods_of, field_named, fields_of, class_access, with_class, with_classes, accesses_in};
+ghost use Rattle.link_access.specs.Access.{may_run, method_access, methods_of, field_named, fields_of};
+ghost use Rattle.link_access.specs.Access.{class_access, with_class, with_classes, accesses_in};
 
 use crate::flags::{says_interface, says_native, says_open, says_private, says_static};
 use dex_tables::{Body, ClassDef, Dex, Member};

@@ -1,5 +1,5 @@
-//! What the DEX files of an app say of the access to members of its classes: who sees a method, and which static fields
-//! there are.
+//! What the DEX files of an app say of the access to members of its
+//! classes: who sees a method, and which static fields there are.
 #![tactic(auto)]
 
 mod access;

@@ -5,7 +5,8 @@ ghost use Rattle.std.specs.BTreeSet.{insert_key};
 ghost use Rattle.std.specs.List.Sorted.{IsStrictlySortedBy};
 ghost use Rattle.app_machine.specs.Sound.{SoundApp};
 ghost use Rattle.link_listing.specs.Orders.{triple_order};
-ghost use Rattle.link_code.specs.StaticList.{AreStatics, static_in_line, static_index, statics_in_method, statics_named};
+ghost use Rattle.link_code.specs.StaticList.{AreStatics, static_in_line, static_index};
+ghost use Rattle.link_code.specs.StaticList.{statics_in_method, statics_named};
 
 use crate::coded::Coded;
 use crate::statics::static_at;

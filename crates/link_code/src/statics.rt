@@ -6,7 +6,8 @@ ghost use Rattle.app_machine.specs.Lookups.{class_named, up};
 ghost use Rattle.app_machine.specs.Sound.{SoundApp};
 ghost use Rattle.link_listing.specs.Orders.{named_triple};
 ghost use Rattle.link_hierarchy.specs.Hierarchy.{SameNames, add_once, firsts};
-ghost use Rattle.link_code.specs.Statics.{class_of_static, classes_asked, defines, first_interfaces, interfaces_named, is_true, met, number_among, number_of, own_name, resolved};
+ghost use Rattle.link_code.specs.Statics.{class_of_static, classes_asked, defines, first_interfaces, interfaces_named};
+ghost use Rattle.link_code.specs.Statics.{is_true, met, number_among, number_of, own_name, resolved};
 ghost use Rattle.link_code.specs.StaticsInOrder.{StaticsInOrder};
 ghost use Rattle.link_listing.specs.Texts.{field_of};
 
@@ -106,7 +107,8 @@ fn interfaces_met(alloc: Global, app: &App, class: &[u8]) -> Result<Vec<Name>, M
     ensures met { IfOk result (λ v. v.items ≡ met app.now class.now) }
 
     // One more turn meets no new one.
-    ensures no_more { IfOk result (λ v. firsts (first_interfaces app.now class.now ++ flat_map (interfaces_named app.now) v.items)
+    ensures no_more { IfOk result (λ v. firsts (first_interfaces app.now class.now ++ flat_map
+        (interfaces_named app.now) v.items)
         ≡ v.items) }
 {
     let first = interfaces_upward(alloc, app, class)?;

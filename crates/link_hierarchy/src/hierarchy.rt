@@ -6,7 +6,8 @@ ghost use Rattle.app_machine.specs.Sound.{name_order};
 ghost use Rattle.app_machine.specs.Names.{Name};
 ghost use Rattle.link_hierarchy.specs.Hierarchy.{IsLeastCircle};
 ghost use Rattle.link_listing.specs.Orders.{has_name, named};
-ghost use Rattle.link_hierarchy.specs.Settled.{AllSettled, AreStuck, Covers, Settled, StopsAtCircle, Turn, all_settled, is_ready, is_settled, one_settled};
+ghost use Rattle.link_hierarchy.specs.Settled.{AllSettled, AreStuck, Covers, Settled, StopsAtCircle};
+ghost use Rattle.link_hierarchy.specs.Settled.{Turn, all_settled, is_ready, is_settled, one_settled};
 
 use crate::circle::least_circle;
 use crate::order::{names_of, order_of};
@@ -63,8 +64,8 @@ fn put_outer(mut outers: Outers, name: Name, outer: Shared<Name>) -> Result<Oute
     Ok(outers)
 }
 
-/// Settles the class, where all that stands directly above it is settled. Whether it has to wait for that is told
-/// beside.
+/// Settles the class, where all that stands directly above it
+/// is settled. Whether it has to wait for that is told beside.
 #[tactic(auto, using(crate::proofs::Settling::settled_before, crate::proofs::Settling::no_class, crate::proofs::Settling::waits, crate::proofs::Settling::settles))]
 fn settle(
     alloc: Global,

@@ -1,5 +1,5 @@
-//! The classes and interfaces above each class: none is above itself, and each class lists the library classes above
-//! it.
+//! The classes and interfaces above each class: none is above
+//! itself, and each class lists the library classes above it.
 #![tactic(auto)]
 
 mod circle;

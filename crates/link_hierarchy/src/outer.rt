@@ -102,8 +102,8 @@ fn spend_given(
     Ok(())
 }
 
-/// Takes from what is left what listing takes that all give that stand directly above a class, whether or not it comes
-/// twice.
+/// Takes from what is left what listing takes that all give that
+/// stand directly above a class, whether or not it comes twice.
 pub(crate) fn spend_outer(
     classes: &Classes,
     outers: &Outers,

@@ -3,7 +3,8 @@
 ghost use Rattle.std.specs.Prelude.{◌≡◌, IfOk, filter_map};
 ghost use Rattle.vet_base.specs.Script.{Gives};
 ghost use Rattle.std.specs.Option.{option_copied};
-ghost use Rattle.link_listing.specs.Components.{all_components, application_row, component_row, component_rows, kind_of, one_component, provider_of, providers_of};
+ghost use Rattle.link_listing.specs.Components.{all_components, application_row, component_row, component_rows};
+ghost use Rattle.link_listing.specs.Components.{kind_of, one_component, provider_of, providers_of};
 
 use crate::classes::{Classes, holds_name};
 use crate::fault::{Fault, Halt};

@@ -42,7 +42,12 @@ fn fitting_components(
 /// order. Names that come to more than `NAMES` are want of memory, before any is listed.
 #[tactic(auto, unfolding(crate::specs::Gathered::gathering), using(vet_base::proofs::Scripts::run_bind))]
 pub fn gather(alloc: Global, dexes: &[Dex], manifest: &Manifest) -> Result<Parts, Halt>
-    ensures value { Gives (λ p. record { classes = p.classes.entries; fields = p.fields.entries; methods = p.methods.entries; components = p.components.items }) result (gathering dexes.now manifest.now) }
+    ensures value { Gives (λ p. record {
+      classes = p.classes.entries;
+      fields = p.fields.entries;
+      methods = p.methods.entries;
+      components = p.components.items;
+    }) result (gathering dexes.now manifest.now) }
     ensures fit { IfOk result (λ p. Fit p.classes.entries p.components.items) }
     ensures few { IfOk result (λ p. length p.components.items ≤ 1 + length manifest.now.components) }
 {

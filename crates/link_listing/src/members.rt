@@ -3,7 +3,9 @@
 ghost use Rattle.std.specs.Prelude.{◌≡◌, IfOk, ◌++◌};
 ghost use Rattle.vet_base.specs.Script.{Gives};
 ghost use Rattle.app_machine.specs.Names.{descriptor_of, joined};
-ghost use Rattle.link_listing.specs.MemberRows.{all_members, class_members, dex_members, field_named, first_of, listed_of, method_named, one_field, one_method, some_fields, some_methods};
+ghost use Rattle.link_listing.specs.MemberRows.{all_members, class_members, dex_members, field_named, first_of};
+ghost use Rattle.link_listing.specs.MemberRows.{listed_of, method_named, one_field, one_method, some_fields};
+ghost use Rattle.link_listing.specs.MemberRows.{some_methods};
 ghost use Rattle.link_listing.specs.Orders.{has_triple, with_triple};
 ghost use Rattle.link_listing.specs.Texts.{method_row, proto_of};
 
@@ -19,8 +21,8 @@ use vet_base::{Memory, Name, Stop};
 /// A class, a name, and a type or descriptor.
 pub type Triple = (Name, Name, Name);
 
-/// Where the code of a method stands: the file, the row of `class_defs`, which of its two lists of methods, and the
-/// number there.
+/// Where the code of a method stands: the file, the row of `class_defs`,
+/// which of its two lists of methods, and the number there.
 #[derive(Clone, Copy)]
 pub struct Place {
     pub dex: usize,

@@ -1,7 +1,8 @@
 //! What the indices of a DEX file name. Names share the bytes of the file's own table.
 
 ghost use Rattle.std.specs.Prelude.{◌≡◌, ◌++◌, IfOk, OnOk};
-ghost use Rattle.link_listing.specs.Texts.{field_of, field_row, method_of, method_row, proto_of, text_of, type_of, types_of};
+ghost use Rattle.link_listing.specs.Texts.{field_of, field_row, method_of, method_row};
+ghost use Rattle.link_listing.specs.Texts.{proto_of, text_of, type_of, types_of};
 
 use app_model::{MethodRef, Proto};
 use dex_tables::{Dex, FieldId, MethodRow};

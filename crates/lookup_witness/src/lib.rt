@@ -7,15 +7,13 @@ ghost use Rattle.lookup_witness.specs.AppFacts.{AppIsLookedUp};
 ghost use Rattle.lookup_witness.specs.IndexFacts.{ListsAreLookedUp, StaticsAreLookedUp};
 ghost use Rattle.lookup_witness.specs.PartFacts.{PartsAreTold};
 
-/// Bodies are found past classes without one, by the whole descriptor, and events only where the
-/// machine has them; interfaces of interfaces stand above a class, and initialisers of superclasses
-/// run.
+/// Bodies are found past classes without one, by the whole descriptor, and events only where the machine
+/// has them; interfaces of interfaces stand above a class, and initialisers of superclasses run.
 pub fn the_app_is_looked_up()
     ensures { AppIsLookedUp }
 {}
 
-/// A row goes before a default, serves calls of its own static word alone, and serves an array by
-/// `Object`.
+/// A row goes before a default, serves calls of its own static word alone, and serves an array by `Object`.
 pub fn the_lists_are_looked_up()
     ensures { ListsAreLookedUp }
 {}

@@ -56,8 +56,7 @@ pub fn callbacks_come_only_to_the_living()
     ensures { AbsentComponentsAreOnlyBorn }
 {}
 
-/// Until the application was created, every other component stays absent, and its class is not
-/// initialised.
+/// Until the application was created, every other component stays absent, and its class is not initialised.
 pub fn others_wait_for_the_application()
     ensures { OthersWaitForTheApplication }
 {}
@@ -67,8 +66,7 @@ pub fn a_handed_object_is_called_back()
     ensures { HandedObjectsAreCalledBack }
 {}
 
-/// A super call goes by the caller's class, a virtual call by the receiver's, and both find an
-/// inherited body.
+/// A super call goes by the caller's class, a virtual call by the receiver's, and both find an inherited body.
 pub fn calls_go_upward()
     ensures { CallsGoUpward }
 {}
@@ -103,8 +101,7 @@ pub fn labels_flow_through_other_methods()
     ensures { FlowsByOtherMethods }
 {}
 
-/// A label arrives through a put, a copy and a store of the library, and by a put of a call that
-/// then raises.
+/// A label arrives through a put, a copy and a store of the library, and by a put of a call that then raises.
 pub fn labels_flow_through_the_library()
     ensures { FlowsThroughTheLibrary }
 {}
@@ -130,8 +127,7 @@ pub fn leaking_apps_are_not_safe()
     ensures { NotSafe }
 {}
 
-/// Calls, returns, ends, throws, raises and initialisers each do their step, from any world and
-/// registers.
+/// Calls, returns, ends, throws, raises and initialisers each do their step, from any world and registers.
 pub fn frames_come_and_go()
     ensures { FramesStep }
 {}
@@ -147,8 +143,7 @@ pub fn classes_stand_below_their_types()
     ensures { ClassesStandBelow }
 {}
 
-/// A state stands at a call without a row, at a reflective one, and before a native initialiser or
-/// event.
+/// A state stands at a call without a row, at a reflective one, and before a native initialiser or event.
 pub fn a_state_stands_where_nothing_is_known()
     ensures { StandsWhereNothingIsKnown }
 {}

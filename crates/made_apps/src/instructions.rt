@@ -1,5 +1,6 @@
 ghost use Rattle.std.specs.Prelude.{◌≡◌, pos, [], ◌∷◌, IfOk};
-ghost use Rattle.made_apps.specs.Code.{invoke_static, move_result_object, return_object, return_void, const_4, new_array, aget_object, aput_object, sput_object};
+ghost use Rattle.made_apps.specs.Code.{invoke_static, move_result_object, return_object, return_void};
+ghost use Rattle.made_apps.specs.Code.{const_4, new_array, aget_object, aput_object, sput_object};
 
 use dex_maker::{ListedLine, Operand};
 use std::alloc::Global;

@@ -1,6 +1,8 @@
 ghost use Rattle.std.specs.Prelude.{◌≡◌, [], ◌∷◌, ◌++◌, IfOk, OnOk};
 ghost use Rattle.made_apps.specs.Names.{object_class, object_array};
-ghost use Rattle.made_apps.specs.Code.{invoke_static, move_result_object, const_4, new_array, aput_object, aget_object, device_id, net_post, work_method, work_field, returned_lines, passed_on_lines, through_array_lines, stored_lines, body_lines, main_lines};
+ghost use Rattle.made_apps.specs.Code.{invoke_static, move_result_object, const_4, new_array, aput_object, aget_object};
+ghost use Rattle.made_apps.specs.Code.{device_id, net_post, work_method, work_field, returned_lines, passed_on_lines};
+ghost use Rattle.made_apps.specs.Code.{through_array_lines, stored_lines, body_lines, main_lines};
 
 use crate::body::Body;
 use crate::instructions::{

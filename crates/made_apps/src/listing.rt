@@ -1,5 +1,6 @@
 ghost use Rattle.std.specs.Prelude.{◌≡◌, ◌<◌, ◌≤◌, [], ◌∷◌, IfOk};
-ghost use Rattle.made_apps.specs.Made.{code_of, main_method, main_listed, method_listed, methods_from, field_listed, work_listed, made};
+ghost use Rattle.made_apps.specs.Made.{code_of, main_method, main_listed, method_listed};
+ghost use Rattle.made_apps.specs.Made.{methods_from, field_listed, work_listed, made};
 
 use crate::body::Body;
 use crate::draws::Draws;

@@ -1,5 +1,7 @@
 ghost use Rattle.std.specs.Prelude.{◌≡◌, IfOk};
-ghost use Rattle.made_apps.specs.Names.{main_class, work_class, activity_class, bundle_class, object_class, object_array, string_class, device_class, net_class, void, on_create, id, post, static_field, method_name};
+ghost use Rattle.made_apps.specs.Names.{main_class, work_class, activity_class, bundle_class};
+ghost use Rattle.made_apps.specs.Names.{object_class, object_array, string_class, device_class};
+ghost use Rattle.made_apps.specs.Names.{net_class, void, on_create, id, post, static_field, method_name};
 
 use std::alloc::Global;
 use vet_base::{Memory, Name};

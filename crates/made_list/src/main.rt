@@ -1,5 +1,6 @@
-//! `made_list` alone prints what sample forms say, reads the forms of generated apps and lists one of the apps, for
-//! comparison with what another disassembler lists. `made_list SEED SIZE FILE` writes the DEX file of the app that is drawn from a seed.
+//! `made_list` alone prints what sample forms say, reads the forms of generated apps
+//! and lists one of the apps, for comparison with what another disassembler lists.
+//! `made_list SEED SIZE FILE` writes the DEX file of the app that is drawn from a seed.
 #![tactic(auto)]
 
 ghost use Rattle.std.specs.Prelude.{◌<◌, ◌≤◌, IfSome};

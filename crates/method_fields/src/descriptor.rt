@@ -1,6 +1,8 @@
 //! The descriptors of methods.
 ghost use Rattle.std.specs.Prelude.{◌≡◌, ◌<◌, ◌≤◌, ◌+◌, length, drop, IfOk, IfSome, IsTrue};
-ghost use Rattle.method_fields.specs.Descriptor.{is_primitive, first_semicolon, base_length, first_of_base, type_length, has_param, param_at, params_of, is_type, is_void, has_result, has_params, proto_of};
+ghost use Rattle.method_fields.specs.Descriptor.{is_primitive, first_semicolon, base_length, first_of_base};
+ghost use Rattle.method_fields.specs.Descriptor.{type_length, has_param, param_at, params_of, is_type};
+ghost use Rattle.method_fields.specs.Descriptor.{is_void, has_result, has_params, proto_of};
 ghost use Rattle.vet_base.specs.Script.{Gives};
 
 use app_machine::Proto;

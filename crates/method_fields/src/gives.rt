@@ -1,6 +1,7 @@
 //! The result of a method row.
 ghost use Rattle.std.specs.Prelude.{◌≡◌, ◌≤◌, length, slice_index};
-ghost use Rattle.method_fields.specs.Gives.{gives_word, source_allows, default_word, result_at, from_fits, shared_fits, shared_at, gives_of, gives_at};
+ghost use Rattle.method_fields.specs.Gives.{gives_word, source_allows, default_word, result_at};
+ghost use Rattle.method_fields.specs.Gives.{from_fits, shared_fits, shared_at, gives_of, gives_at};
 ghost use Rattle.toml.specs.View.{table_view};
 ghost use Rattle.vet_base.specs.Script.{Gives as GivesBack};
 

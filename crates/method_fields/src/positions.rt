@@ -1,7 +1,9 @@
 //! Lists of positions, of pairs of positions, and of a position with a name. Positions count
 //! arguments, a wide one once, the receiver being 0.
 ghost use Rattle.std.specs.Prelude.{◌≡◌, ◌<◌, ◌≤◌, map, length, option_map, IfOk, IfSome};
-ghost use Rattle.method_fields.specs.Positions.{has_key, flag_at, position_of, items_at, position_row, position_rows, positions_at, pair_row, pair_rows, pairs_at, name_at, position_at, are_two, named_row, named_rows, named_at, listed_at};
+ghost use Rattle.method_fields.specs.Positions.{has_key, flag_at, position_of, items_at, position_row, position_rows};
+ghost use Rattle.method_fields.specs.Positions.{positions_at, pair_row, pair_rows, pairs_at, name_at, position_at};
+ghost use Rattle.method_fields.specs.Positions.{are_two, named_row, named_rows, named_at, listed_at};
 ghost use Rattle.form_fields.specs.Places.{place_of};
 ghost use Rattle.app_machine.specs.Names.{same_name};
 ghost use Rattle.toml.specs.View.{table_view, view};
@@ -88,8 +90,7 @@ pub fn named_at(
     Ok(pairs)
 }
 
-/// One of some names, by its number, where it is there: `Wrong` where it is no text, `Range` where it is none
-/// of them.
+/// One of some names, by its number, where it is there: `Wrong` where it is no text, `Range` where it is none of them.
 #[tactic(auto, unfolding(crate::specs::Positions::listed_at), using(vet_base::proofs::Scripts::run_bind))]
 pub fn listed_at(
     alloc: Global,

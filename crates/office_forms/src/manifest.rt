@@ -1,7 +1,8 @@
 //! The manifest.
 ghost use Rattle.std.specs.Prelude.{◌≡◌, ◌≢◌, IfOk, IfErr, map};
 ghost use Rattle.form_fields.specs.Form.{IsForm, FirstFormFault};
-ghost use Rattle.office_forms.specs.Manifest.{manifest_form, components_of, component_row, kind_at, kind_of, classes_once, components_once, component_once};
+ghost use Rattle.office_forms.specs.Manifest.{manifest_form, components_of, component_row, kind_at};
+ghost use Rattle.office_forms.specs.Manifest.{kind_of, classes_once, components_once, component_once};
 ghost use Rattle.office_forms.specs.Sound.{SoundManifest, SoundNamed};
 ghost use Rattle.toml.specs.View.{table_view, view};
 ghost use Rattle.vet_base.specs.Script.{Gives};

@@ -1,7 +1,8 @@
 //! The office file.
 ghost use Rattle.std.specs.Prelude.{◌≡◌, ◌≢◌, IfOk, IfErr, map};
 ghost use Rattle.form_fields.specs.Form.{IsForm, FirstFormFault};
-ghost use Rattle.office_forms.specs.Office.{office_form, parties_of, party_row, role_at, role_of, parties_once, party_names_once, party_tokens_once, name_once, token_once};
+ghost use Rattle.office_forms.specs.Office.{office_form, parties_of, party_row, role_at, role_of, parties_once};
+ghost use Rattle.office_forms.specs.Office.{party_names_once, party_tokens_once, name_once, token_once};
 ghost use Rattle.office_forms.specs.Sound.{SoundOffice};
 ghost use Rattle.toml.specs.View.{table_view, view};
 ghost use Rattle.vet_base.specs.Script.{Gives};

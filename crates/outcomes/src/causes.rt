@@ -3,7 +3,8 @@
 ghost use Rattle.std.specs.Prelude.{◌≡◌, ◌++◌, ◌∷◌, [], IfOk, take, map, filter, filter_map};
 ghost use Rattle.app_machine.specs.Sound.{SoundApp, name_order};
 ghost use Rattle.outcomes.specs.Ascending.{ascending};
-ghost use Rattle.outcomes.specs.Causes.{is_app_class, no_summaries, natives, reflectives, providers, layout_classes, named_cause, causes_of, causes_too_large};
+ghost use Rattle.outcomes.specs.Causes.{is_app_class, no_summaries, natives, reflectives, providers};
+ghost use Rattle.outcomes.specs.Causes.{layout_classes, named_cause, causes_of, causes_too_large};
 ghost use Rattle.outcomes.specs.Spots.{at_spot, spot_order, unknown_spot};
 ghost use Rattle.outcomes.specs.Within.{AreWithin};
 

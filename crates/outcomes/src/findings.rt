@@ -66,7 +66,8 @@ fn undeclared_pair(
     label: u8,
     sink: u8,
 ) -> Result<Option<Pair>, Memory>
-    ensures { IfOk result (λ found. found ≡ undeclared_pair lists.now (record { pairs = declared.now.keys }) label sink) }
+    ensures { IfOk result (λ found. found ≡ undeclared_pair lists.now
+        (record { pairs = declared.now.keys }) label sink) }
 {
     let pair = (
         category_of(alloc, lists, label)?,

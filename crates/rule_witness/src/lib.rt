@@ -1,6 +1,5 @@
-//! Small facts that show that the rules mean what they should: each of them gives its row, and a
-//! whole good table. Each is a theorem over the definitions alone, so that a slip in a definition
-//! shows.
+//! Small facts that show that the rules mean what they should: each of them gives its row, and a whole
+//! good table. Each is a theorem over the definitions alone, so that a slip in a definition shows.
 #![tactic(auto)]
 
 ghost use Rattle.rule_witness.specs.CallFacts.{CallRulesHold};
@@ -54,8 +53,7 @@ pub fn the_rules_of_events_withhold()
     ensures { EventRulesWithhold }
 {}
 
-/// A handed object has the class of its callback's parameter, and a number that a call returns is no
-/// object.
+/// A handed object has the class of its callback's parameter, and a number that a call returns is no object.
 pub fn the_classes_of_sites_tell()
     ensures { (c : Ctx) → SitesTell c }
 {}

@@ -1,6 +1,7 @@
-//! Small facts that show that the definitions by which rows are kept and searched for mean what they should: what rows by
-//! hash and by key do not come to, and what no search and no worker ends with. Each is a theorem over the definitions that
-//! the clauses of `chained_rows` and `worker_pool` name, so that code which answers otherwise is refused.
+//! Small facts that show that the definitions by which rows are kept and searched for mean
+//! what they should: what rows by hash and by key do not come to, and what no search and
+//! no worker ends with. Each is a theorem over the definitions that the clauses of
+//! `chained_rows` and `worker_pool` name, so that code which answers otherwise is refused.
 #![tactic(auto)]
 
 ghost use Rattle.search_witness.specs.RowsKept.{RowsAreKept};

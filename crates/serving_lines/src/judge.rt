@@ -7,8 +7,8 @@ use desk_serving::{Judge, Judged};
 use std::alloc::Global;
 use vet_base::{Memory, Shared};
 
-/// A judge that goes by the first byte of the declaration: `c` is clear, `u` undecided, `r` refused and any other
-/// flagged.
+/// A judge that goes by the first byte of the declaration: `c`
+/// is clear, `u` undecided, `r` refused and any other flagged.
 #[derive(Drop)]
 pub struct FirstByte {
     edition: [u8; 32],

@@ -1,5 +1,5 @@
-//! Tests of the solver and the checker by a rule set of one rule. They stand apart from the crates that they test, which
-//! would be proved once more with them.
+//! Tests of the solver and the checker by a rule set of one rule. They stand apart
+//! from the crates that they test, which would be proved once more with them.
 #![tactic(auto)]
 
 #[cfg(test)]

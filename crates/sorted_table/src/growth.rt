@@ -1,7 +1,9 @@
 //! How a row goes into the parts, and how a full part is cut in two.
-ghost use Rattle.std.specs.Prelude.{◌≡◌, ◌+◌, ◌<◌, ◌≤◌, ◌^◌, ◌↔◌, [], ◌∷◌, IsTrue, All, IfOk, OnOk, OnErr, length, take, drop, vec_len, vec_capacity};
+ghost use Rattle.std.specs.Prelude.{◌≡◌, ◌+◌, ◌<◌, ◌≤◌, ◌^◌, ◌↔◌, [], ◌∷◌, IsTrue, All, IfOk};
+ghost use Rattle.std.specs.Prelude.{OnOk, OnErr, length, take, drop, vec_len, vec_capacity};
 ghost use Rattle.std.specs.List.{HoldsAt, insert};
-ghost use Rattle.sorted_table.specs.Parts.{rows_of, all_rows, before, IsKept, place_of, IsSlot, HasRoom, raised, IsSplit};
+ghost use Rattle.sorted_table.specs.Parts.{rows_of, all_rows, before, IsKept, place_of};
+ghost use Rattle.sorted_table.specs.Parts.{IsSlot, HasRoom, raised, IsSplit};
 ghost use Rattle.sorted_table.specs.declared.part.TheConstants.{FULL};
 
 use crate::Exact;

@@ -20,8 +20,8 @@ pub trait Opener {
     fn open(&mut self) -> Result<Connection<Self::Store>, Error>;
 }
 
-/// A keeper that opens its connection at its first call; where that is refused, the next call tries again. It tells
-/// no cases.
+/// A keeper that opens its connection at its first call; where
+/// that is refused, the next call tries again. It tells no cases.
 #[derive(Drop)]
 pub struct LateKeeper<O: Opener + Drop> {
     opener: O,

@@ -1,7 +1,8 @@
 //! Rules 6 to 8 and 13: what follows from the objects of a register and of an object.
 ghost use Rattle.std.specs.Prelude.{◌≡◌, OnOk, fold};
 ghost use Rattle.app_machine.specs.Sound.{SoundApp};
-ghost use Rattle.step_rules.specs.StepGiven.{got_gives, put_on_gives, object_gives, points_lead, points_on, gets, getter_gives, back_gives, cell_gives, step_here};
+ghost use Rattle.step_rules.specs.StepGiven.{got_gives, put_on_gives, object_gives, points_lead, points_on};
+ghost use Rattle.step_rules.specs.StepGiven.{gets, getter_gives, back_gives, cell_gives, step_here};
 
 use crate::contents::{content, put};
 use app_machine::{Act, App, Step};

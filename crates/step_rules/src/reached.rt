@@ -47,7 +47,8 @@ pub fn reached<F: Facts, S: Sink>(
     out: &mut S,
 ) -> Result<(), S::Refusal>
     requires { SoundApp app.now }
-    ensures { OnOk result (out.new ≡ fold S.then out.old (reached_on (step_here app.now node) (F.hits facts.now) node)) }
+    ensures { OnOk result (out.new ≡ fold S.then out.old
+        (reached_on (step_here app.now node) (F.hits facts.now) node)) }
 {
     match step_at(app, node.by.method, node.pc) {
         None => Ok(()),

@@ -2,7 +2,8 @@
 ghost use Rattle.std.specs.Prelude.{◌≡◌, ◌++◌, map, [], ◌∷◌, IfOk};
 ghost use Rattle.std.specs.Option.{option_copied};
 ghost use Rattle.form_fields.specs.Once.{with_new};
-ghost use Rattle.store_lists.specs.Classes.{above_in, parent_row, parents_above, parents_at, fallback_of, fallback_at, class_at, class_row, classes_of, class_name};
+ghost use Rattle.store_lists.specs.Classes.{above_in, parent_row, parents_above, parents_at, fallback_of};
+ghost use Rattle.store_lists.specs.Classes.{fallback_at, class_at, class_row, classes_of, class_name};
 ghost use Rattle.toml.specs.View.{table_view, view};
 ghost use Rattle.vet_base.specs.Script.{Gives};
 

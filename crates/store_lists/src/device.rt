@@ -1,6 +1,7 @@
 //! What the lists say of a device.
 ghost use Rattle.std.specs.Prelude.{◌≡◌, ◌≤◌, ◌+◌, ◌++◌, ◌∷◌, [], IsTrue, IfOk, length, map};
-ghost use Rattle.store_lists.specs.Device.{are_counted, prefixes_at, device_at, static_key, static_at, static_row, statics_of};
+ghost use Rattle.store_lists.specs.Device.{are_counted, prefixes_at, device_at, static_key};
+ghost use Rattle.store_lists.specs.Device.{static_at, static_row, statics_of};
 ghost use Rattle.toml.specs.View.{table_view, view};
 ghost use Rattle.vet_base.specs.Script.{Gives};
 

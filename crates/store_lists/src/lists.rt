@@ -1,7 +1,8 @@
 //! The lists of the office: categories, classes, shared objects, methods and callbacks; and what is said of a device.
 ghost use Rattle.std.specs.Prelude.{◌≡◌, ◌≢◌, ◌≤◌, ◌+◌, ◌++◌, ◌∷◌, [], IsTrue, IfOk, IfErr, length, map};
 ghost use Rattle.form_fields.specs.Form.{IsForm, FirstFormFault};
-ghost use Rattle.store_lists.specs.Lists.{are_categories, categories_at, shared_object, shared_row, shared_of, rows_of, rows_once, all_rows, arrays_at, lists_form};
+ghost use Rattle.store_lists.specs.Lists.{are_categories, categories_at, shared_object, shared_row};
+ghost use Rattle.store_lists.specs.Lists.{shared_of, rows_of, rows_once, all_rows, arrays_at, lists_form};
 ghost use Rattle.app_machine.specs.SoundLists.{SoundLists};
 ghost use Rattle.store_lists.specs.Spelled.{SpelledLists, SoundDevice};
 ghost use Rattle.toml.specs.View.{table_view, view};
@@ -39,9 +40,8 @@ pub struct StoreLists {
 /// `mixed`); at most 64 classes, itself included, are above it. A shared object has a `name` and a
 /// `class`. A method has a listed `class`, a `name` and a `proto`, and says by `static`, `result`,
 /// `from`, `shared`, `puts`, `stores`, `copies`, `source`, `sink`, `positions` and `reflective` what a
-/// call does. A callback has a `class`, a `name`, a `proto` and `sources`. Positions count arguments,
-/// a wide one once, the receiver being 0. No class, shared name, method row or callback row stands
-/// twice.
+/// call does. A callback has a `class`, a `name`, a `proto` and `sources`. Positions count arguments, a
+/// wide one once, the receiver being 0. No class, shared name, method row or callback row stands twice.
 ///
 /// Of a device they say by `strict`, `false` where it is missing, by the lists `platform` and
 /// `bundled` of at most 4,096 beginnings of class descriptors, none twice and none in both, and by at

@@ -1,6 +1,7 @@
 //! The rows of methods.
 ghost use Rattle.std.specs.Prelude.{◌≡◌, ◌≤◌, ◌++◌, ◌∷◌, [], IfOk, length, map};
-ghost use Rattle.store_lists.specs.Methods.{is_listed, listed_class, signature_at, sink_fits, sink_with, sink_at, summary_of, method_row, methods_of};
+ghost use Rattle.store_lists.specs.Methods.{is_listed, listed_class, signature_at, sink_fits};
+ghost use Rattle.store_lists.specs.Methods.{sink_with, sink_at, summary_of, method_row, methods_of};
 ghost use Rattle.method_fields.specs.Positions.{listed_at};
 ghost use Rattle.toml.specs.View.{table_view, view};
 ghost use Rattle.vet_base.specs.Script.{Gives};

@@ -156,8 +156,8 @@ fn judged_too_large(alloc: Global, linked: &Linked, limit: u32) -> Result<Judged
     })
 }
 
-/// What an app comes to by its flow: as its rows say, or that they are too many. None only where the checker refuses
-/// the rows.
+/// What an app comes to by its flow: as its rows say, or that they
+/// are too many. None only where the checker refuses the rows.
 #[tactic(auto, using(crate::proofs::Outcomes::too_large_is_good))]
 fn judged_by<T: Threads + Sync, L>(
     alloc: Global,

@@ -55,7 +55,8 @@ fn rejudged_app(
     requires lists { SoundLists linked.now.papers.lists }
     ensures value { IfOk result (λ r. RechecksTo linked.now.app linked.now.papers.lists linked.now.papers.declaration
         (causes_beside linked.now) rows.now r) }
-    ensures told { IfOk result (λ r. TellsAllBy linked.now.app linked.now.papers.lists linked.now.papers.declaration r) }
+    ensures told { IfOk result (λ r. TellsAllBy linked.now.app linked.now.papers.lists
+        linked.now.papers.declaration r) }
 {
     nothing_is_left_out();
     every_good_table_covers_every_run();

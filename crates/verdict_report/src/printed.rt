@@ -4,7 +4,8 @@
 ghost use Rattle.std.specs.Prelude.{◌≡◌, ◌++◌, codes, take, OnOk};
 ghost use Rattle.app_machine.specs.Names.{joined, descriptor_of};
 ghost use Rattle.printed_text.specs.Printed.{escaped};
-ghost use Rattle.verdict_report.specs.Printed.{method_text, place_text, finding_line, place_line, class_line, method_line, counted_line};
+ghost use Rattle.verdict_report.specs.Printed.{method_text, place_text, finding_line, place_line};
+ghost use Rattle.verdict_report.specs.Printed.{class_line, method_line, counted_line};
 
 use app_model::{MethodRef, Proto};
 use printed_text::{put, put_name, put_number};

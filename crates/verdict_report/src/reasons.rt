@@ -3,7 +3,8 @@
 ghost use Rattle.std.specs.Prelude.{◌≡◌, ◌++◌, codes, string_bytes, OnOk};
 ghost use Rattle.std.specs.Fmt.{decimal};
 ghost use Rattle.printed_text.specs.Printed.{escaped};
-ghost use Rattle.verdict_report.specs.Reasons.{dex_name, part_name, form_reason, dex_reason, code_reason, member_name, link_reason, reason_text};
+ghost use Rattle.verdict_report.specs.Reasons.{dex_name, part_name, form_reason, dex_reason};
+ghost use Rattle.verdict_report.specs.Reasons.{code_reason, member_name, link_reason, reason_text};
 
 use crate::printed::put_method;
 use app_link::LinkFault;

@@ -1,7 +1,8 @@
 //! The text that says an outcome.
 
 ghost use Rattle.std.specs.Prelude.{◌≡◌, ◌++◌, length, take, codes, OnOk, IfOk};
-ghost use Rattle.verdict_report.specs.Report.{cause_line, cause_lines, finding_lines, clear_text, flagged_text, undecided_text, refused_text, report_text};
+ghost use Rattle.verdict_report.specs.Report.{cause_line, cause_lines, finding_lines, clear_text};
+ghost use Rattle.verdict_report.specs.Report.{flagged_text, undecided_text, refused_text, report_text};
 
 use crate::printed::{put_class_line, put_counted, put_finding, put_method_line, put_place_line};
 use crate::reasons::{put_part, put_reason};

@@ -22,7 +22,13 @@ impl Model for MemFiles {
 
     ghost Value = { Store };
 
-    ghost view = { λ m. record { files = m.files.items; failing = m.failing.items; calls = m.calls; faults = m.faults; failed = m.failed } };
+    ghost view = { λ m. record {
+      files = m.files.items;
+      failing = m.failing.items;
+      calls = m.calls;
+      faults = m.faults;
+      failed = m.failed;
+    } };
 }
 
 /// The place of the file of this name.
@@ -72,7 +78,13 @@ impl MemFiles {
     /// These files; where a name stands twice, the first counts. The calls of `read` and `write` are numbered from 1,
     /// and the n-th fails where n is in `failing`; in a read, `Absent` and `TooLong` come before that.
     pub fn new(files: Vec<(Name, Vec<u8>)>, failing: Vec<u64>) -> Self
-        ensures { result ≡ record { files = files.items; failing = failing.items; calls = 0; faults = 0; failed = None } }
+        ensures { result ≡ record {
+          files = files.items;
+          failing = failing.items;
+          calls = 0;
+          faults = 0;
+          failed = None;
+        } }
     {
         MemFiles {
             files,

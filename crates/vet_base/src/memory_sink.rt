@@ -20,7 +20,12 @@ impl Model for MemSink {
 
     ghost Value = { Taker };
 
-    ghost view = { λ m. record { taken = m.taken.items; failing = m.failing.items; calls = m.calls; faults = m.faults } };
+    ghost view = { λ m. record {
+      taken = m.taken.items;
+      failing = m.failing.items;
+      calls = m.calls;
+      faults = m.faults;
+    } };
 }
 
 impl MemSink {

@@ -1,7 +1,8 @@
 ghost use Rattle.std.specs.Prelude.{◌≡◌, ◌≤◌, ℕ, List, Option, length, IfOk};
 ghost use Rattle.vet_base.specs.declared.outside.FileFault.TheVariants.{Memory as file_memory};
 ghost use Rattle.vet_base.specs.declared.outside.PutFault.TheVariants.{Memory as put_memory};
-ghost use Rattle.vet_base.specs.Outside.{Told, AnswersRead, told_after_read, WritesFile, FileCause, PutsBytes, PutCause};
+ghost use Rattle.vet_base.specs.Outside.{Told, AnswersRead, told_after_read};
+ghost use Rattle.vet_base.specs.Outside.{WritesFile, FileCause, PutsBytes, PutCause};
 
 use crate::{Memory, Name};
 use std::alloc::{AllocError, AllocFailed, Global};

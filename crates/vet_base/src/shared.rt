@@ -6,8 +6,8 @@ use std::alloc::Global;
 use std::marker::Model;
 use std::sync::Arc;
 
-/// A list in a field, of which copies are made. Contracts see the list. Copies share its storage; an empty list has
-/// none.
+/// A list in a field, of which copies are made. Contracts see
+/// the list. Copies share its storage; an empty list has none.
 #[derive(Debug, Drop)]
 pub struct Shared<T> {
     items: Option<Arc<Vec<T>>>,

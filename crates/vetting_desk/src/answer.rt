@@ -1,7 +1,8 @@
 //! What the words and the files come to, with the status and the text that say so.
 
 ghost use Rattle.std.specs.Prelude.{◌≡◌, ◌++◌, codes, IfOk};
-ghost use Rattle.vetting_desk.specs.Due.{usage_text, read_fault_text, behind_slashes, last_part, absent_text, too_long_text, due_of};
+ghost use Rattle.vetting_desk.specs.Due.{usage_text, read_fault_text, behind_slashes};
+ghost use Rattle.vetting_desk.specs.Due.{last_part, absent_text, too_long_text, due_of};
 
 use crate::summary::summary;
 use cert_report::{CertRefusal, report_refusal};

@@ -6,7 +6,8 @@ ghost use Rattle.vetting_desk.specs.Answer.{SaysClear, IsSafe, SaysFound};
 ghost use Rattle.vetting_desk.specs.Due.{due_of};
 ghost use Rattle.vetting_desk.specs.Found.{TheDue, Says, file_of};
 ghost use Rattle.app_folder.specs.Outside.{outside};
-ghost use Rattle.vetting_desk.specs.Top.{PutsText, WritesDue, status_of_write, Finishes, Ends, EndsAsDue, EndsAsOnlyDue, PrintsFullReport};
+ghost use Rattle.vetting_desk.specs.Top.{PutsText, WritesDue, status_of_write, Finishes};
+ghost use Rattle.vetting_desk.specs.Top.{Ends, EndsAsDue, EndsAsOnlyDue, PrintsFullReport};
 
 use crate::answer::{Answer, Status, read_fault, status_saying, text_saying};
 use crate::finding::{Found, found_in};
@@ -119,7 +120,8 @@ fn run<F: Files, O: Sink, T: Threads + Wait + Sync, L: Lookout>(
     out: &mut O,
     crew: &Crew<'_, T, L>,
 ) -> Status
-    ensures { Ends (TheDue (parse (map string_bytes words.now)) (record { files = F.told files.old; printed = O.taken out.old }))
+    ensures { Ends (TheDue (parse (map string_bytes words.now))
+        (record { files = F.told files.old; printed = O.taken out.old }))
         (parse (map string_bytes words.now))
         (outside (F.told files.old) (F.fault_count files.old) (O.taken out.old) (O.fault_count out.old))
         (outside (F.told files.new) (F.fault_count files.new) (O.taken out.new) (O.fault_count out.new)) result.0 }
@@ -128,8 +130,8 @@ fn run<F: Files, O: Sink, T: Threads + Wait + Sync, L: Lookout>(
     finished(alloc, files, out, &found)
 }
 
-/// Runs the words over files, and prints the answer to a sink as one text that ends with one line feed and goes out in
-/// one put.
+/// Runs the words over files, and prints the answer to a sink as
+/// one text that ends with one line feed and goes out in one put.
 ///
 /// The words are `check DIR WORKERS`, which judges the app in a folder; `certify DIR CERT`, which also writes the table
 /// of what follows in the app to a file, as a certificate, before it prints; `recheck DIR CERT`, which judges the app

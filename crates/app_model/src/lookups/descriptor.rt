@@ -75,8 +75,7 @@ fn next_part(later: Later) -> Option<Text>
     }
 }
 
-/// What is left of both behind what they have in common, where one of them ends there; else how
-/// they compare.
+/// What is left of both behind what they have in common, where one of them ends there; else how they compare.
 fn after_common<'a, 'b>(a: &'a [u8], b: &'b [u8]) -> Result<(&'a [u8], &'b [u8]), Ordering>
     ensures alike { IfOk result (λ left. BeginAlike a.now b.now left.0.now left.1.now) }
     ensures shorter { IfOk result (λ left. 0 < length a.now → 0 < length b.now → length left.1.now < length b.now) }

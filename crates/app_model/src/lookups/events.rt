@@ -4,7 +4,8 @@ ghost use Rattle.app_machine.specs.declared.lists.Lists.{Lists as SomeLists};
 ghost use Rattle.app_machine.specs.Events.{IsApplication};
 ghost use Rattle.app_machine.specs.Names.{click_descriptor};
 ghost use Rattle.app_machine.specs.Sound.{SoundApp};
-ghost use Rattle.app_model.specs.EventBodies.{callback_of, click, click_of, component_callback, handed_callback, is_activity, life_event, life_of, shown_callback, shown_component_event};
+ghost use Rattle.app_model.specs.EventBodies.{callback_of, click, click_of, component_callback, handed_callback};
+ghost use Rattle.app_model.specs.EventBodies.{is_activity, life_event, life_of, shown_callback, shown_component_event};
 ghost use Rattle.app_model.specs.EventLaws.{EventsAreExact};
 
 use crate::lookups::above::below;

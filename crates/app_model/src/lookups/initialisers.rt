@@ -3,7 +3,8 @@ ghost use Rattle.std.specs.Option.{option_copied};
 ghost use Rattle.vet_base.specs.Members.{In};
 ghost use Rattle.app_machine.specs.Lookups.{initialisers};
 ghost use Rattle.app_machine.specs.Sound.{SoundApp};
-ghost use Rattle.app_model.specs.Initialisers.{MayBeInitialiser, class_initialisers, component_initialisers, initialisers_left};
+ghost use Rattle.app_model.specs.Initialisers.{MayBeInitialiser, class_initialisers};
+ghost use Rattle.app_model.specs.Initialisers.{component_initialisers, initialisers_left};
 
 use crate::lookups::class_walk::{ClassWalk, classes_above, next_class};
 use crate::lookups::methods::{initialiser_name, initialiser_of};
@@ -11,16 +12,14 @@ use crate::{Act, App};
 use app_parts::class_initialised;
 use vet_base::Name;
 
-/// What is left of a walk over the initialisers of a class and of the app classes above it, along
-/// superclasses.
+/// What is left of a walk over the initialisers of a class and of the app classes above it, along superclasses.
 #[derive(Clone, Copy)]
 pub struct InitialiserWalk<'a> {
     /// The classes to which it still comes.
     classes: ClassWalk<'a>,
 }
 
-/// The initialisers that may run before the act: of the class that it initialises, and of those
-/// above it.
+/// The initialisers that may run before the act: of the class that it initialises, and of those above it.
 #[tactic(auto, unfolding(app_machine::specs::Lookups::initialisers))]
 pub fn act_initialisers<'a>(app: &'a App, act: &'a Act) -> InitialiserWalk<'a>
     ensures { initialisers_left app.now result ≡ initialisers app.now act.now }

@@ -1,6 +1,7 @@
 ghost use Rattle.std.specs.Prelude.{◌≡◌, ◌<◌, length, option_map};
 ghost use Rattle.std.specs.Option.{option_copied};
-ghost use Rattle.app_machine.specs.Lookups.{target, virtual_target, superclass_of_caller, lists_bare, find_body, body_or, Library};
+ghost use Rattle.app_machine.specs.Lookups.{target, virtual_target, superclass_of_caller};
+ghost use Rattle.app_machine.specs.Lookups.{lists_bare, find_body, body_or, Library};
 ghost use Rattle.app_machine.specs.Sound.{SoundApp};
 ghost use Rattle.app_model.specs.Targets.{shown_target};
 
@@ -10,9 +11,8 @@ use crate::lookups::upward::find_body;
 use crate::{App, CallKind, MethodRef, Target};
 use vet_base::Name;
 
-/// What a call of the kind comes to, in the method numbered `caller`, by the class of the
-/// receiver's object where the receiver has a place. The name of a library class is that of `at`
-/// or `class`.
+/// What a call of the kind comes to, in the method numbered `caller`, by the class of the receiver's
+/// object where the receiver has a place. The name of a library class is that of `at` or `class`.
 #[tactic(auto, unfolding(app_machine::specs::Lookups::target))]
 pub fn target<'a>(
     app: &App,

@@ -60,8 +60,7 @@ pub fn instance_key(app: &App, class: &Name, name: &Name, kind: &Name) -> KeyId
     }
 }
 
-/// The number of the member of the first class, from this one upward along superclasses, that
-/// defines it.
+/// The number of the member of the first class, from this one upward along superclasses, that defines it.
 #[tactic(auto, using(vet_base::proofs::Firsts::first_begins, vet_base::proofs::Firsts::first_found, vet_base::proofs::Firsts::first_later, vet_base::proofs::Firsts::first_nowhere))]
 fn first_upward(app: &App, class: &[u8], member: Member) -> Option<u32>
     requires { SoundApp app.now }

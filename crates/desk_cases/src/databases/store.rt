@@ -1,6 +1,6 @@
-//! Databases over files in memory that may stop. All is written for whatever store or whatever disk, since a function
-//! that names the store over its disk is dear to prove: the disk is named once, where its functions are, and once where
-//! all begins.
+//! Databases over files in memory that may stop. All is written for whatever store or
+//! whatever disk, since a function that names the store over its disk is dear to
+//! prove: the disk is named once, where its functions are, and once where all begins.
 
 use sqlite::{Alter, Connection, FileStore, Files, Options};
 use sqlite_disk::{Crash, Fuse, Memory};
