@@ -7,6 +7,7 @@ ghost use Rattle.call_rules.specs.PassGiven.{hangs_on as decides, passed, argume
 ghost use Rattle.call_rules.specs.PassGiven.{argument_passed, argument_at, call_passes, calls_on};
 
 use crate::initialised::is_initialised;
+use crate::numbers;
 use app_machine::{Act, App, CallKind};
 use app_model::step_at;
 use app_parts::is_by_receiver;
@@ -46,7 +47,7 @@ impl Argument {
             content)) }
     {
         out.put(Conclusion {
-            rule: 24,
+            rule: numbers::PASS,
             premises: Premises::of_two(
                 Row::Calls(self.node, self.by),
                 content.held(self.node, self.register),

@@ -6,6 +6,7 @@ ghost use Rattle.call_rules.specs.PassGiven.{is_passed as passes, passed_at, cal
 
 use crate::arguments::{Entering, hangs_on};
 use crate::initialised::is_initialised;
+use crate::numbers;
 use app_machine::{Act, App, CallKind};
 use call_targets::{argument_register, is_argument, pass_to};
 use fact_rows::{Node, Row};
@@ -42,7 +43,7 @@ fn pass_at<S: Sink>(
 {
     if is_argument(call.args, index, register) && is_passed(call.kind, index, content) {
         pass_to(
-            24,
+            numbers::PASS,
             Premises::of_two(
                 Row::Calls(call.node, call.by),
                 content.held(call.node, register),

@@ -5,6 +5,7 @@ ghost use Rattle.app_machine.specs.Sound.{SoundApp};
 ghost use Rattle.call_rules.specs.ExitGiven.{returned_on, caught_on, thrown, left};
 ghost use Rattle.call_rules.specs.ExitGiven.{caller_takes, exit_taken, exits_taken};
 
+use crate::numbers;
 use app_machine::{App, Step};
 use app_model::step_at;
 use fact_rows::{Activation, Node, Row};
@@ -27,7 +28,7 @@ fn hand_back<S: Sink>(
         None => Ok(()),
         Some(step) => {
             let inference = Inference {
-                rule: 25,
+                rule: numbers::HAND_BACK,
                 premises: Premises::of_two(content.leaves(by, RETURNING), Row::CalledBy(by, node)),
             };
             put_each(inference, content, node, RESULT, step.next.as_slice(), out)
@@ -49,7 +50,7 @@ fn catch<S: Sink>(
         None => Ok(()),
         Some(step) => {
             let inference = Inference {
-                rule: 26,
+                rule: numbers::THROW_ON,
                 premises: Premises::of_two(content.leaves(by, THROWING), Row::CalledBy(by, node)),
             };
             put_each(
@@ -76,7 +77,7 @@ fn throw<S: Sink>(
     ensures { OnOk result (out.new ≡ fold S.then out.old (thrown app.now by content node)) }
 {
     out.put(Conclusion {
-        rule: 26,
+        rule: numbers::THROW_ON,
         premises: Premises::of_two(content.leaves(by, THROWING), Row::CalledBy(by, node)),
         row: content.leaves(node.by, THROWING),
     })?;

@@ -9,6 +9,7 @@ ghost use Rattle.call_rules.specs.InitGiven.{is_initialised_at as initialises_at
 ghost use Rattle.call_rules.specs.InitGiven.{registers_get, caller_gets, effect_gives, effect_comes};
 ghost use Rattle.call_rules.specs.InitGiven.{effects_come, effect_taints, call_taints, bodies_taint};
 
+use crate::numbers;
 use access_path::Path;
 use app_machine::{Act, App};
 use app_model::{act_initialisers, is_initialiser, next_initialiser, step_at};
@@ -58,7 +59,7 @@ impl Effect {
         ensures { result ≡ tainted self.now.by node register self.now.site self.now.path self.now.label }
     {
         Conclusion {
-            rule: 29,
+            rule: numbers::INITIALISED,
             premises: Premises::of_three(
                 Row::MethodEffect(self.by, self.site, self.path, self.label),
                 Row::CalledBy(self.by, node),

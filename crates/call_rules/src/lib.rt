@@ -6,6 +6,7 @@ mod arguments;
 mod contents;
 mod exits;
 mod initialised;
+mod numbers;
 mod rules;
 
 pub use rules::CallRules;

@@ -7,6 +7,7 @@ ghost use Rattle.app_machine.specs.Summaries.{summary};
 ghost use Rattle.call_targets.specs.EnterGiven.{with_code, enters, argument_of, argument_register as register_of};
 ghost use Rattle.call_targets.specs.EnterGiven.{passed_to, uses_row, looks_up};
 
+use crate::numbers;
 use app_index::LibraryIndex;
 use app_machine::{App, CallKind, Method, MethodRef, SummaryId};
 use app_model::summary_of;
@@ -142,7 +143,7 @@ fn use_row<S: Sink>(
                 Row::Uses(call.node, key)
             };
             out.put(Conclusion {
-                rule: 27,
+                rule: numbers::USE_LIBRARY,
                 premises,
                 row,
             })
@@ -168,7 +169,7 @@ pub fn look_up<S: Sink>(
         .key(call.app, class, &call.at.name, &call.at.proto, is_static)
     {
         None => out.put(Conclusion {
-            rule: 27,
+            rule: numbers::USE_LIBRARY,
             premises,
             row: Row::Unknown(call.node, NO_SUMMARY),
         }),

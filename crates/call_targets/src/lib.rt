@@ -3,6 +3,7 @@
 
 mod enter;
 mod names;
+mod numbers;
 mod receivers;
 
 pub use enter::{argument_register, pass_to};

@@ -7,6 +7,7 @@ ghost use Rattle.app_model.specs.Targets.{shown_target};
 ghost use Rattle.call_targets.specs.EnterGiven.{named_to, named, initialises, reached_on, step_here};
 
 use crate::enter::{Call, enter, look_up};
+use crate::numbers;
 use app_index::LibraryIndex;
 use app_machine::{Act, App};
 use app_model::{Target, act_initialisers, next_initialiser, step_at, target};
@@ -27,7 +28,7 @@ fn come_by_name<S: Sink>(call: &Call<'_>, to: Target, out: &mut S) -> Result<(),
             if is_by_receiver(call.kind) {
                 Ok(())
             } else {
-                enter(call.app, 22, premises, call.node, body, out)
+                enter(call.app, numbers::ENTER, premises, call.node, body, out)
             }
         }
         Target::Library(class) => look_up(call, premises, class, out),
@@ -73,7 +74,7 @@ fn initialise<S: Sink>(app: &App, node: Node, act: &Act, out: &mut S) -> Result<
     while let Some((body, rest)) = next_initialiser(app, walk) {
         enter(
             app,
-            28,
+            numbers::INITIALISE,
             Premises::of_one(Row::Reached(node)),
             node,
             body,

@@ -7,6 +7,7 @@ ghost use Rattle.std.specs.Option.{option_copied};
 ghost use Rattle.call_targets.specs.EnterGiven.{class_to, class_on, received as receives, is_register};
 
 use crate::enter::{Call, argument_register, enter, look_up, pass_to};
+use crate::numbers;
 use app_index::LibraryIndex;
 use app_machine::{Act, App};
 use app_model::{Target, target};
@@ -49,9 +50,16 @@ fn come_by_class<S: Sink>(
     let premises = Premises::of_one(Row::Points(call.node, receiver.register, receiver.site));
     match to {
         Target::Body(body) => {
-            enter(call.app, 23, premises, call.node, body, out)?;
+            enter(
+                call.app,
+                numbers::ENTER_BY_CLASS,
+                premises,
+                call.node,
+                body,
+                out,
+            )?;
             pass_to(
-                23,
+                numbers::ENTER_BY_CLASS,
                 premises,
                 Content::Object(receiver.site),
                 callee(call.node, body),

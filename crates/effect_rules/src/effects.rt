@@ -4,6 +4,7 @@ ghost use Rattle.app_machine.specs.Sound.{SoundApp};
 ghost use Rattle.effect_rules.specs.EffectGiven.{lifts, spreads, spread_to, spread_on, statics_hold};
 ghost use Rattle.effect_rules.specs.EffectGiven.{is_handed, effect_gives, step_here};
 
+use crate::numbers;
 use access_path::{Path, cut};
 use app_machine::App;
 use app_model::step_at;
@@ -39,7 +40,7 @@ impl Join for Holders {
     fn give<S: Sink>(&self, row: Row, out: &mut S) -> Result<(), S::Refusal> {
         match row {
             Row::Back(_, key, site) => out.put(Conclusion {
-                rule: 14,
+                rule: numbers::TO_HOLDER,
                 premises: Premises::of_two(self.0.row(), row),
                 row: Row::Effect(self.0.node, site, cut(key, &self.0.path), self.0.label),
             }),
@@ -60,7 +61,7 @@ impl Join for Registers {
     fn give<S: Sink>(&self, row: Row, out: &mut S) -> Result<(), S::Refusal> {
         match row {
             Row::Points(node, register, _) => out.put(Conclusion {
-                rule: 15,
+                rule: numbers::TO_REGISTER,
                 premises: Premises::of_two(self.0.row(), row),
                 row: Row::Taint(node, register, self.0.path, self.0.label),
             }),
@@ -81,7 +82,7 @@ impl Join for Statics {
     fn give<S: Sink>(&self, row: Row, out: &mut S) -> Result<(), S::Refusal> {
         match row {
             Row::StaticPoints(number, _) => out.put(Conclusion {
-                rule: 18,
+                rule: numbers::TO_STATIC,
                 premises: Premises::of_two(self.0.row(), row),
                 row: Row::StaticTaint(number, self.0.path, self.0.label),
             }),
@@ -102,7 +103,7 @@ impl Join for Handed {
     fn give<S: Sink>(&self, row: Row, out: &mut S) -> Result<(), S::Refusal> {
         match row {
             Row::Handed(site) => out.put(Conclusion {
-                rule: 19,
+                rule: numbers::TO_HANDED,
                 premises: Premises::of_two(self.0.row(), row),
                 row: Row::HandedTaint(site, self.0.path, self.0.label),
             }),
@@ -164,7 +165,7 @@ pub fn affect<F: Facts, S: Sink>(
         effect.site effect.path effect.label)) }
 {
     out.put(Conclusion {
-        rule: 16,
+        rule: numbers::OF_METHOD,
         premises: Premises::of_one(effect.row()),
         row: Row::MethodEffect(effect.node.by, effect.site, effect.path, effect.label),
     })?;

@@ -3,6 +3,7 @@
 
 mod effects;
 mod methods;
+mod numbers;
 mod rules;
 mod takers;
 

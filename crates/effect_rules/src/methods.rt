@@ -3,6 +3,7 @@ ghost use Rattle.std.specs.Prelude.{◌≡◌, OnOk, flat_map, fold, slice_get};
 ghost use Rattle.effect_rules.specs.EffectGiven.{caller_has, called_has, state_in, own_to, own_gives, is_beside};
 ghost use Rattle.effect_rules.specs.EffectGiven.{stays, component_gives, method_gives, live_takes, live_gives};
 
+use crate::numbers;
 use access_path::Path;
 use app_machine::App;
 use app_model::event_rows;
@@ -38,7 +39,7 @@ impl Join for Callers {
     fn give<S: Sink>(&self, row: Row, out: &mut S) -> Result<(), S::Refusal> {
         match row {
             Row::CalledBy(_, node) => out.put(Conclusion {
-                rule: 17,
+                rule: numbers::TO_CALLER,
                 premises: Premises::of_two(self.0.row(), row),
                 row: Row::Effect(node, self.0.site, self.0.path, self.0.label),
             }),
@@ -62,7 +63,7 @@ impl Join for Called {
     fn give<S: Sink>(&self, row: Row, out: &mut S) -> Result<(), S::Refusal> {
         match row {
             Row::MethodEffect(_, site, path, label) => out.put(Conclusion {
-                rule: 17,
+                rule: numbers::TO_CALLER,
                 premises: Premises::of_two(row, Row::CalledBy(self.by, self.node)),
                 row: Row::Effect(self.node, site, path, label),
             }),
@@ -132,7 +133,7 @@ fn comes_to<S: Sink>(to: Option<u8>, effect: ComponentEffect, out: &mut S) -> Re
                 Ok(())
             } else {
                 out.put(Conclusion {
-                    rule: 20,
+                    rule: numbers::BY_OWN_EVENT,
                     premises: Premises::of_one(effect.row()),
                     row: Row::CompTaint(effect.component, to, effect.path, effect.label),
                 })
@@ -185,7 +186,7 @@ impl Join for States {
                     Ok(())
                 } else {
                     out.put(Conclusion {
-                        rule: 21,
+                        rule: numbers::BY_OTHER_EVENT,
                         premises: Premises::of_two(self.0.row(), row),
                         row: Row::CompTaint(self.0.component, state, self.0.path, self.0.label),
                     })
@@ -256,7 +257,7 @@ impl Join for State {
             Row::MethodEffect(by, _, path, label) => {
                 if beside(by.ctx, self.component) {
                     out.put(Conclusion {
-                        rule: 21,
+                        rule: numbers::BY_OTHER_EVENT,
                         premises: Premises::of_two(row, Row::Live(self.component, self.state)),
                         row: Row::CompTaint(self.component, self.state, path, label),
                     })

@@ -4,6 +4,7 @@ ghost use Rattle.app_machine.specs.Sound.{SoundApp};
 ghost use Rattle.effect_rules.specs.EffectGiven.{back_lifts, back_on, points_take};
 ghost use Rattle.effect_rules.specs.EffectGiven.{static_takes, handed_takes, step_here};
 
+use crate::numbers;
 use access_path::cut;
 use app_machine::App;
 use app_model::step_at;
@@ -27,7 +28,7 @@ impl Join for Holder {
     fn give<S: Sink>(&self, row: Row, out: &mut S) -> Result<(), S::Refusal> {
         match row {
             Row::Effect(node, _, path, label) => out.put(Conclusion {
-                rule: 14,
+                rule: numbers::TO_HOLDER,
                 premises: Premises::of_two(row, Row::Back(self.held, self.key, self.site)),
                 row: Row::Effect(node, self.site, cut(self.key, &path), label),
             }),
@@ -92,7 +93,7 @@ impl<'a> Join for Register<'a> {
         match row {
             Row::Effect(node, _, path, label) => {
                 let found = Conclusion {
-                    rule: 15,
+                    rule: numbers::TO_REGISTER,
                     premises: Premises::of_two(
                         row,
                         Row::Points(self.node, self.register, self.site),
@@ -143,7 +144,7 @@ impl Join for Static {
     fn give<S: Sink>(&self, row: Row, out: &mut S) -> Result<(), S::Refusal> {
         match row {
             Row::Effect(_, _, path, label) => out.put(Conclusion {
-                rule: 18,
+                rule: numbers::TO_STATIC,
                 premises: Premises::of_two(row, Row::StaticPoints(self.number, self.site)),
                 row: Row::StaticTaint(self.number, path, label),
             }),
@@ -178,7 +179,7 @@ impl Join for HandedObject {
     fn give<S: Sink>(&self, row: Row, out: &mut S) -> Result<(), S::Refusal> {
         match row {
             Row::Effect(_, _, path, label) => out.put(Conclusion {
-                rule: 19,
+                rule: numbers::TO_HANDED,
                 premises: Premises::of_two(row, Row::Handed(self.0)),
                 row: Row::HandedTaint(self.0, path, label),
             }),

@@ -4,6 +4,7 @@ ghost use Rattle.app_machine.specs.Sound.{SoundApp};
 ghost use Rattle.app_model.specs.Initialisers.{initialisers_left};
 ghost use Rattle.event_rules.specs.EventGiven.{absent_gives, initialiser_begins};
 
+use crate::numbers;
 use app_machine::App;
 use app_model::{InitialiserWalk, component_initialisers, next_initialiser};
 use begin_rules::{Start, begin};
@@ -16,7 +17,7 @@ fn initialise<S: Sink>(app: &App, component: u32, body: u32, out: &mut S) -> Res
     ensures { OnOk result (out.new ≡ fold S.then out.old (initialiser_begins app.now component body)) }
 {
     let start = Start {
-        rule: 44,
+        rule: numbers::ABSENT,
         premises: Premises::of_one(Row::Live(component, 0)),
         ctx: Ctx::Init(component),
         body,

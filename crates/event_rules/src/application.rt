@@ -4,6 +4,7 @@ ghost use Rattle.app_machine.specs.Sound.{SoundApp};
 ghost use Rattle.event_rules.specs.EventGiven.{created_gives, other_lives, others_live};
 ghost use Rattle.app_rows.specs.Application.{is_application as is_application_in};
 
+use crate::numbers;
 use app_machine::App;
 use app_model::is_application;
 use fact_rows::Row;
@@ -24,7 +25,7 @@ fn other<S: Sink>(application: u32, component: u32, out: &mut S) -> Result<(), S
         return Ok(());
     }
     out.put(Conclusion {
-        rule: 47,
+        rule: numbers::APPLICATION,
         premises: Premises::of_one(Row::Live(application, 2)),
         row: Row::Live(component, 0),
     })

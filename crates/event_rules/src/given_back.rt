@@ -9,6 +9,7 @@ ghost use Rattle.event_rules.specs.GivenBack.{TakesNone, back, back_index, back_
 
 use crate::handed::HandedObject;
 use crate::known::Known;
+use crate::numbers;
 use app_machine::{App, Method};
 use app_parts::{is_reference, parameter_type, position_at};
 use begin_rules::first_argument;
@@ -68,7 +69,7 @@ fn to_register<S: Sink>(
     ensures { OnOk result (out.new ≡ S.then out.old (back_register object by register)) }
 {
     out.put(Conclusion {
-        rule: 45,
+        rule: numbers::GIVEN_BACK,
         premises: premises(object, by),
         row: object.known.content(object.site).held(entry(by), register),
     })

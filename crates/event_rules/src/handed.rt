@@ -6,6 +6,7 @@ ghost use Rattle.event_rules.specs.EventGiven.{handed_arrival, handed_on};
 
 use crate::arrival::{Arrival, On};
 use crate::known::Known;
+use crate::numbers;
 use event_index::EventIndex;
 use fact_rows::Site;
 use rule_ground::{Premises, Sink};
@@ -23,7 +24,7 @@ fn arrival(object: HandedObject) -> Arrival
     ensures { result ≡ handed_arrival object }
 {
     Arrival {
-        rule: 43,
+        rule: numbers::HANDED,
         premises: Premises::of_one(object.known.handed(object.site)),
         content: object.known.content(object.site),
     }

@@ -9,6 +9,7 @@ mod given_back;
 mod handed;
 mod known;
 mod life;
+mod numbers;
 mod present;
 mod returned;
 mod rules;

@@ -5,6 +5,7 @@ ghost use Rattle.event_rules.specs.EventGiven.{event_count, event_gives, leads_t
 
 use crate::arrival::Arrival;
 use crate::known::Known;
+use crate::numbers;
 use app_machine::App;
 use app_model::{event_rows, life_event};
 use fact_rows::{Ctx, Site};
@@ -22,8 +23,8 @@ fn rule_of(known: Known) -> u8
     ensures { result ≡ life_rule known }
 {
     match known {
-        Known::There => 40,
-        Known::Leads(_, _) => 41,
+        Known::There => numbers::OWN_EVENT,
+        Known::Leads(_, _) => numbers::OWN_EVENT_LABEL,
     }
 }
 

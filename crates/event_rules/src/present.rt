@@ -6,6 +6,7 @@ ghost use Rattle.event_rules.specs.EventGiven.{present_arrival, present_gives};
 
 use crate::arrival::{Arrival, On};
 use crate::life::Standing;
+use crate::numbers;
 use app_machine::App;
 use event_index::EventIndex;
 use fact_rows::{Ctx, Site};
@@ -16,7 +17,7 @@ fn arrival(standing: &Standing) -> Arrival
     ensures { result ≡ present_arrival standing.now }
 {
     Arrival {
-        rule: 42,
+        rule: numbers::PRESENT,
         premises: Premises::of_one(standing.known.live(standing.component, standing.state)),
         content: standing.known.content(Site::Component(standing.component)),
     }

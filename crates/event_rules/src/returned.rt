@@ -3,6 +3,7 @@ ghost use Rattle.std.specs.Prelude.{◌≡◌, OnOk, fold};
 ghost use Rattle.event_rules.specs.EventGiven.{exit_is, exit_leads, exit_points_give};
 ghost use Rattle.event_rules.specs.EventGiven.{exit_taint_gives, exit_taints, hands_over};
 
+use crate::numbers;
 use access_path::Path;
 use fact_rows::{Activation, Row, Site};
 use rule_ground::{Conclusion, Facts, Join, Key, Premises, RETURNING, Sink, entry, for_each_hit};
@@ -19,7 +20,7 @@ fn leads(by: Activation, site: Site, path: Path, label: u8) -> Conclusion
     ensures { result ≡ exit_leads by site path label }
 {
     Conclusion {
-        rule: 46,
+        rule: numbers::RETURNED,
         premises: Premises::of_two(
             Row::ExitPoints(by, RETURNING, site),
             Row::ExitTaint(by, RETURNING, path, label),
@@ -60,7 +61,7 @@ pub fn hand_over<F: Facts, S: Sink>(
 {
     if hands_over(by, how) {
         out.put(Conclusion {
-            rule: 46,
+            rule: numbers::RETURNED,
             premises: Premises::of_one(Row::ExitPoints(by, RETURNING, site)),
             row: Row::Handed(site),
         })?;

@@ -4,6 +4,7 @@ ghost use Rattle.library_ground.specs.CallRow.{shown_call};
 ghost use Rattle.library_heap_rules.specs.HeapGiven.{copy_at, copy_element, copy_gives, copy_into};
 ghost use Rattle.library_heap_rules.specs.HeapGiven.{copy_rest, copy_row, label_into};
 
+use crate::numbers;
 use crate::pairs::{OfSecond, Position};
 use access_path::{Path, cut, rest};
 use fact_rows::{Row, Site};
@@ -27,7 +28,7 @@ impl<'a> Join for ElementInto<'a> {
     fn give<S: Sink>(&self, row: Row, out: &mut S) -> Result<(), S::Refusal> {
         match row {
             Row::Points(_, _, site) => out.put(Conclusion {
-                rule: 39,
+                rule: numbers::COPY,
                 premises: Premises::of_four(self.call.premise(), self.from, self.cell, row),
                 row: Row::Cell(site, ELEMENT, self.held),
             }),
@@ -85,7 +86,7 @@ impl<'a> Join for LabelInto<'a> {
     fn give<S: Sink>(&self, row: Row, out: &mut S) -> Result<(), S::Refusal> {
         match row {
             Row::Points(_, _, site) => out.put(Conclusion {
-                rule: 39,
+                rule: numbers::COPY,
                 premises: Premises::of_three(self.call.premise(), self.from, row),
                 row: Row::Effect(self.call.node, site, cut(ELEMENT, &self.path), self.label),
             }),

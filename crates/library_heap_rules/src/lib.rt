@@ -3,6 +3,7 @@
 #![tactic(auto)]
 
 mod copies;
+mod numbers;
 mod pairs;
 mod positions;
 mod puts;

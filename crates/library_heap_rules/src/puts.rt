@@ -3,6 +3,7 @@ ghost use Rattle.std.specs.Prelude.{◌≡◌, OnOk, fold};
 ghost use Rattle.library_ground.specs.CallRow.{shown_call};
 ghost use Rattle.library_heap_rules.specs.HeapGiven.{put_at, put_content, put_gives, put_into, put_row};
 
+use crate::numbers;
 use crate::pairs::{OfSecond, Position};
 use fact_rows::Row;
 use library_ground::{LibraryCall, for_each_value, may_stand};
@@ -27,7 +28,7 @@ impl<'a> Join for IntoObject<'a> {
         let node = self.call.node;
         match row {
             Row::Points(_, _, site) => out.put(Conclusion {
-                rule: 37,
+                rule: numbers::PUT,
                 premises: Premises::of_three(
                     self.call.premise(),
                     row,

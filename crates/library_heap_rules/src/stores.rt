@@ -5,6 +5,7 @@ ghost use Rattle.library_ground.specs.CallRow.{shown_call, IsWithin};
 ghost use Rattle.library_heap_rules.specs.HeapGiven.{static_filled, statics_filled};
 ghost use Rattle.library_heap_rules.specs.HeapGiven.{store_content, store_gives, store_row};
 
+use crate::numbers;
 use crate::pairs::{OfSecond, Position};
 use app_machine::App;
 use fact_rows::{Row, Site};
@@ -23,7 +24,7 @@ fn store<S: Sink>(
         (store_content (shown_call call.now) register number content)) }
 {
     out.put(Conclusion {
-        rule: 38,
+        rule: numbers::STORE,
         premises: Premises::of_two(call.premise(), content.held(call.node, register)),
         row: content.stored(call.node, Site::Shared(number), ELEMENT),
     })
@@ -109,7 +110,7 @@ fn fill_each<S: Sink>(
 {
     for store in stores {
         out.put(Conclusion {
-            rule: 38,
+            rule: numbers::STORE,
             premises: Premises::of_one(call.premise()),
             row: Row::StaticPoints(shared_static(app, store.1), Site::Shared(store.1)),
         })?;

@@ -6,6 +6,7 @@ ghost use Rattle.library_ground.specs.CallRow.{shown_call, IsWithin};
 ghost use Rattle.library_value_rules.specs.ValueGiven.{alone_gives, made, result_alone};
 ghost use Rattle.library_value_rules.specs.ValueGiven.{shared_gives, shared_label, source_gives};
 
+use crate::numbers;
 use crate::result::{give_result, label_result};
 use app_machine::App;
 use app_parts::CallResult;
@@ -19,7 +20,13 @@ fn make<S: Sink>(call: &LibraryCall<'_>, out: &mut S) -> Result<(), S::Refusal>
 {
     if call.has_reference() {
         let object = Content::Object(Site::At(call.node));
-        give_result(34, Premises::of_one(call.premise()), object, call, out)
+        give_result(
+            numbers::MAKE,
+            Premises::of_one(call.premise()),
+            object,
+            call,
+            out,
+        )
     } else {
         Ok(())
     }
@@ -52,7 +59,13 @@ impl<'a> Join for SharedLabel<'a> {
         match row {
             Row::StaticTaint(_, path, label) => {
                 let premises = Premises::of_two(self.0.premise(), row);
-                give_result(36, premises, Content::Label(path, label), &self.0, out)
+                give_result(
+                    numbers::SHARE,
+                    premises,
+                    Content::Label(path, label),
+                    &self.0,
+                    out,
+                )
             }
             _ => Ok(()),
         }
@@ -76,11 +89,11 @@ fn share<F: Facts, S: Sink>(
     let object = Site::Shared(number);
     let premises = Premises::of_one(call.premise());
     out.put(Conclusion {
-        rule: 36,
+        rule: numbers::SHARE,
         premises,
         row: Row::StaticPoints(field, object),
     })?;
-    give_result(36, premises, Content::Object(object), call, out)?;
+    give_result(numbers::SHARE, premises, Content::Object(object), call, out)?;
     for_each_hit(facts, &Key::StaticTaintsOf(field), &SharedLabel(*call), out)
 }
 

@@ -4,6 +4,7 @@ ghost use Rattle.library_ground.specs.CallRow.{shown_call};
 ghost use Rattle.library_value_rules.specs.ValueGiven.{arrives, handed_with, hands, label_hands};
 ghost use Rattle.library_value_rules.specs.ValueGiven.{labels_handed, with_value};
 
+use crate::numbers;
 use access_path::Path;
 use fact_rows::Row;
 use library_ground::{LibraryCall, Pins, may_stand};
@@ -27,7 +28,7 @@ pub fn hand<S: Sink>(
 {
     match content {
         Content::Object(site) => out.put(Conclusion {
-            rule: 30,
+            rule: numbers::HAND,
             premises: with_value(call, register, content),
             row: Row::Handed(site),
         }),
@@ -47,7 +48,7 @@ pub fn arrive<S: Sink>(
 {
     match (sink, content) {
         (Some(sink), Content::Label(_, label)) => out.put(Conclusion {
-            rule: 31,
+            rule: numbers::ARRIVE,
             premises: with_value(call, register, content),
             row: Row::Arrive(label, sink, call.node),
         }),
@@ -72,7 +73,7 @@ impl<'a> Join for HandedWith<'a> {
     fn give<S: Sink>(&self, row: Row, out: &mut S) -> Result<(), S::Refusal> {
         match row {
             Row::Points(_, _, site) => out.put(Conclusion {
-                rule: 30,
+                rule: numbers::HAND,
                 premises: Premises::of_three(self.call.premise(), row, self.taint),
                 row: Row::HandedTaint(site, self.path, self.label),
             }),

@@ -3,6 +3,7 @@
 
 mod alone;
 mod handed;
+mod numbers;
 mod positions;
 mod result;
 mod statics;

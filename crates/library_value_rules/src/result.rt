@@ -5,6 +5,7 @@ ghost use Rattle.library_value_rules.specs.ValueGiven.{joined, labelled, result_
 ghost use Rattle.library_value_rules.specs.ValueGiven.{returned, taken, took, took_rest};
 
 use crate::handed::with_value;
+use crate::numbers;
 use access_path::{Path, cut, rest};
 use app_parts::CallResult;
 use fact_rows::Row;
@@ -47,7 +48,7 @@ pub fn label_result<S: Sink>(
     ensures { OnOk result (out.new ≡ fold S.then out.old (labelled premises label (shown_call call.now))) }
 {
     give_result(
-        35,
+        numbers::JOIN,
         premises,
         Content::Label(Path::empty(), label),
         call,
@@ -55,7 +56,13 @@ pub fn label_result<S: Sink>(
     )?;
     if call.has_reference() {
         let element = cut(ELEMENT, &Path::empty());
-        give_result(35, premises, Content::Label(element, label), call, out)
+        give_result(
+            numbers::JOIN,
+            premises,
+            Content::Label(element, label),
+            call,
+            out,
+        )
     } else {
         Ok(())
     }
@@ -77,7 +84,13 @@ impl<'a> Join for Took<'a> {
         match row {
             Row::Cell(_, _, held) => {
                 let premises = Premises::of_three(self.call.premise(), self.from, row);
-                give_result(33, premises, Content::Object(held), &self.call, out)
+                give_result(
+                    numbers::TAKE,
+                    premises,
+                    Content::Object(held),
+                    &self.call,
+                    out,
+                )
             }
             _ => Ok(()),
         }
@@ -99,7 +112,13 @@ fn take_rest<S: Sink>(
         None => Ok(()),
         Some(shorter) => {
             let premises = with_value(call, register, Content::Label(path, label));
-            give_result(33, premises, Content::Label(shorter, label), call, out)
+            give_result(
+                numbers::TAKE,
+                premises,
+                Content::Label(shorter, label),
+                call,
+                out,
+            )
         }
     }
 }
@@ -166,7 +185,7 @@ fn give<F: Facts, S: Sink>(
         CallResult::Same(position) => {
             if position as usize == value.position && value.cell.is_none() {
                 let premises = with_value(call, value.register, value.content);
-                give_result(32, premises, value.content, call, out)
+                give_result(numbers::SAME, premises, value.content, call, out)
             } else {
                 Ok(())
             }

@@ -9,6 +9,7 @@ ghost use Rattle.library_ground.specs.CallRow.{call_row, shown_call};
 ghost use Rattle.library_value_rules.specs.StaticGiven.{gives_shared, is_shared_of, row_shares, static_call};
 ghost use Rattle.library_value_rules.specs.StaticGiven.{static_gives, static_row, static_user};
 
+use crate::numbers;
 use crate::result::give_result;
 use access_path::Path;
 use app_machine::{App, Gives, Lists, Summary, SummaryId};
@@ -83,7 +84,7 @@ fn label_call<S: Sink>(
             Row::StaticTaint(from.number, from.path, from.label),
         );
         give_result(
-            36,
+            numbers::SHARE,
             premises,
             Content::Label(from.path, from.label),
             call,

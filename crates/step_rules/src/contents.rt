@@ -2,6 +2,7 @@
 ghost use Rattle.std.specs.Prelude.{◌≡◌, OnOk, fold};
 ghost use Rattle.step_rules.specs.StepGiven.{keeps, passes, thrown, put_gives, puts, content_alone};
 
+use crate::numbers;
 use app_machine::{Act, Step};
 use app_parts::writes;
 use fact_rows::{Node, Row};
@@ -22,7 +23,7 @@ fn keep<S: Sink>(
     ensures { OnOk result (out.new ≡ fold S.then out.old (keeps step.now node register content)) }
 {
     let inference = Inference {
-        rule: 2,
+        rule: numbers::KEEP,
         premises: Premises::of_one(content.held(node, register)),
     };
     if !writes(&step.act, register) {
@@ -60,11 +61,14 @@ fn throw<S: Sink>(
 {
     let premises = Premises::of_one(content.held(node, register));
     out.put(Conclusion {
-        rule: 11,
+        rule: numbers::THROW,
         premises,
         row: content.leaves(node.by, THROWING),
     })?;
-    let inference = Inference { rule: 11, premises };
+    let inference = Inference {
+        rule: numbers::THROW,
+        premises,
+    };
     put_each(inference, content, node, EXCEPTION, catches, out)
 }
 
@@ -80,7 +84,10 @@ fn pass<S: Sink>(
         register content)) }
 {
     let premises = Premises::of_one(content.held(node, register));
-    let moved = Inference { rule: 3, premises };
+    let moved = Inference {
+        rule: numbers::MOVE,
+        premises,
+    };
     let next = step.next.as_slice();
     match &step.act {
         Act::Move(targets, from) if *from == register => {
@@ -94,7 +101,7 @@ fn pass<S: Sink>(
         }
         Act::PutStatic(field, from) if *from == register => {
             out.put(Conclusion {
-                rule: 10,
+                rule: numbers::PUT_STATIC,
                 premises,
                 row: content.held_static(*field),
             })
@@ -108,7 +115,7 @@ fn pass<S: Sink>(
         ),
         Act::Return(Some(from)) if *from == register => {
             out.put(Conclusion {
-                rule: 12,
+                rule: numbers::RETURN,
                 premises,
                 row: content.leaves(node.by, RETURNING),
             })
@@ -134,7 +141,7 @@ impl Join for IntoObject {
     fn give<S: Sink>(&self, row: Row, out: &mut S) -> Result<(), S::Refusal> {
         match row {
             Row::Points(_, _, site) => out.put(Conclusion {
-                rule: 8,
+                rule: numbers::PUT,
                 premises: Premises::of_two(row, self.content.held(self.node, self.register)),
                 row: self.content.stored(self.node, site, self.key),
             }),

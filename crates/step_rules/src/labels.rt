@@ -4,6 +4,7 @@ ghost use Rattle.app_machine.specs.Sound.{SoundApp};
 ghost use Rattle.step_rules.specs.StepGiven.{is_bare, rest_gives, label_gives, taint_leads, taint_on, step_here};
 
 use crate::contents::{content, put};
+use crate::numbers;
 use access_path::{Path, cut, rest};
 use app_machine::{Act, App, Step};
 use app_model::step_at;
@@ -49,7 +50,7 @@ fn get_rest<S: Sink>(
         None => Ok(()),
         Some(shorter) => {
             let inference = Inference {
-                rule: 7,
+                rule: numbers::GET,
                 premises: Premises::of_one(from.row()),
             };
             let content = Content::Label(shorter, from.label);
@@ -68,7 +69,10 @@ fn label_alone<S: Sink>(step: &Step, held: Labelled, out: &mut S) -> Result<(), 
     match &step.act {
         Act::Join(targets, sources) => {
             if is_among(sources.as_slice(), held.register) && is_bare_path(held.path) {
-                let joined = Inference { rule: 4, premises };
+                let joined = Inference {
+                    rule: numbers::JOIN,
+                    premises,
+                };
                 let bare = Content::Label(Path::empty(), held.label);
                 put_all(joined, bare, held.node, targets.as_slice(), next, out)
             } else {
@@ -77,7 +81,10 @@ fn label_alone<S: Sink>(step: &Step, held: Labelled, out: &mut S) -> Result<(), 
         }
         Act::Fill(elements, _) => {
             if is_among(elements.as_slice(), held.register) {
-                let filled = Inference { rule: 6, premises };
+                let filled = Inference {
+                    rule: numbers::FILL,
+                    premises,
+                };
                 let inner = Content::Label(cut(KeyId(0), &held.path), held.label);
                 put_each(filled, inner, held.node, RESULT, next, out)
             } else {

@@ -3,6 +3,7 @@
 
 mod contents;
 mod labels;
+mod numbers;
 mod objects;
 mod reached;
 mod rules;

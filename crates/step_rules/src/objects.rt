@@ -5,6 +5,7 @@ ghost use Rattle.step_rules.specs.StepGiven.{got_gives, put_on_gives, object_giv
 ghost use Rattle.step_rules.specs.StepGiven.{gets, getter_gives, back_gives, cell_gives, step_here};
 
 use crate::contents::{content, put};
+use crate::numbers;
 use app_machine::{Act, App, Step};
 use app_model::step_at;
 use fact_rows::{Node, Row, Site};
@@ -47,7 +48,7 @@ impl<'a> Join for Got<'a> {
         match row {
             Row::Cell(_, _, held) => {
                 let inference = Inference {
-                    rule: 7,
+                    rule: numbers::GET,
                     premises: Premises::of_two(self.from.row(), row),
                 };
                 let held = Content::Object(held);
@@ -81,12 +82,12 @@ impl Join for OnObject {
         let premises = Premises::of_two(self.into.row(), row);
         match row {
             Row::Points(_, _, held) => out.put(Conclusion {
-                rule: 8,
+                rule: numbers::PUT,
                 premises,
                 row: Row::Cell(self.into.site, self.key, held),
             }),
             Row::Taint(_, _, path, label) => out.put(Conclusion {
-                rule: 8,
+                rule: numbers::PUT,
                 premises,
                 row: Content::Label(path, label).stored(self.into.node, self.into.site, self.key),
             }),
@@ -109,7 +110,7 @@ fn object_alone<F: Facts, S: Sink>(
         Act::Fill(elements, _) => {
             if is_among(elements.as_slice(), held.register) {
                 out.put(Conclusion {
-                    rule: 6,
+                    rule: numbers::FILL,
                     premises: Premises::of_one(held.row()),
                     row: Row::Cell(Site::At(held.node), KeyId(0), held.site),
                 })
@@ -209,7 +210,7 @@ fn get_held<S: Sink>(
         Act::Get(targets, register, own) => {
             if *register == from.register && own.0 == key.0 {
                 let inference = Inference {
-                    rule: 7,
+                    rule: numbers::GET,
                     premises: Premises::of_two(from.row(), Row::Cell(from.site, key, held)),
                 };
                 let held = Content::Object(held);
@@ -266,7 +267,7 @@ pub fn back<S: Sink>(site: Site, key: KeyId, held: Site, out: &mut S) -> Result<
     ensures { OnOk result (out.new ≡ S.then out.old (back_gives site key held)) }
 {
     out.put(Conclusion {
-        rule: 13,
+        rule: numbers::BACK,
         premises: Premises::of_one(Row::Cell(site, key, held)),
         row: Row::Back(held, key, site),
     })

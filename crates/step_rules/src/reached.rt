@@ -3,6 +3,7 @@ ghost use Rattle.std.specs.Prelude.{◌≡◌, OnOk, fold};
 ghost use Rattle.app_machine.specs.Sound.{SoundApp};
 ghost use Rattle.step_rules.specs.StepGiven.{goes_on, made, reached_on, step_here};
 
+use crate::numbers;
 use crate::statics::read_statics;
 use app_machine::{Act, App};
 use app_model::step_at;
@@ -15,7 +16,7 @@ fn go_on<S: Sink>(pcs: &[u32], node: Node, out: &mut S) -> Result<(), S::Refusal
 {
     for pc in pcs {
         out.put(Conclusion {
-            rule: 1,
+            rule: numbers::GO_ON,
             premises: Premises::of_one(Row::Reached(node)),
             row: Row::Reached(at_pc(node, *pc)),
         })?;
@@ -29,7 +30,7 @@ fn make<S: Sink>(act: &Act, next: &[u32], node: Node, out: &mut S) -> Result<(),
 {
     let made = Content::Object(Site::At(node));
     let inference = Inference {
-        rule: 5,
+        rule: numbers::MAKE,
         premises: Premises::of_one(Row::Reached(node)),
     };
     match act {

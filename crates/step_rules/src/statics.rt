@@ -3,6 +3,7 @@ ghost use Rattle.std.specs.Prelude.{◌≡◌, OnOk, fold, flat_map};
 ghost use Rattle.app_machine.specs.Sound.{SoundApp};
 ghost use Rattle.step_rules.specs.StepGiven.{reads, reader_gives, reader_takes, static_on, static_gives, statics_read};
 
+use crate::numbers;
 use app_index::{Reader, StaticReaders};
 use app_machine::{Act, App, Step};
 use app_model::step_at;
@@ -24,7 +25,7 @@ fn read<S: Sink>(
         Act::GetStatic(targets, own) => {
             if *own == number {
                 let inference = Inference {
-                    rule: 9,
+                    rule: numbers::GET_STATIC,
                     premises: Premises::of_two(Row::Reached(node), content.held_static(number)),
                 };
                 put_all(inference, content, node, targets.as_slice(), next, out)
