@@ -4,9 +4,10 @@ ghost use Rattle.app_rows.specs.Tests.{is_activation_in, is_node_in, is_place_in
 
 use crate::contexts::is_ctx_in;
 use app_model::{App, step_at};
+use app_parts::RESULT;
 use event_index::EventIndex;
 use fact_rows::{Activation, Node};
-use rule_ground::{EXCEPTION, RESULT};
+use rule_ground::EXCEPTION;
 
 pub(crate) fn is_activation_in(index: &EventIndex<'_>, by: Activation) -> bool
     requires { SoundApp index.now.0 }

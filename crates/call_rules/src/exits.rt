@@ -8,9 +8,10 @@ ghost use Rattle.call_rules.specs.ExitGiven.{caller_takes, exit_taken, exits_tak
 use crate::numbers;
 use app_machine::{App, Step};
 use app_model::step_at;
+use app_parts::RESULT;
 use fact_rows::{Activation, Node, Row};
 use rule_ground::{
-    Conclusion, Content, EXCEPTION, Facts, Inference, Join, Key, Premises, RESULT, RETURNING, Sink,
+    Conclusion, Content, EXCEPTION, Facts, Inference, Join, Key, Premises, RETURNING, Sink,
     THROWING, for_each_hit, put_each,
 };
 

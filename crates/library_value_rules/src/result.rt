@@ -7,12 +7,11 @@ ghost use Rattle.library_value_rules.specs.ValueGiven.{returned, taken, took, to
 use crate::handed::with_value;
 use crate::numbers;
 use access_path::{Path, cut, rest};
-use app_parts::CallResult;
+use app_parts::{CallResult, RESULT};
 use fact_rows::Row;
 use library_ground::LibraryCall;
 use rule_ground::{
-    Content, ELEMENT, Facts, Inference, Join, Key, Premises, RESULT, Sink, for_each_candidate,
-    put_each,
+    Content, ELEMENT, Facts, Inference, Join, Key, Premises, Sink, for_each_candidate, put_each,
 };
 
 /// A value of a position, and what its object is known to hold.

@@ -4,10 +4,10 @@ ghost use Rattle.step_rules.specs.StepGiven.{keeps, passes, thrown, put_gives, p
 
 use crate::numbers;
 use app_machine::{Act, Step};
-use app_parts::writes;
+use app_parts::{RESULT, writes};
 use fact_rows::{Node, Row};
 use rule_ground::{
-    Conclusion, Content, EXCEPTION, Facts, Inference, Join, Key, Premises, RESULT, RETURNING, Sink,
+    Conclusion, Content, EXCEPTION, Facts, Inference, Join, Key, Premises, RETURNING, Sink,
     THROWING, for_each_hit, put_all, put_each,
 };
 use vet_base::KeyId;

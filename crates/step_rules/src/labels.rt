@@ -8,8 +8,9 @@ use crate::numbers;
 use access_path::{Path, cut, rest};
 use app_machine::{Act, App, Step};
 use app_model::step_at;
+use app_parts::RESULT;
 use fact_rows::{Node, Row};
-use rule_ground::{Content, Facts, Inference, Premises, RESULT, Sink, is_among, put_all, put_each};
+use rule_ground::{Content, Facts, Inference, Premises, Sink, is_among, put_all, put_each};
 use vet_base::KeyId;
 
 /// A register that may lead to a label at a node, by a path.

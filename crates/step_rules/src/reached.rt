@@ -7,8 +7,9 @@ use crate::numbers;
 use crate::statics::read_statics;
 use app_machine::{Act, App};
 use app_model::step_at;
+use app_parts::RESULT;
 use fact_rows::{Node, Row, Site};
-use rule_ground::{Conclusion, Content, Facts, Inference, Premises, RESULT, Sink, at_pc, put_each};
+use rule_ground::{Conclusion, Content, Facts, Inference, Premises, Sink, at_pc, put_each};
 
 /// Control goes on to each of the pcs.
 fn go_on<S: Sink>(pcs: &[u32], node: Node, out: &mut S) -> Result<(), S::Refusal>
