@@ -33,6 +33,10 @@ unfoldable pub is_array : Name → Bool
 is_array [] = false
 is_array (byte ∷ bytes) = byte == 91
 
+-- the array type of this element type
+abbrev pub array_of : Name → Name
+array_of type = 91 ∷ type
+
 -- `long` and `double`, which stand in two registers
 unfoldable pub is_wide : Name → Bool
 is_wide type = same_name type (codes "J") || same_name type (codes "D")
@@ -51,6 +55,10 @@ widths (type ∷ types) = width type + widths types
 -- the class above all others
 unfoldable pub object_class : Name
 object_class = codes "Ljava/lang/Object;"
+
+-- the interfaces above all arrays
+unfoldable pub array_types : List Name
+array_types = codes "Ljava/lang/Cloneable;" ∷ codes "Ljava/io/Serializable;" ∷ []
 
 -- `<clinit>`, the name of class initialisers, and their prototype `()V`
 unfoldable pub initialiser_name : Name

@@ -1,5 +1,5 @@
 -- What the lists say of library classes and of calls of their methods.
-use Rattle.std.specs.Prelude.{◌≡◌, ℕ, zero, suc, ◌+◌, Bool, true, false, ◌&&◌, List, [], ◌∷◌, length, map, Option, Some, None, option_map, slice_get, find, flat_map, is_some, if◌then◌else◌}
+use Rattle.std.specs.Prelude.{◌≡◌, ℕ, zero, suc, ◌+◌, Bool, true, false, IsTrue, ◌&&◌, List, [], ◌∷◌, length, map, Option, Some, None, option_map, slice_get, find, flat_map, is_some, if◌then◌else◌}
 use Rattle.app_machine.specs.declared.call.Proto.{Proto}
 use Rattle.app_machine.specs.declared.call.MethodRef.{MethodRef}
 use Rattle.app_machine.specs.declared.app.Class.{Class}
@@ -14,7 +14,7 @@ use Rattle.app_machine.specs.declared.lists.SummaryId.TheVariants.{Row, Fallback
 use Rattle.app_machine.specs.declared.lists.LibClass.{LibClass}
 use Rattle.app_machine.specs.declared.lists.Lists.{Lists}
 use Rattle.vet_base.specs.Members.{In, first_given, first_index}
-use Rattle.app_machine.specs.Names.{Name, same_name, same_proto, is_array, object_class}
+use Rattle.app_machine.specs.Names.{Name, same_name, same_proto, is_reference, is_array, array_of, array_types, object_class}
 use Rattle.app_machine.specs.Lookups.{class_named, directly_above}
 
 -- the listed class of this name
@@ -93,10 +93,19 @@ unfoldable pub summary : Lists → SummaryId → MethodRef → Bool → Option S
 summary lists (Row i) at is_static = slice_get lists.methods i
 summary lists (Fallback i) at is_static = elim (slice_get lists.classes i) [ None ↦ None | Some c ↦ option_map (λ word. default_summary word at is_static) c.fallback ]
 
--- A value of the class may stand where the type is asked for: they are equal, the type is `Object`, a class or interface
--- directly above the app class is below the type, or the lists have the type above the class.
+-- A class or interface is below a type: they are equal, the type is `Object`, a class or interface directly above the app
+-- class is below the type, or the lists have the type above the class.
+-- Java Language Specification, "Subtyping among Class and Interface Types"
+pub data ClassBelow (app : App) (lists : Lists) : Name → Name → Type 0 where
+  is_same : {class : Name} → ClassBelow app lists class class
+  is_object : {class type : Name} → type ≡ object_class → ClassBelow app lists class type
+  is_through : {class above type : Name} (c : Class) → class_named app class ≡ Some c → In above (directly_above c) → ClassBelow app lists above type → ClassBelow app lists class type
+  is_listed : {class type : Name} → In type (listed_above lists class) → ClassBelow app lists class type
+
+-- A value of the class may stand where the type is asked for: the class is below the type as a class; or it is an array, and
+-- the type is one of those above all arrays; or both are arrays, of a reference type below another type.
+-- Java Language Specification, "Subtyping among Array Types"
 pub data Below (app : App) (lists : Lists) : Name → Name → Type 0 where
-  is_same : {class : Name} → Below app lists class class
-  is_object : {class type : Name} → type ≡ object_class → Below app lists class type
-  is_through : {class above type : Name} (c : Class) → class_named app class ≡ Some c → In above (directly_above c) → Below app lists above type → Below app lists class type
-  is_listed : {class type : Name} → In type (listed_above lists class) → Below app lists class type
+  of_class : {class type : Name} → ClassBelow app lists class type → Below app lists class type
+  of_array : {class type : Name} → IsTrue (is_array class) → In type array_types → Below app lists class type
+  of_elements : {class type : Name} → IsTrue (is_reference class) → Below app lists class type → Below app lists (array_of class) (array_of type)

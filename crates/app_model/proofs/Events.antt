@@ -13,16 +13,17 @@ use Rattle.app_machine.specs.LifeEvents.{LifeEvent, life_events}
 use Rattle.app_machine.specs.Lookups.{body_named, find_body, initialisers_from}
 use Rattle.app_machine.specs.Names.{Name, click_descriptor}
 use Rattle.app_machine.specs.Sound.{SoundApp}
-use Rattle.app_machine.specs.Summaries.{Below}
+use Rattle.app_machine.specs.Summaries.{Below, ClassBelow}
 use Rattle.vet_base.specs.Members.{In}
 use Rattle.vet_base.proofs.Lists.{slice_get-map_at}
 use Rattle.app_model.specs.declared.answers.EventRow.{EventRow}
-use Rattle.app_model.specs.Above.{is_below}
+use Rattle.app_model.specs.Above.{is_below, is_class_below}
 use Rattle.app_model.specs.EventBodies.{called, callback_of, callback_on, click, click_of, click_on, component_callback, handed_callback, is_activity, life_at, life_event, life_on}
 use Rattle.app_model.specs.EventLaws.{EventsAreExact}
 use Rattle.app_model.specs.EventTable.{shown_event}
 use Rattle.app_model.specs.Initialisers.{component_initialisers}
-use Rattle.app_model.proofs.BelowRelation.{below_if, below_only_if}
+use Rattle.app_model.proofs.ArrayRelation.{below_if, below_only_if}
+use Rattle.app_model.proofs.BelowRelation.{class_below_if, class_below_only_if}
 
 -- an event of the table
 pub event_here : (kind : Kind) (rows : List EventRow) (e : ℕ) (row : EventRow) → map shown_event rows ≡ life_events kind → slice_get rows e ≡ Some row → slice_get (life_events kind) e ≡ Some (shown_event row)
@@ -43,7 +44,10 @@ no_component app c absent is = none-some is.component (sym absent ∙ is.there.t
 
 module _ (app : App) (lists : Lists) (sound : SoundApp app) where
   below_exact : (class type : Name) → IsTrue (is_below app lists class type) ↔ Below app lists class type
-  below_exact class type = (below_if app lists type class, below_only_if app lists type sound.no_circle class)
+  below_exact class type = (below_if app lists class type, below_only_if app lists sound.no_circle)
+
+  class_below_exact : (class type : Name) → IsTrue (is_class_below app lists class type) ↔ ClassBelow app lists class type
+  class_below_exact class type = (class_below_if app lists type class, class_below_only_if app lists type sound.no_circle class)
 
   life_so : (c e : ℕ) (class : Name) (life : LifeEvent) (body : Option ℕ) → LifeEventAt app c e class life body → life_event app c e ≡ Some (class, life, body)
   unfolding life_event
@@ -163,6 +167,7 @@ module _ (app : App) (lists : Lists) (sound : SoundApp app) where
 pub events_exact : (app : App) (lists : Lists) → SoundApp app → EventsAreExact app lists
 events_exact app lists sound = record {
   below = below_exact app lists sound;
+  class_below = class_below_exact app lists sound;
   life = λ c e class life body. (life_so app lists sound c e class life body, life_only app lists sound c e class life body);
   callback = λ c q sources body. (callback_so app lists sound c q sources body, callback_only app lists sound c q sources body);
   clicked = λ c i body. (click_so app lists sound c i body, click_only app lists sound c i body);

@@ -1,4 +1,5 @@
 pub mod Above
+pub mod ArrayRelation
 pub mod BelowRelation
 pub mod Classes
 pub mod Descriptors

@@ -19,8 +19,8 @@ pub use app_parts::{
     result_of, sink, source, static_named, stores, writes,
 };
 pub use lookups::{
-    CalledBack, ClassWalk, ComponentEvent, InitialiserWalk, act_initialisers, below, body_named,
-    callback, class_of, classes_upward, click, component_initialisers, event_rows,
-    events_are_exact, find_body, handed_callback, instance_key, is_application, is_initialiser,
-    life_event, next_class, next_initialiser, step_at, summary_of, target,
+    CalledBack, ClassWalk, ComponentEvent, InitialiserWalk, act_initialisers, array_below, below,
+    body_named, callback, class_below, class_of, classes_upward, click, component_initialisers,
+    event_rows, events_are_exact, find_body, handed_callback, instance_key, is_application,
+    is_initialiser, life_event, next_class, next_initialiser, step_at, summary_of, target,
 };

@@ -1,6 +1,7 @@
 //! The look-ups in a linked app and in the lists. They take no memory.
 
 mod above;
+mod arrays;
 mod class_walk;
 mod classes;
 mod descriptor;
@@ -16,7 +17,8 @@ mod steps;
 mod targets;
 mod upward;
 
-pub use above::below;
+pub use above::{below, class_below};
+pub use arrays::array_below;
 pub use class_walk::{ClassWalk, classes_upward, next_class};
 pub use classes::class_of;
 pub use events::{

@@ -17,9 +17,9 @@ use Rattle.app_machine.specs.declared.app.Class.{Class}
 use Rattle.app_machine.specs.declared.lists.Lists.{Lists}
 use Rattle.app_machine.specs.Lookups.{all_above, class_named, directly_above}
 use Rattle.app_machine.specs.Names.{Name, same_name, object_class}
-use Rattle.app_machine.specs.Summaries.{listed_above, Below}
-use Rattle.app_machine.specs.Summaries.Below.{is_same, is_object, is_through, is_listed}
-use Rattle.app_model.specs.Above.{has_below, is_among, is_below, is_listed_below}
+use Rattle.app_machine.specs.Summaries.{listed_above, ClassBelow}
+use Rattle.app_machine.specs.Summaries.ClassBelow.{is_same, is_object, is_through, is_listed}
+use Rattle.app_model.specs.Above.{has_below, is_among, is_class_below, is_listed_below}
 use Rattle.app_model.specs.EventLaws.{EventsAreExact}
 use Rattle.app_model.specs.Marks.{is_marked}
 use Rattle.event_index.specs.declared.keys.NameKey.{NameKey}
@@ -38,8 +38,8 @@ or_false false = refl
 
 module _ (app : App) (lists : Lists) where
   -- a class that is not of the app is below what the lists have above it
-  pub below_outside : (name type : Name) → class_named app name ≡ None → (type ≡ object_class → ⊥) → is_listed_below lists name type ≡ is_below app lists name type
-  unfolding is_below
+  pub below_outside : (name type : Name) → class_named app name ≡ None → (type ≡ object_class → ⊥) → is_listed_below lists name type ≡ is_class_below app lists name type
+  unfolding is_class_below
   below_outside name type outside other =
       let object : same_name type object_class ≡ false = false_from_ne_true (same_name type object_class) (λ same. other (same_equal type object_class same)) in
       or_false (is_listed_below lists name type)
@@ -47,23 +47,23 @@ module _ (app : App) (lists : Lists) where
       ∙ ap (λ b. b || (is_listed_below lists name type || list_any (λ (c : Class). has_below c lists type) (all_above app name))) (sym object))
 
   -- what the lists have above a class it is below
-  listed_is_below : (name type : Name) → is_listed_below lists name type ≡ true → is_below app lists name type ≡ true
-  unfolding is_below
+  listed_is_below : (name type : Name) → is_listed_below lists name type ≡ true → is_class_below app lists name type ≡ true
+  unfolding is_class_below
   listed_is_below name type is =
       or_right (same_name type object_class) (is_listed_below lists name type || list_any (λ (c : Class). has_below c lists type) (all_above app name))
       (or_left (is_listed_below lists name type) (list_any (λ (c : Class). has_below c lists type) (all_above app name)) is)
 
   module _ (events : EventsAreExact app lists) (class : Class) (there : class_named app class.name ≡ Some class) (type : Name) (other : type ≡ object_class → ⊥) where
-    below_if : (is_listed_below lists class.name type || any_below app lists (directly_above class) type) ≡ true → Below app lists class.name type
+    below_if : (is_listed_below lists class.name type || any_below app lists (directly_above class) type) ≡ true → ClassBelow app lists class.name type
     below_if holds = elim (or_cases (is_listed_below lists class.name type) (any_below app lists (directly_above class) type) holds) [
-      | inl here ↦ (events.below class.name type).0 (listed_is_below class.name type here)
-      | inr up ↦ let one = one_passes (λ above. is_below app lists above type) (directly_above class) up in is_through class there one.1 ((events.below one.0 type).0 one.2)
+      | inl here ↦ (events.class_below class.name type).0 (listed_is_below class.name type here)
+      | inr up ↦ let one = one_passes (λ above. is_class_below app lists above type) (directly_above class) up in is_through class there one.1 ((events.class_below one.0 type).0 one.2)
     ]
 
     here_is : is_listed_below lists class.name type ≡ true → (is_listed_below lists class.name type || any_below app lists (directly_above class) type) ≡ true
     here_is is = or_left (is_listed_below lists class.name type) (any_below app lists (directly_above class) type) is
 
-    below_only_if : (name : Name) → name ≡ class.name → Below app lists name type → (is_listed_below lists class.name type || any_below app lists (directly_above class) type) ≡ true
+    below_only_if : (name : Name) → name ≡ class.name → ClassBelow app lists name type → (is_listed_below lists class.name type || any_below app lists (directly_above class) type) ≡ true
     unfolding is_listed_below is_among
     below_only_if name same is_same =
         here_is (or_left (same_name class.name type) (is_among (listed_above lists class.name) type) (ap (λ n. same_name n type) (sym same) ∙ same_itself type))
@@ -71,19 +71,19 @@ module _ (app : App) (lists : Lists) where
     below_only_if name same (is_through {above} c at up rest) =
         let one : c ≡ class = same_Some c class (sym at ∙ (ap (class_named app) same ∙ there)) in
         or_right (is_listed_below lists class.name type) (any_below app lists (directly_above class) type)
-        (passes_if (λ a. is_below app lists a type) (directly_above class) above (subst (λ (d : Class). In above (directly_above d)) one up) ((events.below above type).1 rest))
+        (passes_if (λ a. is_class_below app lists a type) (directly_above class) above (subst (λ (d : Class). In above (directly_above d)) one up) ((events.class_below above type).1 rest))
     below_only_if name same (is_listed among) =
         here_is (or_right (same_name class.name type) (is_among (listed_above lists class.name) type)
         (passes_if (λ a. same_name a type) (listed_above lists class.name) type (subst (λ n. In type (listed_above lists n)) same among) (same_itself type)))
 
-    pub below_class : (is_listed_below lists class.name type || any_below app lists (directly_above class) type) ≡ is_below app lists class.name type
+    pub below_class : (is_listed_below lists class.name type || any_below app lists (directly_above class) type) ≡ is_class_below app lists class.name type
     below_class =
-        same_answers (is_listed_below lists class.name type || any_below app lists (directly_above class) type) (is_below app lists class.name type)
-        (below_if, λ below. below_only_if class.name refl below) (events.below class.name type)
+        same_answers (is_listed_below lists class.name type || any_below app lists (directly_above class) type) (is_class_below app lists class.name type)
+        (below_if, λ below. below_only_if class.name refl below) (events.class_below class.name type)
 
 module _ (app : App) (listed : Listed) where
   abbrev below : Name → Name → Bool
-  below name type = is_below app listed.lists.now name type
+  below name type = is_class_below app listed.lists.now name type
 
   pub adds_outside : (name : Name) (old new : List ℕ) → IsListed listed → class_named app name ≡ None → Adds listed.kinds old new (is_listed_below listed.lists.now name) →
       AddsIf listed.kinds old new (below name) true

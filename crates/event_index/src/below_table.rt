@@ -2,7 +2,7 @@
 ghost use Rattle.std.specs.Prelude.{◌≡◌, IfOk, None, Some, slice_get};
 ghost use Rattle.app_machine.specs.Lookups.{class_named};
 ghost use Rattle.app_machine.specs.Sound.{SoundApp};
-ghost use Rattle.app_model.specs.Above.{is_below};
+ghost use Rattle.app_model.specs.Above.{is_below, is_class_below};
 ghost use Rattle.event_index.specs.Kinds.{IsColumn};
 ghost use Rattle.event_index.specs.Settled.{IsBelowTable};
 
@@ -12,7 +12,7 @@ use crate::listed::Listed;
 use crate::names::number_of;
 use crate::settling::settled_rows;
 use app_machine::{App, Class, Lists};
-use app_model::{below, events_are_exact};
+use app_model::{array_below, class_below};
 use std::alloc::Global;
 use vet_base::{Memory, Name};
 
@@ -42,8 +42,47 @@ impl<'a> BelowTable<'a> {
         Ok(BelowTable { app, listed, rows })
     }
 
+    /// Whether the class of the app of this number is below the type as a class or interface. The
+    /// type is asked for so.
+    #[tactic(auto, using(crate::proofs::Asking::is_class_below_object, crate::proofs::Asking::is_class_below_by_row))]
+    fn is_numbered_below(&self, number: usize, class: &Class, column: Column, kind: &Name) -> bool
+        requires sound { SoundApp self.now.app.now }
+        requires table { IsBelowTable self.now }
+        requires there { slice_get self.now.app.now.classes number ≡ Some class.now }
+        requires column { IsColumn self.now.listed.kinds kind.now column }
+        ensures { result ≡ is_class_below self.now.app.now self.now.listed.lists.now class.now.name kind.now }
+    {
+        match column {
+            Column::Object => true,
+            Column::Number(column) => match self.rows.get(number) {
+                Some(Some(row)) => row.has(column),
+                _ => class_below(self.app, self.listed.lists, &class.name, kind),
+            },
+            Column::Unknown => class_below(self.app, self.listed.lists, &class.name, kind),
+        }
+    }
+
+    /// The same of a class that is not of the app.
+    #[tactic(auto, using(crate::proofs::Asking::is_class_below_object, crate::proofs::Asking::is_class_below_listed, crate::proofs::Asking::is_class_below_unlisted))]
+    fn is_outside_below(&self, class: &Name, column: Column, kind: &Name) -> bool
+        requires sound { SoundApp self.now.app.now }
+        requires table { IsBelowTable self.now }
+        requires outside { class_named self.now.app.now class.now ≡ None }
+        requires column { IsColumn self.now.listed.kinds kind.now column }
+        ensures { result ≡ is_class_below self.now.app.now self.now.listed.lists.now class.now kind.now }
+    {
+        match column {
+            Column::Object => true,
+            Column::Number(column) => match self.listed.row(class.as_bytes()) {
+                Some(row) => row.has(column),
+                None => class == kind,
+            },
+            Column::Unknown => class_below(self.app, self.listed.lists, class, kind),
+        }
+    }
+
     /// Whether the class of the app of this number is below the type, which is asked for so.
-    #[tactic(auto, using(crate::proofs::Asking::is_below_object, crate::proofs::Asking::is_below_by_row))]
+    #[tactic(auto, unfolding(app_model::specs::Above::is_below))]
     pub fn is_class_below(&self, number: usize, class: &Class, column: Column, kind: &Name) -> bool
         requires sound { SoundApp self.now.app.now }
         requires table { IsBelowTable self.now }
@@ -51,18 +90,12 @@ impl<'a> BelowTable<'a> {
         requires column { IsColumn self.now.listed.kinds kind.now column }
         ensures { result ≡ is_below self.now.app.now self.now.listed.lists.now class.now.name kind.now }
     {
-        match column {
-            Column::Object => true,
-            Column::Number(column) => match self.rows.get(number) {
-                Some(Some(row)) => row.has(column),
-                _ => below(self.app, self.listed.lists, &class.name, kind),
-            },
-            Column::Unknown => below(self.app, self.listed.lists, &class.name, kind),
-        }
+        self.is_numbered_below(number, class, column, kind)
+            || array_below(self.app, self.listed.lists, &class.name, kind)
     }
 
-    /// The same of a class that is not of the app.
-    #[tactic(auto, using(crate::proofs::Asking::is_below_object, crate::proofs::Asking::is_below_listed, crate::proofs::Asking::is_below_unlisted))]
+    /// The same of a class that is not of the app, and of an array.
+    #[tactic(auto, unfolding(app_model::specs::Above::is_below))]
     fn is_library_class_below(&self, class: &Name, column: Column, kind: &Name) -> bool
         requires sound { SoundApp self.now.app.now }
         requires table { IsBelowTable self.now }
@@ -70,15 +103,8 @@ impl<'a> BelowTable<'a> {
         requires column { IsColumn self.now.listed.kinds kind.now column }
         ensures { result ≡ is_below self.now.app.now self.now.listed.lists.now class.now kind.now }
     {
-        events_are_exact();
-        match column {
-            Column::Object => true,
-            Column::Number(column) => match self.listed.row(class.as_bytes()) {
-                Some(row) => row.has(column),
-                None => class == kind,
-            },
-            Column::Unknown => below(self.app, self.listed.lists, class, kind),
-        }
+        self.is_outside_below(class, column, kind)
+            || array_below(self.app, self.listed.lists, class, kind)
     }
 
     /// Whether a value of the class may stand where the type `kind` is asked for.

@@ -2,7 +2,7 @@
 ghost use Rattle.std.specs.Prelude.{◌≡◌, IfOk, IfSome, OnOk, Some, length};
 ghost use Rattle.app_machine.specs.Lookups.{class_named};
 ghost use Rattle.app_machine.specs.Sound.{SoundApp};
-ghost use Rattle.app_model.specs.Above.{is_below};
+ghost use Rattle.app_model.specs.Above.{is_class_below};
 ghost use Rattle.event_index.specs.Kinds.{Adds, HasKinds, word_count};
 ghost use Rattle.event_index.specs.Listed.{IsListed};
 ghost use Rattle.event_index.specs.Settled.{AddsIf, AreNone, AreSettled, any_below};
@@ -32,7 +32,7 @@ fn add_above(
     requires listed { IsListed listed.now }
     requires settled { AreSettled app.now listed.now rows.now }
     requires long { length row.now ≡ word_count listed.now.kinds.count }
-    ensures { AddsIf listed.now.kinds row.old row.new (is_below app.now listed.now.lists.now name.now) result }
+    ensures { AddsIf listed.now.kinds row.old row.new (is_class_below app.now listed.now.lists.now name.now) result }
 {
     match number_of(app, name) {
         None => {
@@ -87,7 +87,7 @@ fn fill(
     requires settled { AreSettled app.now listed.now rows.now }
     requires there { class_named app.now class.now.name ≡ Some class.now }
     requires long { length row.now ≡ word_count listed.now.kinds.count }
-    ensures { AddsIf listed.now.kinds row.old row.new (is_below app.now listed.now.lists.now class.now.name) result }
+    ensures { AddsIf listed.now.kinds row.old row.new (is_class_below app.now listed.now.lists.now class.now.name) result }
 {
     events_are_exact();
     listed.add(row, class.name.as_bytes());
@@ -111,7 +111,7 @@ fn row_of(
     requires settled { AreSettled app.now listed.now rows.now }
     requires there { class_named app.now class.now.name ≡ Some class.now }
     ensures { IfOk result (λ found. IfSome found (λ row. HasKinds listed.now.kinds row
-        (is_below app.now listed.now.lists.now class.now.name))) }
+        (is_class_below app.now listed.now.lists.now class.now.name))) }
 {
     let mut row = listed.kinds.row(alloc)?;
     if fill(app, listed, rows, &mut row, class) {

@@ -4,9 +4,9 @@ use Rattle.app_machine.specs.Events.{layout}
 use Rattle.app_machine.specs.LifeEvents.{life_events}
 use Rattle.app_machine.specs.Library.{positions}
 use Rattle.app_machine.specs.Lookups.{target, find_body, up, method_of, class_named, lists_bare, all_above, body_named, method_with, initialisers, class_initialised, initialisers_from, initialiser_of}
-use Rattle.app_machine.specs.Names.{descriptor_of, click_descriptor, initialiser_name, initialiser_proto, is_array, is_wide, object_class}
+use Rattle.app_machine.specs.Names.{descriptor_of, click_descriptor, initialiser_name, initialiser_proto, is_array, is_reference, array_types, is_wide, object_class}
 use Rattle.app_machine.specs.Summaries.{library_key, row_walk, library_classes, listed_above, listed_class, row_of, default_of}
-use Rattle.app_model.specs.Above.{is_below, is_among, is_listed_below, any_listed_below, has_below}
+use Rattle.app_model.specs.Above.{is_below, is_class_below, is_array_below, is_among, is_listed_below, any_listed_below, has_below}
 use Rattle.app_model.specs.EventBodies.{click, component_callback, handed_callback}
 use Rattle.lookup_witness.specs.Shapes.{shapes}
 use Rattle.lookup_witness.specs.AppFacts.{AppIsLookedUp, callback_lists, event_lists}
@@ -16,7 +16,7 @@ use Rattle.lookup_witness.proofs.Linking.{links}
 use Rattle.lookup_witness.proofs.Sound.{sound_events, sound_lists, sound_shapes}
 
 pub app_is_looked_up : AppIsLookedUp
-unfolding shapes callback_lists event_lists target find_body up method_of class_named lists_bare all_above body_named method_with initialisers class_initialised initialisers_from initialiser_of descriptor_of click_descriptor initialiser_name initialiser_proto object_class listed_above listed_class is_below is_among is_listed_below any_listed_below has_below click component_callback handed_callback life_events
+unfolding shapes callback_lists event_lists target find_body up method_of class_named lists_bare all_above body_named method_with initialisers class_initialised initialisers_from initialiser_of descriptor_of click_descriptor initialiser_name initialiser_proto is_reference array_types object_class listed_above listed_class is_below is_class_below is_array_below is_among is_listed_below any_listed_below has_below click component_callback handed_callback life_events
 app_is_looked_up = (
   record {
     sound = sound_shapes;
@@ -30,7 +30,7 @@ app_is_looked_up = (
     by_interface = refl;
     from_above = refl;
   },
-  record { sound = sound_events; by_called_interface = refl; array_itself = refl; last_called = refl },
+  record { sound = sound_events; by_called_interface = refl; array_itself = refl; array_of_children = refl; array_of_numbers = refl; last_called = refl },
   links,
 )
 

@@ -1,12 +1,12 @@
 -- What look-ups find in the small app. Behind each fact stands what code would answer that does otherwise.
-use Rattle.std.specs.Prelude.{◌≡◌, true, [], ◌∷◌, Some, None, slice_get, codes}
+use Rattle.std.specs.Prelude.{◌≡◌, true, false, [], ◌∷◌, Some, None, slice_get, codes}
 use Rattle.app_machine.specs.declared.call.CallKind.TheVariants.{Virtual}
 use Rattle.app_machine.specs.declared.component.Kind.TheVariants.{Activity}
 use Rattle.app_machine.specs.declared.method.Act.TheVariants.{New}
 use Rattle.app_machine.specs.declared.lists.Lists.{Lists}
 use Rattle.app_machine.specs.LifeEvents.{life_events}
 use Rattle.app_machine.specs.Lookups.{Nothing, target, find_body, body_named, initialisers}
-use Rattle.app_machine.specs.Names.{Name}
+use Rattle.app_machine.specs.Names.{Name, array_of, object_class}
 use Rattle.app_machine.specs.Sound.{SoundApp}
 use Rattle.app_machine.specs.SoundLists.{SoundLists}
 use Rattle.app_model.specs.Above.{is_below}
@@ -72,6 +72,10 @@ pub record LooksUpEvents : Type 0 where
   pub by_called_interface : is_below shapes event_lists child_class outer_interface ≡ true
   -- an array is below the type of a callback's parameter, which it is; where arrays are below nothing it is false
   pub array_itself : is_below shapes event_lists numbers numbers ≡ true
+  -- an array of children is below one of the interface, since a child is; where arrays are asked for by name alone it is false
+  pub array_of_children : is_below shapes event_lists (array_of child_class) (array_of outer_interface) ≡ true
+  -- an array of numbers is below no array of objects, since a number is no object; without a look at the elements' kind it is true
+  pub array_of_numbers : is_below shapes event_lists numbers (array_of object_class) ≡ false
   -- the last callback row comes to the activity; without that row it gives None
   pub last_called : component_callback shapes event_lists 0 1 ≡ Some ([], 2)
 

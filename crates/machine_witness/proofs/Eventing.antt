@@ -10,7 +10,7 @@ use Rattle.app_machine.specs.declared.component.Kind.TheVariants.{Application, A
 use Rattle.app_machine.specs.declared.lists.SummaryId.TheVariants.{Row}
 use Rattle.app_machine.specs.Names.{descriptor_of, click_descriptor, is_reference, is_wide, is_array}
 use Rattle.app_machine.specs.Lookups.{HasCode, elem_key, step_at, target, find_body, method_of, method_with, body_named, class_named, up, is_by_receiver}
-use Rattle.app_machine.specs.Summaries.{Below, is_same, is_through, library_key, summary, row_walk, library_classes, listed_above, listed_class, row_of}
+use Rattle.app_machine.specs.Summaries.{Below, is_same, is_through, of_class, library_key, summary, row_walk, library_classes, listed_above, listed_class, row_of}
 use Rattle.app_machine.specs.Heap.{Value, Object, blank, entry_of}
 use Rattle.app_machine.specs.State.{World, entered, object_at, new_object}
 use Rattle.app_machine.specs.Calls.{by_name}
@@ -53,7 +53,7 @@ number_code = record { there = refl; code = refl }
 
 number_comes : CallbackAt (activity_of by_callback) box_lists 0 0 ((1, 0) ∷ []) 1
 unfolding activity_of box_lists class_named find_body method_of up
-number_comes = record { component = record { kind = Activity; class = main_class }; callback = callback_of on_number ((1, 0) ∷ []); there = record { there = refl }; is_row = record { there = refl }; same_sources = refl; is_below = is_through one_class refl (inl refl) is_same; is_body = refl }
+number_comes = record { component = record { kind = Activity; class = main_class }; callback = callback_of on_number ((1, 0) ∷ []); there = record { there = refl }; is_row = record { there = refl }; same_sources = refl; is_below = of_class (is_through one_class refl (inl refl) is_same); is_body = refl }
 
 callback : ArrivesAt (activity_of by_callback) 1 0
 unfolding activity_of step_at body_named method_with up layout is_wide
@@ -84,7 +84,7 @@ told_code = record { there = refl; code = refl }
 
 told_comes : CallbackAt (activity_of by_fresh_parameter) box_lists 0 1 ((1, 0) ∷ []) 1
 unfolding activity_of box_lists class_named find_body method_of up
-told_comes = record { component = record { kind = Activity; class = main_class }; callback = callback_of on_told ((1, 0) ∷ []); there = record { there = refl }; is_row = record { there = refl }; same_sources = refl; is_below = is_through one_class refl (inl refl) is_same; is_body = refl }
+told_comes = record { component = record { kind = Activity; class = main_class }; callback = callback_of on_told ((1, 0) ∷ []); there = record { there = refl }; is_row = record { there = refl }; same_sources = refl; is_below = of_class (is_through one_class refl (inl refl) is_same); is_body = refl }
 
 box_is_reference : IsTrue (is_reference box_class)
 unfolding is_reference
@@ -103,11 +103,11 @@ given_code = record { there = refl; code = refl }
 
 given_comes : CallbackAt (activity_of by_handed_parameter) box_lists 0 2 [] 1
 unfolding activity_of box_lists class_named find_body method_of up
-given_comes = record { component = record { kind = Activity; class = main_class }; callback = callback_of on_given []; there = record { there = refl }; is_row = record { there = refl }; same_sources = refl; is_below = is_through one_class refl (inl refl) is_same; is_body = refl }
+given_comes = record { component = record { kind = Activity; class = main_class }; callback = callback_of on_given []; there = record { there = refl }; is_row = record { there = refl }; same_sources = refl; is_below = of_class (is_through one_class refl (inl refl) is_same); is_body = refl }
 
 own_is_box : Below (activity_of by_handed_parameter) box_lists own_box box_class
 unfolding activity_of class_named
-own_is_box = is_through own_box_class refl (inl refl) is_same
+own_is_box = of_class (is_through own_box_class refl (inl refl) is_same)
 
 handed_parameter : ArrivesAt (activity_of by_handed_parameter) 1 1
 unfolding activity_of step_at body_named method_with up layout is_wide

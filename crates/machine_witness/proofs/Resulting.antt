@@ -1,15 +1,16 @@
--- Library calls by the kind of their result.
-use Rattle.std.proofs.Common.{◌≡◌, ℕ, zero, suc, List, [], ◌∷◌, ◌⊎◌, ◌↔◌, inl, inr, false, Option, Some, None, refl, ap, sym, ◌∙◌, subst}
-use Rattle.std.specs.Prelude.{length, ◌++◌}
+-- Library calls by the kind of their result, and where a class stands below a type.
+use Rattle.std.proofs.Common.{◌≡◌, ℕ, zero, suc, List, [], ◌∷◌, ◌⊎◌, ◌↔◌, inl, inr, true, false, Option, Some, None, refl, ap, sym, ◌∙◌, subst}
+use Rattle.std.specs.Prelude.{length, ◌++◌, codes, IsTrue}
+use Rattle.app_machine.specs.declared.app.Class.{Class}
 use Rattle.app_machine.specs.declared.call.CallKind.TheVariants.{Static, Virtual}
 use Rattle.app_machine.specs.declared.method.Act.TheVariants.{Call}
 use Rattle.app_machine.specs.declared.summary.Gives.TheVariants as gives
 use Rattle.app_machine.specs.declared.lists.SummaryId.TheVariants.{Row}
 use Rattle.app_machine.specs.declared.summary.Summary.{Summary}
 use Rattle.vet_base.specs.Members.{In, IsAt}
-use Rattle.app_machine.specs.Names.{is_void, is_reference, is_wide, is_array, object_class}
+use Rattle.app_machine.specs.Names.{Name, same_name, is_void, is_reference, is_wide, is_array, array_types, object_class}
 use Rattle.app_machine.specs.Lookups.{step_at, target, find_body, up, method_of, class_named, is_by_receiver, lists_bare, all_above}
-use Rattle.app_machine.specs.Summaries.{library_key, summary, row_walk, library_classes, listed_above, listed_class, row_of, is_same, is_object, is_through, is_listed}
+use Rattle.app_machine.specs.Summaries.{library_key, summary, row_walk, library_classes, listed_above, listed_class, row_of, ClassBelow, Below, is_same, is_object, is_through, is_listed, of_class, of_array, of_elements}
 use Rattle.app_machine.specs.Heap.{Object, blank}
 use Rattle.app_machine.specs.State.{World, Frame}
 use Rattle.app_machine.specs.Calls.{by_name, by_nothing, hand}
@@ -22,6 +23,7 @@ use Rattle.machine_witness.specs.Results.{gives_blank, gives_same, gives_box, on
 use Rattle.machine_witness.proofs.Acting.{act_of, next_of}
 use Rattle.machine_witness.proofs.Flowing.{same_arrivals, no_adds}
 use Rattle.std.proofs.lemmas.Option.{none-some}
+use Rattle.vet_base.proofs.Texts.{same_itself}
 
 abbrev same_row : Summary
 same_row = record (row_of_method gives_same) { gives = gives.Same 0 }
@@ -158,11 +160,55 @@ each_result_comes w r = record {
   on_nothing = λ none fs. calls_library (act_of (step 3 (Call Virtual on_receiver (1 ∷ [])) (4 ∷ [])) refl) (next_of (step 3 (Call Virtual on_receiver (1 ∷ [])) (4 ∷ [])) refl (inl refl)) (receiver_used w.heap (frame_at 3 r) none) (subst (λ places. Library_call results_app results_lists w (frame_at 3 r) places on_receiver.proto.ret receiver_row w blank) (sym one_position_receiver) (call_on_nothing w (frame_at 3 r) none));
 }
 
+differ : (a b : Name) → same_name a b ≡ false → a ≡ b → ⊥
+differ a b other same = let is : same_name a b ≡ true = subst (λ x. same_name a x ≡ true) same (same_itself a) in absurd cc
+
+-- An array of numbers is no class of the app and none of the lists, and its elements are no objects.
+no_above : (above : Class) → class_named results_app (codes "[I") ≡ Some above → ⊥
+unfolding results_app class_named
+no_above above there = none-some above there
+
+no_listed : (type : Name) → In type (listed_above results_lists (codes "[I")) → ⊥
+unfolding results_lists listed_above listed_class
+no_listed type among = among
+
+no_object : (type : Name) → type ≡ codes "[Ljava/lang/Object;" → type ≡ object_class → ⊥
+unfolding object_class
+no_object type t object = differ (codes "[Ljava/lang/Object;") (codes "Ljava/lang/Object;") refl (sym t ∙ object)
+
+no_class : (class type : Name) → class ≡ codes "[I" → type ≡ codes "[Ljava/lang/Object;" → ClassBelow results_app results_lists class type → ⊥
+no_class class type c t is_same = differ (codes "[I") (codes "[Ljava/lang/Object;") refl (sym c ∙ t)
+no_class class type c t (is_object object) = no_object type t object
+no_class class type c t (is_through above there at rest) = no_above above (ap (class_named results_app) (sym c) ∙ there)
+no_class class type c t (is_listed among) = no_listed type (subst (λ x. In type (listed_above results_lists x)) c among)
+
+no_type : (type : Name) → type ≡ codes "[Ljava/lang/Object;" → In type array_types → ⊥
+unfolding array_types
+no_type type t (inl same) = differ (codes "[Ljava/lang/Object;") (codes "Ljava/lang/Cloneable;") refl (sym t ∙ same)
+no_type type t (inr (inl same)) = differ (codes "[Ljava/lang/Object;") (codes "Ljava/io/Serializable;") refl (sym t ∙ same)
+no_type type t (inr (inr none)) = none
+
+no_reference : (element : Name) → element ≡ codes "I" → IsTrue (is_reference element) → ⊥
+unfolding is_reference
+no_reference element number reference = let is : is_reference (codes "I") ≡ true = subst (λ x. is_reference x ≡ true) number reference in absurd cc
+
+abbrev behind : Name → Name
+behind [] = []
+behind (byte ∷ bytes) = bytes
+
+numbers_alone : (class type : Name) → class ≡ codes "[I" → type ≡ codes "[Ljava/lang/Object;" → Below results_app results_lists class type → ⊥
+numbers_alone class type c t (of_class below) = no_class class type c t below
+numbers_alone class type c t (of_array array among) = no_type type t among
+numbers_alone class type c t (of_elements {class = element} reference below) = no_reference element (ap behind c) reference
+
 pub classes_stand_below : ClassesStandBelow
-unfolding results_app results_lists class_named listed_above listed_class object_class
+unfolding results_app results_lists class_named listed_above listed_class object_class is_array is_reference array_types
 classes_stand_below = record {
-  itself = is_same;
-  object = is_object refl;
-  superclass = is_through one_class refl (inl refl) is_same;
-  listed = is_listed (inr (inl refl));
+  itself = of_class is_same;
+  object = of_class (is_object refl);
+  superclass = of_class (is_through one_class refl (inl refl) is_same);
+  listed = of_class (is_listed (inr (inl refl)));
+  array = of_array refl (inl refl);
+  elements = of_elements refl (of_elements refl (of_class (is_listed (inr (inl refl)))));
+  no_numbers = numbers_alone (codes "[I") (codes "[Ljava/lang/Object;") refl refl;
 }

@@ -7,7 +7,7 @@ use Rattle.app_machine.specs.declared.app.Key.TheVariants.{Elem}
 use Rattle.app_machine.specs.declared.app.App.{App}
 use Rattle.app_machine.specs.declared.summary.Gives.TheVariants as gives
 use Rattle.app_machine.specs.declared.lists.Lists.{Lists}
-use Rattle.app_machine.specs.Names.{Name}
+use Rattle.app_machine.specs.Names.{Name, array_of}
 use Rattle.app_machine.specs.Lookups.{elem_key}
 use Rattle.app_machine.specs.Summaries.{Below}
 use Rattle.app_machine.specs.Heap.{Value, blank, labelled}
@@ -90,12 +90,16 @@ pub record ResultsCome (w : World) (r : ℕ → Value) : Type 0 where
 abbrev pub EachResultComes : Type 0
 EachResultComes = (w : World) (r : ℕ → Value) → ResultsCome w r
 
--- a class is below itself, below `Object`, below what stands above it in the app, and below what the lists have above it
+-- a class is below itself, below `Object`, below what stands above it in the app, and below what the lists have above it; an
+-- array is below `Cloneable`, and below an array of what its elements are below, but no array of numbers below one of objects
 pub record StandsBelow : Type 0 where
   pub itself : Below results_app results_lists main_class main_class
   pub object : Below results_app results_lists main_class (codes "Ljava/lang/Object;")
   pub superclass : Below results_app results_lists main_class activity_class
   pub listed : Below results_app results_lists small_box box_class
+  pub array : Below results_app results_lists (array_of main_class) (codes "Ljava/lang/Cloneable;")
+  pub elements : Below results_app results_lists (array_of (array_of small_box)) (array_of (array_of box_class))
+  pub no_numbers : Below results_app results_lists (codes "[I") (codes "[Ljava/lang/Object;") → ⊥
 
 abbrev pub ClassesStandBelow : Type 0
 ClassesStandBelow = StandsBelow

@@ -138,7 +138,8 @@ pub fn each_result_of_the_library_comes()
     ensures { EachResultComes }
 {}
 
-/// A class is below itself, `Object`, what it extends and what the lists have above it.
+/// A class is below itself, `Object`, what it extends and what the lists have above it; an array is
+/// below `Cloneable` and below an array of what its elements are below, where they are no numbers.
 pub fn classes_stand_below_their_types()
     ensures { ClassesStandBelow }
 {}

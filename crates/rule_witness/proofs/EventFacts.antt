@@ -8,7 +8,7 @@ use Rattle.app_machine.specs.declared.component.Kind.TheVariants.{Application, A
 use Rattle.vet_base.specs.Members.{IsAt}
 use Rattle.app_machine.specs.Names.{descriptor_of, click_descriptor, is_reference, is_wide, initialiser_name, initialiser_proto}
 use Rattle.app_machine.specs.Lookups.{HasCode, IsNative, body_named, method_with, find_body, method_of, up, class_named, initialisers_from, initialiser_of}
-use Rattle.app_machine.specs.Summaries.{is_same, is_through}
+use Rattle.app_machine.specs.Summaries.{is_same, is_through, of_class}
 use Rattle.app_machine.specs.LifeEvents.{LifeEvent, life_events}
 use Rattle.app_machine.specs.Events.{IsApplication, LifeEventAt, CallbackAt, ClickAt, HandedAt, InitialiserAt, layout}
 use Rattle.fact_rows.specs.Contexts.{event_types}
@@ -44,11 +44,11 @@ sources = (0, 1) ∷ (1, 0) ∷ []
 
 callback_at : CallbackAt events_app events_lists 1 0 sources 2
 unfolding events_app events_lists class_named find_body method_of up
-callback_at = record { component = record { kind = Activity; class = main_class }; callback = _; there = record { there = refl }; is_row = record { there = refl }; same_sources = refl; is_below = is_through activity refl (inl refl) is_same; is_body = refl }
+callback_at = record { component = record { kind = Activity; class = main_class }; callback = _; there = record { there = refl }; is_row = record { there = refl }; same_sources = refl; is_below = of_class (is_through activity refl (inl refl) is_same); is_body = refl }
 
 handed_at : HandedAt events_app events_lists 0 main_class sources 2
 unfolding events_app events_lists class_named find_body method_of up
-handed_at = record { callback = _; is_row = record { there = refl }; same_sources = refl; is_below = is_through activity refl (inl refl) is_same; is_body = refl }
+handed_at = record { callback = _; is_row = record { there = refl }; same_sources = refl; is_below = of_class (is_through activity refl (inl refl) is_same); is_body = refl }
 
 click_at : ClickAt events_app 1 0 4
 unfolding events_app body_named method_with up descriptor_of click_descriptor
@@ -150,8 +150,8 @@ event_rules_hold p l = record {
   handed_receiver = by_event (handed_receiver activity_site handed_at box_receiver);
   handed_receiver_label = by_event (handed_receiver_taint activity_site handed_at box_receiver);
   initialiser_begins = by_event (initialiser_begins initialiser_at (begin_reached has_initialiser));
-  comes_back = by_event (handed_parameter tt create_parameter create_type bundle_site is_same);
-  comes_back_labelled = by_event (handed_parameter_taint tt create_parameter create_type bundle_site is_same);
+  comes_back = by_event (handed_parameter tt create_parameter create_type bundle_site (of_class is_same));
+  comes_back_labelled = by_event (handed_parameter_taint tt create_parameter create_type bundle_site (of_class is_same));
   result_handed = by_event (exit_handed tt);
   result_handed_labelled = by_event (exit_handed_taint tt);
   application_starts = the_application the_application_object;

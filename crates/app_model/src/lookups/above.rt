@@ -5,8 +5,9 @@ ghost use Rattle.app_model.specs.Marks.{is_marked};
 ghost use Rattle.app_model.specs.Met.{Adds};
 ghost use Rattle.app_machine.specs.Sound.{SoundApp};
 ghost use Rattle.app_machine.specs.Summaries.{Below};
-ghost use Rattle.app_model.specs.Above.{has, any_listed_below, has_bare, has_below, is_below};
+ghost use Rattle.app_model.specs.Above.{has, any_listed_below, has_bare, has_below, is_below, is_class_below};
 
+use crate::lookups::arrays::array_below;
 use crate::lookups::classes::{class_of, number_of};
 use crate::lookups::equality::is_same_proto;
 use crate::lookups::library::{is_listed_below, object_name};
@@ -23,21 +24,38 @@ pub(super) enum Quality<'a> {
     Below(&'a Lists, &'a [u8]),
 }
 
-/// Whether a value of the class may stand where the type `kind` is asked for: they are equal,
-/// `kind` is `Ljava/lang/Object;`, a class or interface directly above the app class `class` is
-/// below `kind`, or the lists have `kind` above `class`.
+/// Whether a value of the class may stand where the type `kind` is asked for: as a class or
+/// interface, or as an array.
 pub fn below(app: &App, lists: &Lists, class: &Name, kind: &Name) -> bool
     requires { SoundApp app.now }
     ensures same { result ≡ is_below app.now lists.now class.now kind.now }
     ensures exact { IsTrue result ↔ Below app.now lists.now class.now kind.now }
 {
-    is_below(app, lists, class.as_bytes(), kind.as_bytes())
+    is_below(app, lists, class, kind)
 }
 
 #[tactic(auto, unfolding(crate::specs::Above::is_below))]
-fn is_below(app: &App, lists: &Lists, class: &[u8], kind: &[u8]) -> bool
+fn is_below(app: &App, lists: &Lists, class: &Name, kind: &Name) -> bool
     requires { SoundApp app.now }
     ensures { result ≡ is_below app.now lists.now class.now kind.now }
+{
+    class_below(app, lists, class, kind) || array_below(app, lists, class, kind)
+}
+
+/// Whether the class or interface is below the type `kind`: they are equal, `kind` is
+/// `Ljava/lang/Object;`, a class or interface directly above the app class `class` is below `kind`,
+/// or the lists have `kind` above `class`.
+pub fn class_below(app: &App, lists: &Lists, class: &Name, kind: &Name) -> bool
+    requires { SoundApp app.now }
+    ensures { result ≡ is_class_below app.now lists.now class.now kind.now }
+{
+    is_class_below(app, lists, class.as_bytes(), kind.as_bytes())
+}
+
+#[tactic(auto, unfolding(crate::specs::Above::is_class_below))]
+pub(super) fn is_class_below(app: &App, lists: &Lists, class: &[u8], kind: &[u8]) -> bool
+    requires { SoundApp app.now }
+    ensures { result ≡ is_class_below app.now lists.now class.now kind.now }
 {
     kind == object_name()
         || is_listed_below(lists, class, kind)

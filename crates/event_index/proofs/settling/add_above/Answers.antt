@@ -1,5 +1,5 @@
 use Rattle.std.proofs.Common.{ap, refl, ◌∙◌, Some}
-use Rattle.app_model.specs.Above.{is_below}
+use Rattle.app_model.specs.Above.{is_class_below}
 use Rattle.event_index.proofs.AboveRows.{adds_not, adds_outside, adds_settled}
 use Rattle.event_index.proofs.Pushed.{item_there}
 use Rattle.event_index.proofs.settling.add_above.Goals as goal
@@ -16,7 +16,7 @@ returns-in-Some-Some c =
     c.join.ensures.long c.join.ensures.marks
 
 pub returns-in_default : goal.returns-in_default
-returns-in_default c = adds_not c.args.app.now c.args.listed.now (is_below c.args.app.now c.args.listed.now.lists.now c.args.name.now) c.args.row.now c.args.row.now c.args.row.now refl refl
+returns-in_default c = adds_not c.args.app.now c.args.listed.now (is_class_below c.args.app.now c.args.listed.now.lists.now c.args.name.now) c.args.row.now c.args.row.now c.args.row.now refl refl
 
 pub returns-in_default-2 : goal.returns-in_default-2
-returns-in_default-2 c = adds_not c.args.app.now c.args.listed.now (is_below c.args.app.now c.args.listed.now.lists.now c.args.name.now) c.args.row.now c.args.row.now c.args.row.now refl refl
+returns-in_default-2 c = adds_not c.args.app.now c.args.listed.now (is_class_below c.args.app.now c.args.listed.now.lists.now c.args.name.now) c.args.row.now c.args.row.now c.args.row.now refl refl
