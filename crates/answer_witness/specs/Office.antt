@@ -41,7 +41,7 @@ service = record { kind = Service; class = worker_class }
 
 -- the one method makes an object at 0, and ends at 2
 abbrev pub makes : Step
-makes = record { pc = 0; act = New 0 worker_class; next = 2 ∷ []; catches = [] }
+makes = record { pc = 0; act = New 0 worker_class None; next = 2 ∷ []; catches = [] }
 
 abbrev pub ends : Step
 ends = record { pc = 2; act = Return None; next = []; catches = [] }

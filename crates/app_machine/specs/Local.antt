@@ -1,6 +1,6 @@
 -- Steps of the running frame within its method.
 -- Android documentation, Dalvik bytecode: "Summary of bytecode set".
-use Rattle.std.specs.Prelude.{◌≡◌, ◌==◌, ◌↔◌, ℕ, Bool, false, List, [], ◌∷◌, ◌++◌, length, Some}
+use Rattle.std.specs.Prelude.{◌≡◌, ◌==◌, ◌↔◌, ℕ, Bool, false, List, [], ◌∷◌, ◌++◌, length, Option, Some, option_to_list}
 use Rattle.vet_base.specs.declared.key_id.KeyId.{KeyId}
 use Rattle.app_machine.specs.declared.app.App.{App}
 use Rattle.app_machine.specs.declared.method.Act.{Act}
@@ -24,7 +24,7 @@ abbrev pub writes : Act → ℕ → Bool
 writes (Join ds xs) r = holds ds r
 writes (Move ds x) r = holds ds r
 writes (Blank ds) r = holds ds r
-writes (New d class) r = r == d
+writes (New d class size) r = r == d
 writes (Fill xs class) r = r == result_register
 writes (Get ds o k) r = holds ds r
 writes (GetStatic ds g) r = holds ds r
@@ -48,8 +48,9 @@ pub data Local (app : App) : World → Frame → World → Frame → Type 0 wher
       Local app w f w (record f { pc = pc; registers = write f.registers d (f.registers exception_register) })
   joins : {w : World} {f : Frame} {pc : ℕ} {ds xs : List ℕ} (labels : List ℕ) → ActAt app f.method f.pc (Join ds xs) → Goes app f.method f.pc pc → AreOwnLabels f xs labels →
       Local app w f w (record f { pc = pc; registers = write_all f.registers ds (labelled labels) })
-  makes : {w : World} {f : Frame} {pc d : ℕ} {class : Name} → ActAt app f.method f.pc (New d class) → Goes app f.method f.pc pc →
-      Local app w f (record w { heap = w.heap ++ new_object class ∷ [] }) (record f { pc = pc; registers = write f.registers d (object_at (Some (length w.heap))) })
+  -- the reference to an array has the own labels of its size
+  makes : {w : World} {f : Frame} {pc d : ℕ} {class : Name} {size : Option ℕ} (labels : List ℕ) → ActAt app f.method f.pc (New d class size) → Goes app f.method f.pc pc → AreOwnLabels f (option_to_list size) labels →
+      Local app w f (record w { heap = w.heap ++ new_object class ∷ [] }) (record f { pc = pc; registers = write f.registers d (record { place = Some (length w.heap); labels = labels }) })
   fills : {w : World} {f : Frame} {pc : ℕ} {xs : List ℕ} {class : Name} (entries : List (KeyId × Value)) → ActAt app f.method f.pc (Fill xs class) → Goes app f.method f.pc pc → AreElements f xs entries →
       Local app w f (record w { heap = w.heap ++ record { class = class; entries = entries } ∷ [] }) (record f { pc = pc; registers = write f.registers result_register (object_at (Some (length w.heap))) })
   gets : {w : World} {f : Frame} {pc o : ℕ} {ds : List ℕ} {k : KeyId} {v : Value} → ActAt app f.method f.pc (Get ds o k) → Goes app f.method f.pc pc → Gets w.heap (f.registers o) k v →

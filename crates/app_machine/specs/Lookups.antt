@@ -144,7 +144,7 @@ abbrev pub class_of_static : App → ℕ → Option Name
 class_of_static app g = option_map (λ (field : Name × Name × Name). field.0) (slice_get app.statics g)
 
 unfoldable pub class_initialised : App → Act → Option Name
-class_initialised app (New d class) = Some class
+class_initialised app (New d class size) = Some class
 class_initialised app (GetStatic ds g) = class_of_static app g
 class_initialised app (PutStatic g x) = class_of_static app g
 class_initialised app (Call Static at args) = Some at.class

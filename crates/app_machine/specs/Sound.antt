@@ -52,7 +52,7 @@ abbrev pub registers_of : Act → List ℕ
 registers_of (Join ds xs) = ds ++ xs
 registers_of (Move ds x) = x ∷ ds
 registers_of (Blank ds) = ds
-registers_of (New d class) = d ∷ []
+registers_of (New d class size) = d ∷ option_to_list size
 registers_of (Fill xs class) = xs
 registers_of (Get ds o k) = o ∷ ds
 registers_of (Put o k x) = o ∷ x ∷ []

@@ -13,8 +13,8 @@ pub enum Act {
     Move(Seq<u32>, u32),
     /// Destinations, which get a blank.
     Blank(Seq<u32>),
-    /// Destination, class of the new object.
-    New(u32, Name),
+    /// Destination, class of the new object, register of the size where it is an array.
+    New(u32, Name, Option<u32>),
     /// Elements, class of the new array. The array is the result.
     Fill(Seq<u32>, Name),
     /// Destinations, object, key.

@@ -23,7 +23,7 @@ pub fn writes(act: &Act, register: u32) -> bool
         | Act::Get(to, _, _)
         | Act::GetStatic(to, _)
         | Act::TakeResult(to) => holds(to.as_slice(), register),
-        Act::New(to, _) | Act::TakeException(to) => register == *to,
+        Act::New(to, _, _) | Act::TakeException(to) => register == *to,
         Act::Fill(_, _) | Act::Call(_, _, _) => register == RESULT,
         _ => false,
     }
@@ -45,7 +45,8 @@ pub fn names_register(act: &Act, register: u32) -> bool
         | Act::Call(_, _, all)
         | Act::TakeResult(all) => holds(all.as_slice(), register),
         Act::Put(object, _, from) => register == *object || register == *from,
-        Act::New(one, _)
+        Act::New(to, _, Some(size)) => register == *to || register == *size,
+        Act::New(one, _, None)
         | Act::PutStatic(_, one)
         | Act::Throw(one)
         | Act::TakeException(one)
@@ -87,7 +88,7 @@ pub fn class_initialised<'a>(app: &'a App, act: &'a Act) -> Option<&'a Name>
     ensures { option_copied result ≡ class_initialised app.now act.now }
 {
     match act {
-        Act::New(_, class) => Some(class),
+        Act::New(_, class, _) => Some(class),
         Act::GetStatic(_, number) | Act::PutStatic(number, _) => class_of_static(app, *number),
         Act::Call(CallKind::Static, at, _) => Some(&at.class),
         _ => None,

@@ -92,7 +92,7 @@ module _ (app : App) where
 
   entered : (a : Act) (method pc : ℕ) → enters a ≡ true → ActAt app method pc a → EntersAt app method pc
   entered (act.Call kind at args) method pc h there = at_call there
-  entered (act.New d class) method pc h there = at_new there
+  entered (act.New d class size) method pc h there = at_new there
   entered (act.GetStatic ds g) method pc h there = at_get there
   entered (act.PutStatic g x) method pc h there = at_put there
   entered _ method pc h there = absurd cc
@@ -107,7 +107,7 @@ module _ (app : App) where
   enters_from method pc (at_put at) = step_from enters at refl
 
   made : (a : Act) (method pc : ℕ) → makes a ≡ true → ActAt app method pc a → MakesAt app method pc
-  made (act.New d class) method pc h there = by_new there
+  made (act.New d class size) method pc h there = by_new there
   made (act.Fill xs class) method pc h there = by_fill there
   made (act.Call kind at args) method pc h there = by_call there h
   made _ method pc h there = absurd cc

@@ -41,14 +41,14 @@ step_tells test (Some step) = test step.act
 -- a method is entered at the act or before it
 abbrev pub enters : Act → Bool
 enters (act.Call kind at args) = true
-enters (act.New d class) = true
+enters (act.New d class size) = true
 enters (act.GetStatic ds g) = true
 enters (act.PutStatic g x) = true
 enters _ = false
 
 -- the act makes an object
 abbrev pub makes : Act → Bool
-makes (act.New d class) = true
+makes (act.New d class size) = true
 makes (act.Fill xs class) = true
 makes (act.Call kind at args) = is_reference at.proto.ret
 makes _ = false

@@ -14,7 +14,7 @@ fn makes(act: &Act) -> bool
     ensures { result ≡ makes act.now }
 {
     match act {
-        Act::New(_, _) | Act::Fill(_, _) => true,
+        Act::New(_, _, _) | Act::Fill(_, _) => true,
         Act::Call(_, at, _) => is_reference(&at.proto.ret),
         _ => false,
     }

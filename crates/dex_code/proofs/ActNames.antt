@@ -51,15 +51,15 @@ module _ (wide : Bool) (r : ℕ × ℕ × ℕ) (n : ℕ) where
   static_call kinds.StaticGet g = tt
   static_call kind g = tt
 
-  class_key : (kind : Kind) (elements class : List ℕ) → AllBelow n (keys_of (class_act kind r.0 elements class))
+  class_key : (kind : Kind) (elements class : List ℕ) → AllBelow n (keys_of (class_act kind r elements class))
   class_key kinds.NewInstance elements class = tt
   class_key kind elements class = tt
 
-  class_static : (kind : Kind) (elements class : List ℕ) → AllBelow n (statics_of (class_act kind r.0 elements class))
+  class_static : (kind : Kind) (elements class : List ℕ) → AllBelow n (statics_of (class_act kind r elements class))
   class_static kinds.NewInstance elements class = tt
   class_static kind elements class = tt
 
-  class_call : (kind : Kind) (elements class : List ℕ) → TakesItsRegisters (class_act kind r.0 elements class)
+  class_call : (kind : Kind) (elements class : List ℕ) → TakesItsRegisters (class_act kind r elements class)
   class_call kinds.NewInstance elements class = tt
   class_call kind elements class = tt
 

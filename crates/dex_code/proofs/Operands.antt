@@ -37,7 +37,7 @@ needed kinds.Const = 1
 needed kinds.InstanceOf = 1
 needed kinds.ArrayLength = 2
 needed kinds.NewInstance = 1
-needed kinds.NewArray = 1
+needed kinds.NewArray = 2
 needed kinds.Throw = 1
 needed kinds.Compare = 3
 needed kinds.ArrayGet = 2
@@ -282,9 +282,9 @@ module _ (limit n : ℕ) (wide : Bool) (r : ℕ × ℕ × ℕ) (fits : Fits limi
   plain_below kinds.BinaryLiteral h k = two r.0 r.1 (fits.first (one_of h)) (fits.second h) k
   plain_below kind h k = absurd k
 
-  class_below : (kind : Kind) (elements class : List ℕ) → needed kind ≤ n → (In x elements → x < limit) → In x (registers_of (class_act kind r.0 elements class)) → x < limit
+  class_below : (kind : Kind) (elements class : List ℕ) → needed kind ≤ n → (In x elements → x < limit) → In x (registers_of (class_act kind r elements class)) → x < limit
   class_below kinds.NewInstance elements class h all k = alone r.0 (fits.first h) k
-  class_below kinds.NewArray elements class h all k = alone r.0 (fits.first h) k
+  class_below kinds.NewArray elements class h all k = two r.0 r.1 (fits.first (one_of h)) (fits.second h) k
   class_below kinds.FilledNewArray elements class h all k = all k
   class_below kind elements class h all k = absurd k
 

@@ -105,12 +105,12 @@ plain_act kinds.BinaryInPlace wide r = Join (written wide r.0) (r.0 ∷ r.1 ∷ 
 plain_act kinds.BinaryLiteral wide r = Join (written false r.0) (r.1 ∷ [])
 plain_act kind wide r = Skip
 
--- of one that makes an object or an array of a class
-abbrev pub class_act : Kind → ℕ → List ℕ → List ℕ → Act
-class_act kinds.NewInstance d elements class = New d class
-class_act kinds.NewArray d elements class = New d class
-class_act kinds.FilledNewArray d elements class = Fill elements class
-class_act kind d elements class = Skip
+-- of one that makes an object or an array of a class. The second register of a new array is its size.
+abbrev pub class_act : Kind → ℕ × ℕ × ℕ → List ℕ → List ℕ → Act
+class_act kinds.NewInstance r elements class = New r.0 class None
+class_act kinds.NewArray r elements class = New r.0 class (Some r.1)
+class_act kinds.FilledNewArray r elements class = Fill elements class
+class_act kind r elements class = Skip
 
 -- of one on an instance field
 abbrev pub field_act : Kind → Bool → ℕ × ℕ × ℕ → KeyId → Act
@@ -133,7 +133,7 @@ call_kind_of kind = calls.Virtual
 
 abbrev pub act_with : Kind → Bool → ℕ × ℕ × ℕ → List ℕ → Named → Act
 act_with kind wide r arguments named.Nothing = plain_act kind wide r
-act_with kind wide r arguments (named.Class class) = class_act kind r.0 arguments class
+act_with kind wide r arguments (named.Class class) = class_act kind r arguments class
 act_with kind wide r arguments (named.Method at) = Call (call_kind_of kind) at arguments
 act_with kind wide r arguments (named.Key key) = field_act kind wide r key
 act_with kind wide r arguments (named.Static g) = static_act kind wide r.0 g

@@ -158,11 +158,12 @@ fn plain(alloc: Global, kind: Kind, wide: bool, r: (u32, u32, u32)) -> Result<Ac
 }
 
 /// The act of one that makes an object or an array.
-fn of_class(kind: Kind, first: u32, elements: Seq<u32>, class: Name) -> Act
-    ensures { result ≡ class_act kind first elements class }
+fn of_class(kind: Kind, r: (u32, u32, u32), elements: Seq<u32>, class: Name) -> Act
+    ensures { result ≡ class_act kind r elements class }
 {
     match kind {
-        Kind::NewInstance | Kind::NewArray => Act::New(first, class),
+        Kind::NewInstance => Act::New(r.0, class, None),
+        Kind::NewArray => Act::New(r.0, class, Some(r.1)),
         Kind::FilledNewArray => Act::Fill(elements, class),
         _ => Act::Skip,
     }
@@ -248,7 +249,7 @@ pub fn act_for(alloc: Global, insn: &Insn, named: Named) -> Result<Act, Memory>
     let r = operands(insn);
     Ok(match named {
         Named::Nothing => plain(alloc, kind, wide, r)?,
-        Named::Class(class) => of_class(kind, r.0, arguments(alloc, insn)?, class),
+        Named::Class(class) => of_class(kind, r, arguments(alloc, insn)?, class),
         Named::Method(at) => Act::Call(call_kind(kind), at, arguments(alloc, insn)?),
         Named::Key(key) => of_field(alloc, kind, wide, r, key)?,
         Named::Static(field) => of_static(alloc, kind, wide, r.0, field)?,

@@ -1,5 +1,5 @@
 -- The rows that name things which the app and the lists have.
-use Rattle.std.specs.Prelude.{◌≡◌, ◌<◌, ◌+◌, ℕ, IsTrue, List, [], ◌∷◌, length, map, Some, slice_get}
+use Rattle.std.specs.Prelude.{◌≡◌, ◌<◌, ◌+◌, ℕ, IsTrue, List, [], ◌∷◌, length, map, Option, Some, slice_get}
 use Rattle.vet_base.specs.declared.key_id.KeyId.{KeyId}
 use Rattle.access_path.specs.declared.path.Path.{Path}
 use Rattle.access_path.specs.Paths.{keys_of}
@@ -36,7 +36,7 @@ use Rattle.fact_rows.specs.Contexts.{IsEvent, event_types}
 -- the step is one before which or at which a method is entered
 pub data EntersAt (app : App) (method pc : ℕ) : Type 0 where
   at_call : {kind : CallKind} {at : MethodRef} {args : List ℕ} → ActAt app method pc (act.Call kind at args) → EntersAt app method pc
-  at_new : {d : ℕ} {class : Name} → ActAt app method pc (act.New d class) → EntersAt app method pc
+  at_new : {d : ℕ} {class : Name} {size : Option ℕ} → ActAt app method pc (act.New d class size) → EntersAt app method pc
   at_get : {g : ℕ} {ds : List ℕ} → ActAt app method pc (act.GetStatic ds g) → EntersAt app method pc
   at_put : {g x : ℕ} → ActAt app method pc (act.PutStatic g x) → EntersAt app method pc
 
@@ -72,7 +72,7 @@ pub data RegisterIn (app : App) (n : Node) (r : ℕ) : Type 0 where
 
 -- the step makes an object: of a new class, a filled array, or a result of a reference type
 pub data MakesAt (app : App) (method pc : ℕ) : Type 0 where
-  by_new : {d : ℕ} {class : Name} → ActAt app method pc (act.New d class) → MakesAt app method pc
+  by_new : {d : ℕ} {class : Name} {size : Option ℕ} → ActAt app method pc (act.New d class size) → MakesAt app method pc
   by_fill : {xs : List ℕ} {class : Name} → ActAt app method pc (act.Fill xs class) → MakesAt app method pc
   by_call : {kind : CallKind} {at : MethodRef} {args : List ℕ} → ActAt app method pc (act.Call kind at args)
       → IsTrue (is_reference at.proto.ret) → MakesAt app method pc

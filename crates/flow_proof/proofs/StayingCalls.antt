@@ -39,7 +39,7 @@ unfolding initialisers class_initialised
 initialises_at {app} {method} {pc} {body} is_one = by_act is_one.act is_one.at is_one.is_one
   where
     by_act : (act : Act) → ActAt app method pc act → In body (initialisers app act) → EntersAt app method pc
-    by_act (New d class) at h = at_new at
+    by_act (New d class size) at h = at_new at
     by_act (GetStatic ds g) at h = at_get at
     by_act (PutStatic g x) at h = at_put at
     by_act (Call Static ref args) at h = at_call at

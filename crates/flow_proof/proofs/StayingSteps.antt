@@ -51,6 +51,7 @@ module _ (app : App) (lists : Lists) (sound : SoundApp app) (laws : PathLaws) wh
   local_in (step.join_taint d x {ds = ds} {xs = xs} acts is_one is_source without_keys goes) h =
       (next_in sound h.0.0 goes, (named_register sound acts (in_front d ds xs is_one), (empty_in app, (h.0.1.1.1.0, tt))))
   local_in (step.new_points acts goes) h = (next_in sound h.0.0 goes, (named_register sound acts (inl refl), ((h.0.0, by_new acts), tt)))
+  local_in (step.new_taint acts without_keys goes) h = (next_in sound h.0.0 goes, (named_register sound acts (inl refl), (empty_in app, (h.0.1.1.1.0, tt))))
   local_in (step.fill_points acts goes) h = (next_in sound h.0.0 goes, (is_result refl, ((h.0.0, by_fill acts), tt)))
   local_in (step.fill_cell x acts is_source) h = ((h.0.0, by_fill acts), (elem_in sound, (h.0.1.1.0, tt)))
   local_in (step.fill_taint x acts is_source goes) h =

@@ -1,5 +1,6 @@
 -- Each step of the running frame within its method keeps what is known.
 use Rattle.std.proofs.Common.{◌≡◌, ℕ, ◌<◌, List, [], ◌∷◌, ◌++◌, length, inl, inr, Option, Some, None, refl, ap, sym, ◌∙◌, subst, arith}
+use Rattle.std.specs.Prelude.{option_to_list}
 use Rattle.vet_base.specs.declared.key_id.KeyId.{KeyId}
 use Rattle.access_path.specs.Laws.{PathLaws}
 use Rattle.access_path.specs.declared.path.Path.{Path}
@@ -24,7 +25,7 @@ use Rattle.fact_rows.specs.declared.row.Row.{Row}
 use Rattle.fact_rows.specs.declared.row.Row.TheVariants.{Points, Cell, Effect}
 use Rattle.flow_rules.specs.Nodes.{at_pc, Acts}
 use Rattle.flow_rules.specs.Sites.{class_made, site_class, SiteClass}
-use Rattle.flow_rules.specs.LocalRules.{move_points, move_taint, result_points, result_taint, exception_points, exception_taint, join_taint, new_points, fill_points, fill_cell, fill_taint, get_points, get_taint, put_cell, put_effect, get_static_points, get_static_taint, put_static_points, put_static_taint}
+use Rattle.flow_rules.specs.LocalRules.{move_points, move_taint, result_points, result_taint, exception_points, exception_taint, join_taint, new_points, new_taint, fill_points, fill_cell, fill_taint, get_points, get_taint, put_cell, put_effect, get_static_points, get_static_taint, put_static_points, put_static_taint}
 use Rattle.flow_rules.specs.Rules.{Closed}
 use Rattle.flow_proof.proofs.HeapLaws.{EntryAt-put, ClassAt-put, IsPut, length-put_at}
 use Rattle.flow_proof.proofs.Fitting.{Fits, HeapFits, Covered, Changed, PutFits, fits_map, blank_fits, placeless_fits}
@@ -181,15 +182,22 @@ module _ (app : App) (lists : Lists) (has : Row → Type 0) (closed : Closed app
       go (Some p) e =
           goes_plain app lists has closed laws (running_after app lists has closed laws known (put_changed known act e)) act next (λ _. refl)
 
-  known_new : {w : World} {site : ℕ → Site} {c : Ctx} {f : Frame} {fs : List Frame} {pc d : ℕ} {class : Name} →
-      Runs app lists has w site c f fs → ActAt app f.method f.pc (New d class) → Goes app f.method f.pc pc →
-      Known app lists has (record w { heap = w.heap ++ new_object class ∷ [] }) (record f { pc = pc; registers = write f.registers d (object_at (Some (length w.heap))) } ∷ fs)
-  known_new {w} {site} {c} {f} {fs} {pc} {d} {class} known act next =
-      goes_writing app lists has closed laws (pending_of app lists has closed laws (running_grown app lists has closed laws known no_entries)) act next d (object_at (Some (length w.heap))) (λ _ other. other)
-      (new_fits w.heap site (At (node_of c f)) (new_object class) [] _ (Taints has (at_pc (node_of c f) pc) d) (loc app lists has closed laws (new_points {n = node_of c f} act next) (known.reached, tt)) (λ l h. absurd h) (λ k v h. absurd h))
+  known_new : {w : World} {site : ℕ → Site} {c : Ctx} {f : Frame} {fs : List Frame} {pc d : ℕ} {class : Name} {size : Option ℕ} (labels : List ℕ) →
+      Runs app lists has w site c f fs → ActAt app f.method f.pc (New d class size) → Goes app f.method f.pc pc → AreOwnLabels f (option_to_list size) labels →
+      Known app lists has (record w { heap = w.heap ++ new_object class ∷ [] }) (record f { pc = pc; registers = write f.registers d (record { place = Some (length w.heap); labels = labels }) } ∷ fs)
+  known_new {w} {site} {c} {f} {fs} {pc} {d} {class} {size} labels known act next which =
+      goes_writing app lists has closed laws (pending_of app lists has closed laws (running_grown app lists has closed laws known no_entries)) act next d (record { place = Some (length w.heap); labels = labels }) (λ _ other. other)
+      (new_fits w.heap site (At (node_of c f)) (new_object class) labels _ (Taints has (at_pc (node_of c f) pc) d) (loc app lists has closed laws (new_points {n = node_of c f} act next) (known.reached, tt)) (λ l h. own size act l ((which l).0 h)) (λ k v h. absurd h))
     where
       no_entries : NewFits app lists has w.heap site (At (node_of c f)) (new_object class)
       no_entries = record { within = λ _ _ _ h _. absurd h; cell = λ _ _ _ h _. absurd h; class = class_at act refl }
+
+      own : (size : Option ℕ) → ActAt app f.method f.pc (New d class size) → (l : ℕ) → (x : ℕ) × In x (option_to_list size) × In l (f.registers x).labels → Covered (Taints has (at_pc (node_of c f) pc) d) [] l
+      own None act l (x, is_size, label) = absurd is_size
+      own (Some y) act l (x, inr none, label) = absurd none
+      own (Some y) act l (x, inl same, label) =
+          let t = (known.registers y).tainted [] l (subst (λ z. In l (f.registers z).labels) same label) in
+          record { path = empty_path; covers = laws.empty; row = loc app lists has closed laws (new_taint {n = node_of c f} act (laws.without_keys t.path t.covers) next) (t.row, tt) }
 
   known_fill : {w : World} {site : ℕ → Site} {c : Ctx} {f : Frame} {fs : List Frame} {pc : ℕ} {class : Name} {xs : List ℕ} (entries : List (KeyId × Value)) →
       Runs app lists has w site c f fs → ActAt app f.method f.pc (Fill xs class) → Goes app f.method f.pc pc → AreElements f xs entries →
@@ -241,7 +249,7 @@ module _ (app : App) (lists : Lists) (has : Row → Type 0) (closed : Closed app
   known_local known (takes_result act next) = known_take_result known act next
   known_local known (takes_exception act next) = known_take_exception known act next
   known_local known (joins labels act next which) = known_join labels known act next which
-  known_local known (makes act next) = known_new known act next
+  known_local known (makes labels act next which) = known_new labels known act next which
   known_local known (fills entries act next which) = known_fill entries known act next which
   known_local known (gets act next given) = known_get known act next given
   known_local known (puts act next) = known_put known act next

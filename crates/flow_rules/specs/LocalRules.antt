@@ -1,5 +1,5 @@
 -- Rules 1 to 13: steps within a method.
-use Rattle.std.specs.Prelude.{◌≡◌, ◌==◌, ℕ, IsFalse, List, [], ◌∷◌, Some}
+use Rattle.std.specs.Prelude.{◌≡◌, ◌==◌, ℕ, IsFalse, List, [], ◌∷◌, Option, Some}
 use Rattle.vet_base.specs.declared.key_id.KeyId.{KeyId}
 use Rattle.access_path.specs.declared.path.Path.{Path}
 use Rattle.access_path.specs.Paths.{keys_of, cut, rest, empty_path}
@@ -91,11 +91,16 @@ module _ (app : App) where
         keys_of p ≡ [] →
         GoesOn app n pc →
         LocalRule 4 (Taint n x p l ∷ []) (Taint (at_pc n pc) d empty_path l)
-    -- 5. New points to an object that is made here, and so does the RES of Fill.
-    new_points : {n : Node} {pc d : ℕ} {class : Name} →
-        Acts app n (New d class) →
+    -- 5. New points to an object that is made here, and has the own labels of its size. The RES of Fill points so too.
+    new_points : {n : Node} {pc d : ℕ} {class : Name} {size : Option ℕ} →
+        Acts app n (New d class size) →
         GoesOn app n pc →
         LocalRule 5 (Reached n ∷ []) (Points (at_pc n pc) d (At n))
+    new_taint : {n : Node} {pc d x l : ℕ} {class : Name} {p : Path} →
+        Acts app n (New d class (Some x)) →
+        keys_of p ≡ [] →
+        GoesOn app n pc →
+        LocalRule 5 (Taint n x p l ∷ []) (Taint (at_pc n pc) d empty_path l)
     fill_points : {n : Node} {pc : ℕ} {xs : List ℕ} {class : Name} →
         Acts app n (Fill xs class) →
         GoesOn app n pc →

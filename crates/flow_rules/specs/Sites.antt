@@ -15,7 +15,7 @@ use Rattle.fact_rows.specs.Contexts.{event_types}
 
 -- the class of what the act makes: that which it names, or for a call the type of its result
 abbrev pub class_made : Act → Option Name
-class_made (New d class) = Some class
+class_made (New d class size) = Some class
 class_made (Fill xs class) = Some class
 class_made (Call kind at args) = if is_reference at.proto.ret then Some at.proto.ret else None
 class_made act = None

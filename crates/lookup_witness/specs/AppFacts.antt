@@ -61,7 +61,7 @@ pub record LooksUp : Type 0 where
   -- the child is below the interface above its interface; without the interfaces' own it is false
   pub by_interface : is_below shapes callback_lists child_class outer_interface ≡ true
   -- a new child runs the base's initialiser, having none of its own; a walk that ends at the child gives none
-  pub from_above : initialisers shapes (New 0 child_class) ≡ 0 ∷ []
+  pub from_above : initialisers shapes (New 0 child_class None) ≡ 0 ∷ []
 
 -- the same where events are asked for at many rows, from tables that are made once
 pub record LooksUpEvents : Type 0 where

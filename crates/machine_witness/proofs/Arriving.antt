@@ -12,8 +12,8 @@ use Rattle.app_machine.specs.Calls.{Calls_to, by_name}
 use Rattle.app_machine.specs.Run.{Run}
 use Rattle.machine_witness.specs.Apps.{step}
 use Rattle.machine_witness.specs.Acts.{field_key, ints}
-use Rattle.machine_witness.specs.Flows.{box_lists, own_box, with_id, tries, helper, read_id, initialiser, by_static, by_field, by_element, by_filled, by_result, by_exception, by_initialiser, ArrivesAt, FlowsWithinOnCreate, FlowsByOtherMethods, activity_of}
-use Rattle.machine_witness.proofs.Flowing.{by_take, by_exception_of, by_new, by_get, by_put_of, by_get_static, by_put_static, by_fill, by_call, by_initialiser_of, by_return, by_throw, by_initialised, by_id, by_post, knows, the_label}
+use Rattle.machine_witness.specs.Flows.{box_lists, own_box, with_id, tries, helper, read_id, initialiser, by_static, by_field, by_element, by_filled, by_size, by_result, by_exception, by_initialiser, ArrivesAt, FlowsWithinOnCreate, FlowsByOtherMethods, activity_of}
+use Rattle.machine_witness.proofs.Flowing.{by_take, by_exception_of, by_new, by_sized, by_join, by_get, by_put_of, by_get_static, by_put_static, by_fill, by_call, by_initialiser_of, by_return, by_throw, by_initialised, by_id, by_post, knows, the_label}
 use Rattle.machine_witness.proofs.Beginning.{created_run}
 
 pub arrives_at : {app : App} {w : World} {fs : List Frame} {method pc : ℕ} → Run app box_lists w fs → In (record { label = 0; sink = 1; method = method; pc = pc }) w.arrivals → ArrivesAt app method pc
@@ -35,8 +35,12 @@ filled : ArrivesAt (activity_of by_filled) 0 5
 unfolding activity_of step_at body_named method_with up
 filled = arrives_at (by_post (by_get (by_take (by_fill (by_take (by_id (created_run by_filled refl) (knows by_filled) 1 refl) (0 ∷ []) 2 refl) 0 ints 3 refl) (1 ∷ []) 4 refl) 2 1 elem_key the_label 5 refl (entry_of refl (inl refl))) (knows by_filled) 2 6 refl refl) (inl refl)
 
+size : ArrivesAt (activity_of by_size) 0 4
+unfolding activity_of step_at body_named method_with up
+size = arrives_at (by_post (by_join (by_sized (by_take (by_id (created_run by_size refl) (knows by_size) 1 refl) (0 ∷ []) 2 refl) 1 ints 0 3 refl) 2 1 4 refl) (knows by_size) 2 5 refl refl) (inl refl)
+
 pub within_on_create : FlowsWithinOnCreate
-within_on_create = record { static = static; field = field; element = element; filled = filled }
+within_on_create = record { static = static; field = field; element = element; filled = filled; size = size }
 
 -- the helper method is the second
 result_code : HasCode (activity_of by_result) 1 (helper read_id (with_id (step 2 (Return (Some 0)) [] ∷ [])))
@@ -78,7 +82,7 @@ initialiser_code = record { there = refl; code = refl }
 -- before the new object
 runs_first : Initialises (activity_of by_initialiser) 0 0 1
 unfolding activity_of step_at initialisers class_initialised initialisers_from initialiser_of initialiser_name initialiser_proto up method_of
-runs_first = record { act = New 1 own_box; at = record { step = _; there = refl; same = refl }; is_one = inl refl }
+runs_first = record { act = New 1 own_box None; at = record { step = _; there = refl; same = refl }; is_one = inl refl }
 
 by_init : ArrivesAt (activity_of by_initialiser) 0 2
 unfolding activity_of step_at body_named method_with up

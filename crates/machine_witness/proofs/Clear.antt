@@ -219,7 +219,7 @@ quiet_local none in_method (moves act next) = busy none in_method (elsewhere in_
 quiet_local none in_method (takes_result act next) = busy none in_method (elsewhere in_method act next (λ e. let no_way : ⊥ = cc in no_way))
 quiet_local none in_method (takes_exception act next) = busy none in_method (elsewhere in_method act next (λ e. let no_way : ⊥ = cc in no_way))
 quiet_local none in_method (joins labels act next which) = busy none in_method (elsewhere in_method act next (λ e. let no_way : ⊥ = cc in no_way))
-quiet_local none in_method (makes act next) = busy none in_method (elsewhere in_method act next (λ e. let no_way : ⊥ = cc in no_way))
+quiet_local none in_method (makes labels act next which) = busy none in_method (elsewhere in_method act next (λ e. let no_way : ⊥ = cc in no_way))
 quiet_local none in_method (fills entries act next which) = busy none in_method (elsewhere in_method act next (λ e. let no_way : ⊥ = cc in no_way))
 quiet_local none in_method (gets act next given) = busy none in_method (elsewhere in_method act next (λ e. let no_way : ⊥ = cc in no_way))
 quiet_local none in_method (puts act next) = busy none in_method (elsewhere in_method act next (λ e. let no_way : ⊥ = cc in no_way))

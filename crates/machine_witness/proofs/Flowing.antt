@@ -6,7 +6,7 @@ use Rattle.app_machine.specs.declared.call.MethodRef.{MethodRef}
 use Rattle.app_machine.specs.declared.call.CallKind.TheVariants.{Static}
 use Rattle.app_machine.specs.declared.method.Step.{Step}
 use Rattle.app_machine.specs.declared.method.Method.{Method}
-use Rattle.app_machine.specs.declared.method.Act.TheVariants.{Blank, New, Fill, Get, Put, GetStatic, PutStatic, Call, Return, Throw, TakeResult, TakeException}
+use Rattle.app_machine.specs.declared.method.Act.TheVariants.{Join, Blank, New, Fill, Get, Put, GetStatic, PutStatic, Call, Return, Throw, TakeResult, TakeException}
 use Rattle.app_machine.specs.declared.app.App.{App}
 use Rattle.app_machine.specs.declared.lists.Lists.{Lists}
 use Rattle.app_machine.specs.declared.summary.Summary.{Summary}
@@ -17,13 +17,13 @@ use Rattle.app_machine.specs.Lookups.{Body, HasCode, Initialises, elem_key, step
 use Rattle.app_machine.specs.Summaries.{library_key, summary, row_walk, library_classes, listed_above, listed_class, row_of}
 use Rattle.app_machine.specs.Heap.{Value, Object, blank, labelled, Reaches, put_to, Gets}
 use Rattle.app_machine.specs.State.{result_register, exception_register, write, write_all, Arrival, World, Frame, object_at, new_object}
-use Rattle.app_machine.specs.Local.{blanks, takes_result, takes_exception, makes, fills, gets, puts, gets_static, puts_static}
+use Rattle.app_machine.specs.Local.{blanks, takes_result, takes_exception, joins, makes, fills, gets, puts, gets_static, puts_static}
 use Rattle.app_machine.specs.Calls.{Calls_to, by_name, is_caught, unwinds}
 use Rattle.app_machine.specs.Library.{positions, value_at, AtSink, all_there, of_void, as_labels, Joins, Adds, by_put, by_store, by_copy, Library_call, Uses_row}
 use Rattle.app_machine.specs.Run.{Run, frame_of, goes_on, throws, calls, calls_library, returns, initialises, has_initialised, ends, then}
 use Rattle.machine_witness.specs.Apps.{device_class, net_class, id, post, step}
 use Rattle.machine_witness.specs.Flows.{box_lists, id_row, post_row, Scene, activity_of}
-use Rattle.machine_witness.proofs.Acting.{act_of, next_of, elements}
+use Rattle.machine_witness.proofs.Acting.{act_of, next_of, own_labels, no_labels, elements}
 use Rattle.std.proofs.lemmas.Option.{none-some}
 
 -- Local steps: the frame's step goes on to one pc.
@@ -40,9 +40,17 @@ module _ {app : App} {lists : Lists} {w : World} {f : Frame} {fs : List Frame} (
       → Run app lists w (record f { pc = to; registers = write_all f.registers ds blank } ∷ fs)
   by_blank ds to e = then run (goes_on (blanks (act_of _ e) (next_of _ e (inl refl))))
 
-  pub by_new : (d : ℕ) (class : Name) (to : ℕ) → step_at app f.method f.pc ≡ Some (step f.pc (New d class) (to ∷ []))
+  pub by_new : (d : ℕ) (class : Name) (to : ℕ) → step_at app f.method f.pc ≡ Some (step f.pc (New d class None) (to ∷ []))
       → Run app lists (record w { heap = w.heap ++ new_object class ∷ [] }) (record f { pc = to; registers = write f.registers d (object_at (Some (length w.heap))) } ∷ fs)
-  by_new d class to e = then run (goes_on (makes (act_of _ e) (next_of _ e (inl refl))))
+  by_new d class to e = then run (goes_on (makes [] (act_of _ e) (next_of _ e (inl refl)) (no_labels f)))
+
+  pub by_sized : (d : ℕ) (class : Name) (x to : ℕ) → step_at app f.method f.pc ≡ Some (step f.pc (New d class (Some x)) (to ∷ []))
+      → Run app lists (record w { heap = w.heap ++ new_object class ∷ [] }) (record f { pc = to; registers = write f.registers d (record { place = Some (length w.heap); labels = (f.registers x).labels }) } ∷ fs)
+  by_sized d class x to e = then run (goes_on (makes (f.registers x).labels (act_of _ e) (next_of _ e (inl refl)) (own_labels f x)))
+
+  pub by_join : (d x to : ℕ) → step_at app f.method f.pc ≡ Some (step f.pc (Join (d ∷ []) (x ∷ [])) (to ∷ []))
+      → Run app lists w (record f { pc = to; registers = write_all f.registers (d ∷ []) (labelled (f.registers x).labels) } ∷ fs)
+  by_join d x to e = then run (goes_on (joins (f.registers x).labels (act_of _ e) (next_of _ e (inl refl)) (own_labels f x)))
 
   pub by_get : (d o : ℕ) (k : KeyId) (v : Value) (to : ℕ) → step_at app f.method f.pc ≡ Some (step f.pc (Get (d ∷ []) o k) (to ∷ [])) → Gets w.heap (f.registers o) k v
       → Run app lists w (record f { pc = to; registers = write_all f.registers (d ∷ []) v } ∷ fs)

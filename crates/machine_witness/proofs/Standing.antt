@@ -1,5 +1,5 @@
 -- Where the machine stands.
-use Rattle.std.proofs.Common.{ℕ, zero, suc, [], ◌∷◌, inl, Some, refl}
+use Rattle.std.proofs.Common.{ℕ, zero, suc, [], ◌∷◌, inl, Some, None, refl}
 use Rattle.app_machine.specs.declared.call.CallKind.TheVariants.{Static}
 use Rattle.app_machine.specs.declared.method.Act.TheVariants.{Call, New}
 use Rattle.app_machine.specs.declared.component.Kind.TheVariants.{Activity}
@@ -41,7 +41,7 @@ bare_made = record { component = record { kind = Activity; class = main_class };
 
 box_is_initialised : Initialises coded_app 1 2 2
 unfolding coded_app step_at initialisers class_initialised initialisers_from initialiser_of initialiser_name initialiser_proto up method_of
-box_is_initialised = record { act = New 0 own_box; at = record { step = _; there = refl; same = refl }; is_one = inl refl }
+box_is_initialised = record { act = New 0 own_box None; at = record { step = _; there = refl; same = refl }; is_one = inl refl }
 
 box_native : IsNative coded_app 2
 unfolding coded_app

@@ -40,14 +40,15 @@ acts_app = record {
         ∷ step 4 (TakeResult (0 ∷ [])) (5 ∷ [])
         ∷ step 5 (TakeException 0) (6 ∷ [])
         ∷ step 6 (Join (0 ∷ []) (1 ∷ [])) (7 ∷ [])
-        ∷ step 7 (New 0 main_class) (8 ∷ [])
+        ∷ step 7 (New 0 main_class None) (8 ∷ [])
         ∷ step 8 (Fill (1 ∷ []) ints) (9 ∷ [])
         ∷ step 9 (Get (0 ∷ []) 1 elem_key) (10 ∷ [])
         ∷ step 10 (Get (0 ∷ []) 1 field_key) (11 ∷ [])
         ∷ step 11 (Put 0 field_key 1) (12 ∷ [])
         ∷ step 12 (GetStatic (0 ∷ []) 0) (13 ∷ [])
         ∷ step 13 (PutStatic 0 1) (14 ∷ [])
-        ∷ step 14 (Return None) []
+        ∷ step 14 (New 0 ints (Some 1)) (15 ∷ [])
+        ∷ step 15 (Return None) []
         ∷ [];
   } ∷ [];
   keys = Elem ∷ number_field ∷ [];
@@ -89,6 +90,7 @@ pub record EachActSteps (w : World) (r : ℕ → Value) : Type 0 where
   pub puts : ComesTo w 11 r (record w { heap = put_to w.heap (r 0).place field_key (r 1) }) 12 r
   pub gets_static : ComesTo w 12 r w 13 (write_all r (0 ∷ []) (w.statics 0))
   pub puts_static : ComesTo w 13 r (record w { statics = write w.statics 0 (r 1) }) 14 r
+  pub makes_array : ComesTo w 14 r (with_object w (new_object ints)) 15 (write r 0 (record { place = Some (length w.heap); labels = (r 1).labels }))
 
 abbrev pub ActsStep : Type 0
 ActsStep = (w : World) (r : ℕ → Value) → EachActSteps w r

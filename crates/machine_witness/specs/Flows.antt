@@ -4,7 +4,7 @@ use Rattle.app_machine.specs.declared.call.MethodRef.{MethodRef}
 use Rattle.app_machine.specs.declared.call.CallKind.TheVariants.{Static, Virtual}
 use Rattle.app_machine.specs.declared.method.Step.{Step}
 use Rattle.app_machine.specs.declared.method.Act.{Act}
-use Rattle.app_machine.specs.declared.method.Act.TheVariants.{New, Fill, Get, Put, GetStatic, PutStatic, Call, Return, Throw, TakeResult, TakeException}
+use Rattle.app_machine.specs.declared.method.Act.TheVariants.{Join, New, Fill, Get, Put, GetStatic, PutStatic, Call, Return, Throw, TakeResult, TakeException}
 use Rattle.app_machine.specs.declared.method.Method.{Method}
 use Rattle.app_machine.specs.declared.component.Kind.TheVariants.{Application, Activity}
 use Rattle.app_machine.specs.declared.app.Key.TheVariants.{Elem}
@@ -167,14 +167,18 @@ by_static = scene (with_id (step 2 (PutStatic 0 0) (3 ∷ []) ∷ step 3 (GetSta
 
 -- through an instance field
 abbrev pub by_field : Scene
-by_field = scene (with_id (step 2 (New 1 own_box) (3 ∷ []) ∷ step 3 (Put 1 field_key 0) (4 ∷ []) ∷ step 4 (Get (2 ∷ []) 1 field_key) (5 ∷ []) ∷ and_post 5 2)) []
+by_field = scene (with_id (step 2 (New 1 own_box None) (3 ∷ []) ∷ step 3 (Put 1 field_key 0) (4 ∷ []) ∷ step 4 (Get (2 ∷ []) 1 field_key) (5 ∷ []) ∷ and_post 5 2)) []
 
 -- through an element that is put, and through one of a filled array
 abbrev pub by_element : Scene
-by_element = scene (with_id (step 2 (New 1 ints) (3 ∷ []) ∷ step 3 (Put 1 elem_key 0) (4 ∷ []) ∷ step 4 (Get (2 ∷ []) 1 elem_key) (5 ∷ []) ∷ and_post 5 2)) []
+by_element = scene (with_id (step 2 (New 1 ints None) (3 ∷ []) ∷ step 3 (Put 1 elem_key 0) (4 ∷ []) ∷ step 4 (Get (2 ∷ []) 1 elem_key) (5 ∷ []) ∷ and_post 5 2)) []
 
 abbrev pub by_filled : Scene
 by_filled = scene (with_id (step 2 (Fill (0 ∷ []) ints) (3 ∷ []) ∷ step 3 (TakeResult (1 ∷ [])) (4 ∷ []) ∷ step 4 (Get (2 ∷ []) 1 elem_key) (5 ∷ []) ∷ and_post 5 2)) []
+
+-- as the size of a new array, whose length is read
+abbrev pub by_size : Scene
+by_size = scene (with_id (step 2 (New 1 ints (Some 0)) (3 ∷ []) ∷ step 3 (Join (2 ∷ []) (1 ∷ [])) (4 ∷ []) ∷ and_post 4 2)) []
 
 -- a static method of the activity with one register
 abbrev pub read_id : MethodRef
@@ -196,15 +200,15 @@ abbrev pub initialiser : MethodRef
 initialiser = ref own_box (codes "<clinit>") [] void
 
 abbrev pub by_initialiser : Scene
-by_initialiser = scene (step 0 (New 1 own_box) (1 ∷ []) ∷ step 1 (GetStatic (0 ∷ []) 0) (2 ∷ []) ∷ and_post 2 0) (helper initialiser (with_id (step 2 (PutStatic 0 0) (3 ∷ []) ∷ step 3 (Return None) [] ∷ [])) ∷ [])
+by_initialiser = scene (step 0 (New 1 own_box None) (1 ∷ []) ∷ step 1 (GetStatic (0 ∷ []) 0) (2 ∷ []) ∷ and_post 2 0) (helper initialiser (with_id (step 2 (PutStatic 0 0) (3 ∷ []) ∷ step 3 (Return None) [] ∷ [])) ∷ [])
 
 -- through a box of the library, into which a call puts and from which another takes
 abbrev pub by_library_put : Scene
-by_library_put = scene (with_id (step 2 (New 1 own_box) (3 ∷ []) ∷ step 3 (Call Static add (1 ∷ 0 ∷ [])) (4 ∷ []) ∷ step 4 (Call Virtual first (1 ∷ [])) (5 ∷ []) ∷ step 5 (TakeResult (2 ∷ [])) (6 ∷ []) ∷ and_post 6 2)) []
+by_library_put = scene (with_id (step 2 (New 1 own_box None) (3 ∷ []) ∷ step 3 (Call Static add (1 ∷ 0 ∷ [])) (4 ∷ []) ∷ step 4 (Call Virtual first (1 ∷ [])) (5 ∷ []) ∷ step 5 (TakeResult (2 ∷ [])) (6 ∷ []) ∷ and_post 6 2)) []
 
 -- through a second box, into which the first one is poured
 abbrev pub by_library_copy : Scene
-by_library_copy = scene (with_id (step 2 (New 1 own_box) (3 ∷ []) ∷ step 3 (Call Static add (1 ∷ 0 ∷ [])) (4 ∷ []) ∷ step 4 (New 2 own_box) (5 ∷ []) ∷ step 5 (Call Static pour (1 ∷ 2 ∷ [])) (6 ∷ []) ∷ step 6 (Get (0 ∷ []) 2 elem_key) (7 ∷ []) ∷ and_post 7 0)) []
+by_library_copy = scene (with_id (step 2 (New 1 own_box None) (3 ∷ []) ∷ step 3 (Call Static add (1 ∷ 0 ∷ [])) (4 ∷ []) ∷ step 4 (New 2 own_box None) (5 ∷ []) ∷ step 5 (Call Static pour (1 ∷ 2 ∷ [])) (6 ∷ []) ∷ step 6 (Get (0 ∷ []) 2 elem_key) (7 ∷ []) ∷ and_post 7 0)) []
 
 -- through the shared store, into which one call puts and which another gives
 abbrev pub by_library_store : Scene
@@ -212,7 +216,7 @@ by_library_store = scene (with_id (step 2 (Call Static keep (0 ∷ [])) (3 ∷ [
 
 -- by a call that puts and then raises: only the handler posts
 abbrev pub by_library_raise : Scene
-by_library_raise = scene (with_id (step 2 (New 1 own_box) (3 ∷ []) ∷ tries 3 (Call Static add (1 ∷ 0 ∷ [])) (6 ∷ []) (4 ∷ []) ∷ step 4 (Get (2 ∷ []) 1 elem_key) (5 ∷ []) ∷ and_post 5 2)) []
+by_library_raise = scene (with_id (step 2 (New 1 own_box None) (3 ∷ []) ∷ tries 3 (Call Static add (1 ∷ 0 ∷ [])) (6 ∷ []) (4 ∷ []) ∷ step 4 (Get (2 ∷ []) 1 elem_key) (5 ∷ []) ∷ and_post 5 2)) []
 
 -- a method of the activity that an event runs, with one register of its own
 abbrev pub handler : MethodRef → List Step → Method
@@ -238,7 +242,7 @@ by_fresh_parameter = scene nothing_done (handler on_told (step 0 (Get (0 ∷ [])
 
 -- in a box that was handed to the library, and comes back as the parameter of a callback
 abbrev pub by_handed_parameter : Scene
-by_handed_parameter = scene (with_id (step 2 (New 1 own_box) (3 ∷ []) ∷ step 3 (Call Static add (1 ∷ 0 ∷ [])) (4 ∷ []) ∷ step 4 (Return None) [] ∷ [])) (handler on_given (step 0 (Get (0 ∷ []) 2 elem_key) (1 ∷ []) ∷ and_post 1 0) ∷ [])
+by_handed_parameter = scene (with_id (step 2 (New 1 own_box None) (3 ∷ []) ∷ step 3 (Call Static add (1 ∷ 0 ∷ [])) (4 ∷ []) ∷ step 4 (Return None) [] ∷ [])) (handler on_given (step 0 (Get (0 ∷ []) 2 elem_key) (1 ∷ []) ∷ and_post 1 0) ∷ [])
 
 -- from the application object to the activity, which is made after it
 abbrev pub first_class : Name
@@ -265,6 +269,7 @@ pub record WithinOnCreate : Type 0 where
   pub field : ArrivesAt (activity_of by_field) 0 5
   pub element : ArrivesAt (activity_of by_element) 0 5
   pub filled : ArrivesAt (activity_of by_filled) 0 5
+  pub size : ArrivesAt (activity_of by_size) 0 4
 
 pub record ByOtherMethods : Type 0 where
   pub result : ArrivesAt (activity_of by_result) 0 2

@@ -67,7 +67,7 @@ coded_app = app_of (initialiser_body
       steps =
           step 0 (Call Static odd []) (1 ∷ [])
           ∷ step 1 (Call Static mirror []) (2 ∷ [])
-          ∷ step 2 (New 0 own_box) (3 ∷ [])
+          ∷ step 2 (New 0 own_box None) (3 ∷ [])
           ∷ step 3 (Return None) []
           ∷ [];
     }

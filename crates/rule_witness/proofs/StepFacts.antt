@@ -10,7 +10,7 @@ use Rattle.app_machine.specs.Names.{descriptor_of}
 use Rattle.app_machine.specs.Lookups.{ActAt, Goes, Catches, step_at, body_named, method_with, up}
 use Rattle.app_machine.specs.LifeEvents.{life_events}
 use Rattle.app_machine.specs.Events.{LifeEventAt}
-use Rattle.flow_rules.specs.LocalRules.{reach_next, reach_caught, keep_points, keep_taint, keep_points_caught, keep_taint_caught, move_points, move_taint, result_points, result_taint, exception_points, exception_taint, join_taint, new_points, fill_points, fill_cell, fill_taint, get_points, get_taint, put_cell, put_effect, get_static_points, get_static_taint, put_static_points, put_static_taint, throw_points, throw_taint, throw_exit_points, throw_exit_taint, return_points, return_taint, cell_back}
+use Rattle.flow_rules.specs.LocalRules.{reach_next, reach_caught, keep_points, keep_taint, keep_points_caught, keep_taint_caught, move_points, move_taint, result_points, result_taint, exception_points, exception_taint, join_taint, new_points, new_taint, fill_points, fill_cell, fill_taint, get_points, get_taint, put_cell, put_effect, get_static_points, get_static_taint, put_static_points, put_static_taint, throw_points, throw_taint, throw_exit_points, throw_exit_taint, return_points, return_taint, cell_back}
 use Rattle.flow_rules.specs.EffectRules.{lift_effect, effect_next, effect_caught, method_effect, caller_effect, effect_static, effect_handed, effect_own, effect_other}
 use Rattle.flow_rules.specs.Rules.{by_local, by_effect}
 use Rattle.rule_witness.specs.Smallest.{main_class}
@@ -42,7 +42,7 @@ abbrev s4 : Step
 s4 = does 4 (Join (2 ∷ []) (1 ∷ [])) (5 ∷ [])
 
 abbrev s5 : Step
-s5 = does 5 (New 2 main_class) (6 ∷ [])
+s5 = does 5 (New 2 ints (Some 1)) (6 ∷ [])
 
 abbrev s6 : Step
 s6 = does 6 (Fill (1 ∷ []) ints) (7 ∷ [])
@@ -86,6 +86,7 @@ step_rules_hold lists c s t p l = record {
   takes_exception_label = by_local (exception_taint (acts s3 refl) (goes s3 refl (inl refl)));
   joins = by_local (join_taint 2 1 (acts s4 refl) (inl refl) (inl refl) refl (goes s4 refl (inl refl)));
   makes = by_local (new_points (acts s5 refl) (goes s5 refl (inl refl)));
+  sizes = by_local (new_taint (acts s5 refl) refl (goes s5 refl (inl refl)));
   fills = by_local (fill_points (acts s6 refl) (goes s6 refl (inl refl)));
   fills_site = by_local (fill_cell 1 (acts s6 refl) (inl refl));
   fills_label = by_local (fill_taint 1 (acts s6 refl) (inl refl) (goes s6 refl (inl refl)));

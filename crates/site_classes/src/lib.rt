@@ -46,7 +46,7 @@ fn class_made(act: &Act) -> Option<&Name>
     ensures { option_copied result ≡ class_made act.now }
 {
     match act {
-        Act::New(_, class) | Act::Fill(_, class) => Some(class),
+        Act::New(_, class, _) | Act::Fill(_, class) => Some(class),
         Act::Call(_, at, _) => reference_type(Some(&at.proto.ret)),
         _ => None,
     }

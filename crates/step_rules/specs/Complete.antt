@@ -1,5 +1,5 @@
 -- What follows is listed, and led by one of its premises.
-use Rattle.std.proofs.Common.{◌==◌, ℕ, ◌&&◌, List, [], ◌∷◌, ◌++◌, refl, sym, subst, ◌∙◌, inl, inr}
+use Rattle.std.proofs.Common.{◌==◌, ℕ, ◌&&◌, List, [], ◌∷◌, ◌++◌, Some, refl, sym, subst, ◌∙◌, inl, inr}
 use Rattle.std.proofs.lemmas.Bool.{and_from}
 use Rattle.access_path.specs.Paths.{cut, rest, empty_path}
 use Rattle.app_machine.specs.declared.method.Act.TheVariants as act
@@ -12,7 +12,7 @@ use Rattle.fact_rows.specs.declared.row.Row.{Row}
 use Rattle.fact_rows.specs.declared.row.Row.TheVariants.{Reached, Points, Taint, Cell, Back}
 use Rattle.flow_rules.specs.Nodes.{at_pc}
 use Rattle.flow_rules.specs.Rules.{Each}
-use Rattle.flow_rules.specs.LocalRules.{LocalRule, reach_next, reach_caught, keep_points, keep_taint, keep_points_caught, keep_taint_caught, move_points, move_taint, result_points, result_taint, exception_points, exception_taint, join_taint, new_points, fill_points, fill_cell, fill_taint, get_points, get_taint, put_cell, put_effect, get_static_points, get_static_taint, put_static_points, put_static_taint, throw_points, throw_taint, throw_exit_points, throw_exit_taint, return_points, return_taint, cell_back}
+use Rattle.flow_rules.specs.LocalRules.{LocalRule, reach_next, reach_caught, keep_points, keep_taint, keep_points_caught, keep_taint_caught, move_points, move_taint, result_points, result_taint, exception_points, exception_taint, join_taint, new_points, new_taint, fill_points, fill_cell, fill_taint, get_points, get_taint, put_cell, put_effect, get_static_points, get_static_taint, put_static_points, put_static_taint, throw_points, throw_taint, throw_exit_points, throw_exit_taint, return_points, return_taint, cell_back}
 use Rattle.rule_ground.specs.declared.content.Content.TheVariants.{Object, Label}
 use Rattle.rule_ground.specs.declared.key.Key.{Key}
 use Rattle.rule_ground.specs.Given.{of_one, concludes, at_each, to_all}
@@ -84,8 +84,19 @@ module _ (app : App) (has : Row → Type 0) (hits : Key → List Row) (law : (k 
               (in_all 4 (of_one (Taint n y p l)) (Label empty_path l) n h.step.next ds d pc i (next_in app n h g))))),
         ),
       )
-  step_led rule premises x (new_points {n = n} {pc = pc} {d = d} {class = class} h g) k =
-      (Reached n, (inl refl, (made_here app has hits law n pc d (act.New d class) h (in_each 5 (of_one (Reached n)) (Object (At n)) n h.step.next d pc (next_in app n h g)))))
+  step_led rule premises x (new_taint {n = n} {pc = pc} {d = d} {x = y} {l = l} {class = class} {p = p} h bare g) k =
+      let c = concludes 5 (of_one (Taint n y p l)) (Taint (at_pc n pc) d empty_path l) in (
+        Taint n y p l,
+        (
+          inl refl,
+          (here (step_leads app hits) (Taint n y p l) 5 (of_one (Taint n y p l)) (Taint (at_pc n pc) d empty_path l) (at_label app has hits law n y p l (act.New d class (Some y)) h c
+              (in_where c (y == y && is_bare p) (at_each 5 (of_one (Taint n y p l)) (Label empty_path l) n d h.step.next)
+              (and_from (y == y) (is_bare p) (itself y) (bare_of p bare))
+              (in_each 5 (of_one (Taint n y p l)) (Label empty_path l) n h.step.next d pc (next_in app n h g))))),
+        ),
+      )
+  step_led rule premises x (new_points {n = n} {pc = pc} {d = d} {class = class} {size = size} h g) k =
+      (Reached n, (inl refl, (made_here app has hits law n pc d (act.New d class size) h (in_each 5 (of_one (Reached n)) (Object (At n)) n h.step.next d pc (next_in app n h g)))))
   step_led rule premises x (fill_points {n = n} {pc = pc} {xs = xs} {class = class} h g) k =
       (Reached n, (inl refl, (made_here app has hits law n pc result_register (act.Fill xs class) h (in_each 5 (of_one (Reached n)) (Object (At n)) n h.step.next result_register pc (next_in app n h g)))))
   step_led rule premises x (fill_cell {n = n} y {xs = xs} {class = class} {s = s} h i) k =
@@ -158,6 +169,7 @@ module _ (app : App) (has : Row → Type 0) (hits : Key → List Row) (law : (k 
   step_complete row rule premises x (exception_points h g) k u = alone (step_led _ _ _ (exception_points h g) k) u
   step_complete row rule premises x (exception_taint h g) k u = alone (step_led _ _ _ (exception_taint h g) k) u
   step_complete row rule premises x (join_taint d y h i j bare g) k u = alone (step_led _ _ _ (join_taint d y h i j bare g) k) u
+  step_complete row rule premises x (new_taint h bare g) k u = alone (step_led _ _ _ (new_taint h bare g) k) u
   step_complete row rule premises x (new_points h g) k u = alone (step_led _ _ _ (new_points h g) k) u
   step_complete row rule premises x (fill_points h g) k u = alone (step_led _ _ _ (fill_points h g) k) u
   step_complete row rule premises x (fill_cell y h i) k u = alone (step_led _ _ _ (fill_cell y h i) k) u

@@ -17,7 +17,7 @@ use Rattle.fact_rows.specs.declared.site.Site.TheVariants.{At}
 use Rattle.fact_rows.specs.declared.row.Row.{Row}
 use Rattle.fact_rows.specs.declared.row.Row.TheVariants.{Reached, Points, Taint, Cell, StaticPoints, StaticTaint}
 use Rattle.flow_rules.specs.Nodes.{at_pc, Acts}
-use Rattle.flow_rules.specs.LocalRules.{LocalRule, returning, throwing, reach_next, reach_caught, join_taint, new_points, fill_points, fill_cell, fill_taint, get_points, get_taint, put_cell, put_effect, cell_back}
+use Rattle.flow_rules.specs.LocalRules.{LocalRule, returning, throwing, reach_next, reach_caught, join_taint, new_points, new_taint, fill_points, fill_cell, fill_taint, get_points, get_taint, put_cell, put_effect, cell_back}
 use Rattle.rule_ground.specs.declared.conclusion.Conclusion.{Conclusion}
 use Rattle.rule_ground.specs.declared.content.Content.{Content}
 use Rattle.rule_ground.specs.declared.content.Content.TheVariants.{Object, Label}
@@ -59,7 +59,7 @@ module _ (app : App) (has : Row → Type 0) (hits : Key → List Row) (law : (k 
         (λ pc i. one R has (reach_caught (catch_of app n there i)) p)
 
     made_sound : has (Reached n) → (a : Act) → step.act ≡ a → AllByRecursion (Sound (Reached n)) (made a step.next n)
-    made_sound p (act.New d class) e =
+    made_sound p (act.New d class size) e =
         each_sound (Sound (Reached n)) 5 (of_one (Reached n)) (Object (At n)) n step.next d
         (λ pc i. one R has (new_points (act_of app n there e) (next_of app n there i)) p)
     made_sound p (act.Fill xs class) e =
@@ -183,6 +183,10 @@ module _ (app : App) (has : Row → Type 0) (hits : Key → List Row) (law : (k 
     label_sound r p l h (act.Join ds xs) e = each_where (Sound (Taint n r p l)) (holds xs r && is_bare p) (to_all 4 (of_one (Taint n r p l)) (Label empty_path l) n ds step.next) (λ t.
         let b = and_parts (holds xs r) (is_bare p) t in
         all_sound (Sound (Taint n r p l)) 4 (of_one (Taint n r p l)) (Label empty_path l) n step.next ds (λ d pc i j. one R has (join_taint d r (act_of app n there e) i (holds_in r xs b.0) (bare_is (keys_of p) b.1) (next_of app n there j)) h))
+    label_sound r p l h (act.New d class (Some x)) e = each_where (Sound (Taint n r p l)) (x == r && is_bare p) (at_each 5 (of_one (Taint n r p l)) (Label empty_path l) n d step.next) (λ t.
+        let b = and_parts (x == r) (is_bare p) t in
+        each_sound (Sound (Taint n r p l)) 5 (of_one (Taint n r p l)) (Label empty_path l) n step.next d (λ pc j.
+        one R has (subst (λ z. LocalRule app 5 (Taint n z p l ∷ []) (Taint (at_pc n pc) d empty_path l)) (eqb-true x r b.0) (new_taint (act_of app n there e) (bare_is (keys_of p) b.1) (next_of app n there j))) h))
     label_sound r p l h (act.Fill xs class) e = each_where (Sound (Taint n r p l)) (holds xs r) (at_each 6 (of_one (Taint n r p l)) (Label (cut elem_key p) l) n result_register step.next) (λ t.
         each_sound (Sound (Taint n r p l)) 6 (of_one (Taint n r p l)) (Label (cut elem_key p) l) n step.next result_register (λ pc j. one R has (fill_taint r (act_of app n there e) (holds_in r xs t) (next_of app n there j)) h))
     label_sound r p l h (act.Get ds o k) e = each_where (Sound (Taint n r p l)) (o == r) (rest_gives (rest p k) ds step.next n r p l) (λ t.

@@ -36,7 +36,7 @@ goes_on pcs n = map (λ pc. concludes 1 (of_one (Reached n)) (Reached (at_pc n p
 
 -- 5. What is made here.
 abbrev pub made : Act → List ℕ → Node → List Conclusion
-made (act.New d class) next n = at_each 5 (of_one (Reached n)) (Object (At n)) n d next
+made (act.New d class size) next n = at_each 5 (of_one (Reached n)) (Object (At n)) n d next
 made (act.Fill xs class) next n = at_each 5 (of_one (Reached n)) (Object (At n)) n result_register next
 made _ next n = []
 
@@ -141,13 +141,17 @@ points_on (Some step) hits n r s = points_lead (Some step) hits n r s ++ puts hi
 abbrev pub is_bare : Path → Bool
 is_bare p = length (keys_of p) == 0
 
--- 4, 6, 7. What a label gives alone.
+-- 4, 5, 6, 7. What a label gives alone.
 abbrev pub rest_gives : Option Path → List ℕ → List ℕ → Node → ℕ → Path → ℕ → List Conclusion
 rest_gives None ds next n r p l = []
 rest_gives (Some q) ds next n r p l = to_all 7 (of_one (Taint n r p l)) (Label q l) n ds next
 
+abbrev pub size_gives : ℕ → ℕ → List ℕ → Node → ℕ → Path → ℕ → List Conclusion
+size_gives x d next n r p l = cond (x == r && is_bare p) (at_each 5 (of_one (Taint n r p l)) (Label empty_path l) n d next) []
+
 abbrev pub label_gives : Act → List ℕ → Node → ℕ → Path → ℕ → List Conclusion
 label_gives (act.Join ds xs) next n r p l = cond (holds xs r && is_bare p) (to_all 4 (of_one (Taint n r p l)) (Label empty_path l) n ds next) []
+label_gives (act.New d class (Some x)) next n r p l = size_gives x d next n r p l
 label_gives (act.Fill xs class) next n r p l = cond (holds xs r) (at_each 6 (of_one (Taint n r p l)) (Label (cut elem_key p) l) n result_register next) []
 label_gives (act.Get ds o k) next n r p l = cond (o == r) (rest_gives (rest p k) ds next n r p l) []
 label_gives _ next n r p l = []

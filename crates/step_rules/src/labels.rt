@@ -1,7 +1,7 @@
-//! Rules 4, 6 and 7: what follows from the labels of a register.
+//! Rules 4 to 7: what follows from the labels of a register.
 ghost use Rattle.std.specs.Prelude.{◌≡◌, OnOk, fold};
 ghost use Rattle.app_machine.specs.Sound.{SoundApp};
-ghost use Rattle.step_rules.specs.StepGiven.{is_bare, rest_gives, label_gives, taint_leads, taint_on, step_here};
+ghost use Rattle.step_rules.specs.StepGiven.{is_bare, rest_gives, size_gives, label_gives, taint_leads, taint_on, step_here};
 
 use crate::contents::{content, put};
 use crate::numbers;
@@ -60,6 +60,29 @@ fn get_rest<S: Sink>(
     }
 }
 
+/// The reference to a new array has the own label of the size.
+fn label_size<S: Sink>(
+    size: u32,
+    target: u32,
+    next: &[u32],
+    held: Labelled,
+    out: &mut S,
+) -> Result<(), S::Refusal>
+    ensures { OnOk result (out.new ≡ fold S.then out.old (size_gives size target next.now held.node held.register
+        held.path held.label)) }
+{
+    if size == held.register && is_bare_path(held.path) {
+        let inference = Inference {
+            rule: 5,
+            premises: Premises::of_one(held.row()),
+        };
+        let bare = Content::Label(Path::empty(), held.label);
+        put_each(inference, bare, held.node, target, next, out)
+    } else {
+        Ok(())
+    }
+}
+
 /// What a label gives that an object does not give so.
 fn label_alone<S: Sink>(step: &Step, held: Labelled, out: &mut S) -> Result<(), S::Refusal>
     ensures { OnOk result (out.new ≡ fold S.then out.old (label_gives step.now.act step.now.next held.node held.register
@@ -80,6 +103,7 @@ fn label_alone<S: Sink>(step: &Step, held: Labelled, out: &mut S) -> Result<(), 
                 Ok(())
             }
         }
+        Act::New(target, _, Some(size)) => label_size(*size, *target, next, held, out),
         Act::Fill(elements, _) => {
             if is_among(elements.as_slice(), held.register) {
                 let filled = Inference {

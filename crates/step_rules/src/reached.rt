@@ -35,7 +35,7 @@ fn make<S: Sink>(act: &Act, next: &[u32], node: Node, out: &mut S) -> Result<(),
         premises: Premises::of_one(Row::Reached(node)),
     };
     match act {
-        Act::New(target, _) => put_each(inference, made, node, *target, next, out),
+        Act::New(target, _, _) => put_each(inference, made, node, *target, next, out),
         Act::Fill(_, _) => put_each(inference, made, node, RESULT, next, out),
         _ => Ok(()),
     }
