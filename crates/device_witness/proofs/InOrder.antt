@@ -26,12 +26,13 @@ use Rattle.outcomes.specs.Findings.{arrivals_in, finding_of, finding_order, find
 use Rattle.outcomes.specs.Places.{place_order}
 use Rattle.outcomes.specs.Spots.{at_spot, spot_order}
 use Rattle.device_causes.specs.Clicks.{odd_clicks}
-use Rattle.device_causes.specs.DeviceCauses.{click_causes, device_causes, hidden_causes, interface_causes, method_order, named_causes, platform_causes, static_causes, strict_causes, unlisted_causes}
+use Rattle.device_causes.specs.DeviceCauses.{click_causes, device_causes, hidden_causes, interface_causes, method_called, named_causes, platform_causes, static_causes, strict_causes, unlisted_causes}
 use Rattle.device_causes.specs.Hidden.{hidden}
 use Rattle.device_causes.specs.Interfaces.{interface_code}
 use Rattle.device_causes.specs.Libraries.{static_spots, unlisted_classes}
 use Rattle.device_causes.specs.Platform.{platform_classes}
-use Rattle.link_listing.specs.Texts.{Triple}
+use Rattle.link_listing.specs.Orders.{triple_order}
+use Rattle.link_listing.proofs.Triples.{triple_total}
 use Rattle.vet_base.specs.Members.{In}
 use Rattle.vet_base.proofs.Members.{from_map, in_either}
 use Rattle.vet_base.proofs.Orders.{less_cmp}
@@ -93,10 +94,6 @@ place_total = then_total
     (on_total (λ (p : Place). p.at.name) nat_list_cmp_total)
     (then_total (on_total (λ (p : Place). descriptor_of p.at.proto) nat_list_cmp_total) (on_total (λ (p : Place). p.pc) nat_cmp_total)))
 
-methods_total : IsTotalOrder method_order
-methods_total =
-    then_total (then_total (on_total (λ (t : Triple). t.0) nat_list_cmp_total) (on_total (λ (t : Triple). t.1) nat_list_cmp_total)) (on_total (λ (t : Triple). t.2) nat_list_cmp_total)
-
 finding_total : IsTotalOrder finding_order
 unfolding finding_order
 finding_total = then_total
@@ -144,11 +141,11 @@ module _ (app : App) where
   module _ (access : Accesses) (lists : Lists) (device : DeviceLists) (sound : SoundApp app) where
     hidden_rise : Rising 7 7 (hidden_causes app access)
     unfolding hidden_causes cause_order
-    hidden_rise = told_ascending 7 causes.Hidden (λ m. refl) method_order methods_total (λ m n. refl) (hidden app access)
+    hidden_rise = told_ascending 7 (λ m. causes.Hidden (method_called m)) (λ m. refl) triple_order triple_total (λ m n. refl) (hidden app access)
 
     interfaces_rise : Rising 8 8 (interface_causes access)
     unfolding interface_causes cause_order
-    interfaces_rise = told_ascending 8 causes.InterfaceCode (λ m. refl) method_order methods_total (λ m n. refl) (interface_code access)
+    interfaces_rise = told_ascending 8 (λ m. causes.InterfaceCode (method_called m)) (λ m. refl) triple_order triple_total (λ m n. refl) (interface_code access)
 
     platform_rise : Rising 9 9 (platform_causes app lists device)
     unfolding platform_causes cause_order
@@ -165,7 +162,7 @@ module _ (app : App) where
 
     clicks_rise : Rising 12 12 (click_causes app access lists)
     unfolding click_causes cause_order
-    clicks_rise = told_ascending 12 causes.Click (λ m. refl) method_order methods_total (λ m n. refl) (odd_clicks app access lists)
+    clicks_rise = told_ascending 12 (λ m. causes.Click (method_called m)) (λ m. refl) triple_order triple_total (λ m n. refl) (odd_clicks app access lists)
 
     strict_rise : Rising 7 12 (strict_causes app access lists device)
     unfolding strict_causes

@@ -13,11 +13,12 @@ use Rattle.device_lists.specs.declared.DeviceLists.{DeviceLists}
 use Rattle.fact_rows.specs.declared.row.Row.{Row}
 use Rattle.link_access.specs.Access.{Accesses}
 use Rattle.outcomes.specs.declared.outcome.Cause.{Cause}
+use Rattle.outcomes.specs.declared.outcome.MethodName.{MethodName}
 use Rattle.outcomes.specs.declared.outcome.Cause.TheVariants.{NoSummary, Native, Reflective, Provider, LayoutClass, TooLarge, Hidden, InterfaceCode, PlatformClass, UnlistedClass, LibraryStatic, Click, NamedClass}
 use Rattle.outcomes.specs.Causes.{causes_of, causes_too_large}
 use Rattle.outcomes.specs.Findings.{finding_order, findings_of}
 use Rattle.outcomes.specs.Places.{place_order}
-use Rattle.device_causes.specs.DeviceCauses.{device_causes, method_order}
+use Rattle.device_causes.specs.DeviceCauses.{device_causes}
 
 -- where the causes of this kind stand in a report
 abbrev pub kind : Cause → ℕ
@@ -34,6 +35,10 @@ kind (UnlistedClass class) = 10
 kind (LibraryStatic place) = 11
 kind (Click method) = 12
 kind (NamedClass class) = 13
+
+-- by class, name and descriptor
+abbrev pub method_order : MethodName → MethodName → Ordering
+method_order m n = ordering_then (ordering_then (name_order m.class n.class) (name_order m.name n.name)) (name_order m.descriptor n.descriptor)
 
 -- two causes of one kind by what they name
 abbrev pub named_order : Cause → Cause → Ordering
