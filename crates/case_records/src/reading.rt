@@ -1,7 +1,8 @@
 ghost use Rattle.std.specs.Prelude.{◌≡◌, [], IfOk};
 ghost use Rattle.case_rules.specs.Cases.{new_case};
 ghost use Rattle.vet_base.specs.Script.{Gives, repeat};
-ghost use Rattle.case_records.specs.Reading.{text_from, texts_of, content_of, decision_of, appeal_of, ruling_of, named_change, change_of};
+ghost use Rattle.case_records.specs.Reading.{text_from, texts_of, content_of, decision_of, appeal_of, ruling_of};
+ghost use Rattle.case_records.specs.Reading.{named_change, change_of};
 ghost use Rattle.case_records.specs.Into.{GivesInto};
 
 use crate::NoPayload;
@@ -166,8 +167,8 @@ fn named_change(
     }
 }
 
-/// The change whose bytes these are, or why they are none: the first of their tests that fails, in the order of the bytes.
-/// Beside the change no memory is taken.
+/// The change whose bytes these are, or why they are none: the first of their tests that fails, in the order of the
+/// bytes. Beside the change no memory is taken.
 #[tactic(auto, unfolding(crate::specs::Reading::change_of), using(vet_base::proofs::Scripts::run_bind))]
 pub fn change_of(alloc: Global, bytes: &[u8]) -> Result<Change, Stop<NoPayload>>
     ensures { Gives (λ x. x) result (change_of bytes.now) }

@@ -1,7 +1,9 @@
 ghost use Rattle.std.specs.Prelude.{◌≡◌, ◌<◌, ◌++◌, [], OnOk, length};
 ghost use Rattle.std.specs.List.{flat_map};
-ghost use Rattle.case_records.specs.Fitting.{TextFits, AllFit, ContentFits, DecisionFits, AppealFits, RulingFits, NamesFit, FieldsFit};
-ghost use Rattle.case_records.specs.Spelling.{text_bytes, texts_bytes, content_bytes, decision_bytes, appeal_bytes, ruling_bytes, named_bytes, change_bytes};
+ghost use Rattle.case_records.specs.Fitting.{TextFits, AllFit, ContentFits, DecisionFits, AppealFits, RulingFits};
+ghost use Rattle.case_records.specs.Fitting.{NamesFit, FieldsFit};
+ghost use Rattle.case_records.specs.Spelling.{text_bytes, texts_bytes, content_bytes, decision_bytes, appeal_bytes};
+ghost use Rattle.case_records.specs.Spelling.{ruling_bytes, named_bytes, change_bytes};
 
 use crate::fields::{outcome_byte, word_byte};
 use crate::numbers::{put_text, put_u4, put_u8};
@@ -88,8 +90,8 @@ fn put_name(out: &mut Vec<u8>, kind: u8, party: &Name, reference: &Name) -> Resu
     put_text(out, reference.as_bytes())
 }
 
-/// Puts the bytes of a change behind others; after want of memory they may be there in part. The entries of a case that is
-/// added are not written: it has none.
+/// Puts the bytes of a change behind others; after want of memory they may be there in part. The entries of a case that
+/// is added are not written: it has none.
 #[tactic(auto, unfolding(crate::specs::Spelling::change_bytes))]
 pub fn put_change(out: &mut Vec<u8>, change: &Change) -> Result<(), Memory>
     ensures bytes { OnOk result (out.new.items ≡ out.old.items ++ change_bytes change.now) }

@@ -1,6 +1,6 @@
-//! Small facts that show that the definitions by which a client makes a submission, reads replies and tries again mean what
-//! they should. Each is a theorem over the definitions that the clauses of `client_http`, `client_replies`, `desk_client`
-//! and `client_law` name, so that code which answers otherwise is refused.
+//! Small facts that show that the definitions by which a client makes a submission, reads replies and tries again mean
+//! what they should. Each is a theorem over the definitions that the clauses of `client_http`, `client_replies`,
+//! `desk_client` and `client_law` name, so that code which answers otherwise is refused.
 #![tactic(auto)]
 
 ghost use Rattle.client_witness.specs.OneCase.{OneCase};

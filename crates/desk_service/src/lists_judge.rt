@@ -106,7 +106,13 @@ fn flow_texts_of(alloc: Global, lists: &Shared<u8>, content: &Content) -> Result
 }
 
 fn joined(app: AppTexts, flow: FlowTexts, dex: Seq<Seq<u8>>) -> Parts
-    ensures { result ≡ record { manifest = app.manifest; layouts = app.layouts; declaration = flow.declaration; lists = flow.lists; dex = dex } }
+    ensures { result ≡ record {
+      manifest = app.manifest;
+      layouts = app.layouts;
+      declaration = flow.declaration;
+      lists = flow.lists;
+      dex = dex;
+    } }
 {
     Parts {
         manifest: app.manifest,

@@ -1,7 +1,6 @@
 //! Clicks that come to what is no activity, and clicks of menus.
 
-ghost use Rattle.std.specs.Prelude.{◌≡◌, ◌++◌, IfOk, OnOk, map};
-ghost use Rattle.app_machine.specs.Lookups.{up};
+ghost use Rattle.std.specs.Prelude.{◌≡◌, ◌++◌, IfOk, OnOk};
 ghost use Rattle.app_machine.specs.Names.{click_descriptor, same_name};
 ghost use Rattle.app_machine.specs.Sound.{SoundApp};
 ghost use Rattle.device_causes.specs.Clicks.{context_class, menu_descriptor, context_names, any_context};
@@ -11,8 +10,9 @@ ghost use Rattle.device_causes.specs.Sets.{is_among, IsSetOf};
 
 use crate::interfaces::method_named;
 use crate::sets::NameSet;
+use crate::superclasses::add_upward;
 use app_machine::{App, Component, Kind, LibClass, Lists};
-use app_model::{class_of, classes_upward, next_class};
+use app_model::class_of;
 use link_access::{Accesses, ClassAccess, MethodAccess};
 use link_listing::Triple;
 use outcomes::copied;
@@ -61,20 +61,6 @@ fn is_activity(kind: Kind) -> bool
         Kind::Activity => true,
         Kind::Application | Kind::Service | Kind::Receiver => false,
     }
-}
-
-/// Puts the names of a class and of those above it along superclasses behind the others.
-#[tactic(auto, using(crate::proofs::Ways::way_begins, crate::proofs::Ways::way_goes_on, crate::proofs::Ways::way_done))]
-pub fn add_upward(app: &App, class: &Name, names: &mut Vec<Name>) -> Result<(), Memory>
-    requires { SoundApp app.now }
-    ensures { OnOk result (names.new.items ≡ names.old.items ++ map (λ k. k.name) (up app.now class.now)) }
-{
-    let mut walk = classes_upward(app, class.as_bytes());
-    while let Some((class, rest)) = next_class(app, walk) {
-        names.push(class.name.copy()?)?;
-        walk = rest;
-    }
-    Ok(())
 }
 
 #[tactic(auto, unfolding(crate::specs::Clicks::activity_names))]

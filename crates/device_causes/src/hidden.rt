@@ -35,7 +35,8 @@ fn is_hidden(
     class: &Class,
     method: &MethodAccess,
 ) -> Result<bool, Memory>
-    requires { Stands app.now access.now.entries (classes_from app.now class.now.superclass) path.now.steps.items (known_in path.now.known) }
+    requires { Stands app.now access.now.entries (classes_from app.now class.now.superclass)
+        path.now.steps.items (known_in path.now.known) }
     ensures { IfOk result (λ b. b ≡ is_hidden app.now access.now.entries class.now method.now) }
 {
     if is_special(method) {
@@ -53,7 +54,8 @@ fn hidden_on(
     path: &Path,
     class: &Class,
 ) -> Result<Vec<Triple>, Memory>
-    requires { Stands app.now access.now.entries (classes_from app.now class.now.superclass) path.now.steps.items (known_in path.now.known) }
+    requires { Stands app.now access.now.entries (classes_from app.now class.now.superclass)
+        path.now.steps.items (known_in path.now.known) }
     ensures { IfOk result (λ v. v.items ≡ hidden_of app.now access.now.entries class.now) }
 {
     let mut found = Vec::new(alloc);

@@ -12,5 +12,6 @@ mod path;
 mod platform;
 mod seen;
 mod sets;
+mod superclasses;
 
 pub use causes::device_causes;

@@ -1,17 +1,19 @@
 //! A path of app classes upward along superclasses, with what is known of their methods by name and descriptor. A step
 //! down or up costs the methods of one class.
 
-ghost use Rattle.std.specs.Prelude.{◌≡◌, ◌+◌, ◌<◌, ◌++◌, ◌∷◌, [], List, Some, IfOk, IsFalse, IsTrue, OnOk, if◌then◌else◌, length, map};
+ghost use Rattle.std.specs.Prelude.{◌≡◌, ◌+◌, ◌<◌, ◌++◌, ◌∷◌, [], List, Some, IfOk, IsFalse, IsTrue, OnOk};
+ghost use Rattle.std.specs.Prelude.{if◌then◌else◌, length, map};
 ghost use Rattle.app_machine.specs.declared.app.Class.{Class as AppClass};
 ghost use Rattle.app_machine.specs.Lookups.{up};
 ghost use Rattle.app_machine.specs.Sound.{SoundApp};
 ghost use Rattle.app_model.specs.ClassWalks.{classes_from};
 ghost use Rattle.device_causes.specs.Hidden.{methods_of};
-ghost use Rattle.device_causes.specs.Path.{Entered, IsPath, Known, Signature as NameAndDescriptor, Stands, known_in, known_hides, signature_of, taken_back, with_known};
+ghost use Rattle.device_causes.specs.Path.{Entered, IsPath, Known, Signature as NameAndDescriptor, Stands, known_in};
+ghost use Rattle.device_causes.specs.Path.{known_hides, signature_of, taken_back, with_known};
 ghost use Rattle.device_causes.specs.Seen.{begun, with_method};
 
-use crate::clicks::add_upward;
 use crate::seen::{Seen, begun, maybe_hides, with_method};
+use crate::superclasses::add_upward;
 use app_machine::App;
 use link_access::{Accesses, MethodAccess};
 use std::alloc::Global;
@@ -68,7 +70,8 @@ fn seen_of(known: &KnownMap, method: &MethodAccess) -> Result<Seen, Memory>
 
 /// The same, with the method, which is of the class.
 fn seen_with(known: &KnownMap, class: &Name, method: &MethodAccess) -> Result<Seen, Memory>
-    ensures { IfOk result (λ s. s ≡ with_method (begun (known_in known.now (signature_of method.now))) class.now method.now) }
+    ensures { IfOk result (λ s. s ≡ with_method (begun (known_in known.now (signature_of method.now)))
+        class.now method.now) }
 {
     let seen = seen_of(known, method)?;
     with_method(seen, class, method)
@@ -148,7 +151,8 @@ fn enter(
 
 /// Puts back what was known under a signature.
 fn put_back(known: &mut KnownMap, change: (Signature, Option<Seen>)) -> Result<(), Memory>
-    ensures { OnOk result ((q : NameAndDescriptor) → known_in known.new q ≡ with_known change.0 change.1 (known_in known.old) q) }
+    ensures { OnOk result ((q : NameAndDescriptor) →
+        known_in known.new q ≡ with_known change.0 change.1 (known_in known.old) q) }
 {
     let (key, before) = change;
     match before {
@@ -165,7 +169,8 @@ fn put_back(known: &mut KnownMap, change: (Signature, Option<Seen>)) -> Result<(
 /// Takes back the changes.
 #[tactic(auto, using(crate::proofs::Paths::back_done))]
 fn leave(known: &mut KnownMap, mut undo: Undo) -> Result<(), Memory>
-    ensures { OnOk result ((q : NameAndDescriptor) → known_in known.new q ≡ taken_back undo.items (known_in known.old) q) }
+    ensures { OnOk result ((q : NameAndDescriptor) →
+        known_in known.new q ≡ taken_back undo.items (known_in known.old) q) }
 {
     while let Some(change) = undo.pop() {
         put_back(known, change)?;
@@ -188,7 +193,8 @@ pub fn no_path(alloc: Global, app: &App, access: &Accesses) -> Path
 #[tactic(auto, using(crate::proofs::Standing::stands_there))]
 fn stands_at(app: &App, access: &Accesses, path: &Path, name: &Name) -> bool
     requires { IsPath app.now access.now.entries path.now }
-    ensures { IsTrue result → Stands app.now access.now.entries (up app.now name.now) path.now.steps.items (known_in path.now.known) }
+    ensures { IsTrue result → Stands app.now access.now.entries (up app.now name.now)
+        path.now.steps.items (known_in path.now.known) }
 {
     match path.steps.last() {
         Some(step) => step.class == *name,
@@ -275,7 +281,8 @@ fn climb_down(
 ) -> Result<(), Memory>
     requires sound { SoundApp app.now }
     requires ground { Stands app.now access.now.entries [] path.old.steps.items (known_in path.old.known) }
-    ensures { OnOk result (Stands app.now access.now.entries (up app.now name.now) path.new.steps.items (known_in path.new.known)) }
+    ensures { OnOk result (Stands app.now access.now.entries (up app.now name.now)
+        path.new.steps.items (known_in path.new.known)) }
 {
     let mut way = way_up(alloc, app, name)?;
     while let Some(class) = way.pop() {

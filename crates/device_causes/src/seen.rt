@@ -2,7 +2,8 @@
 
 ghost use Rattle.std.specs.Prelude.{◌≡◌, IfOk};
 ghost use Rattle.std.specs.Option.{option_copied};
-ghost use Rattle.device_causes.specs.Seen.{same_package, is_elsewhere, maybe_hides, with_package, with_packages, begun, with_method};
+ghost use Rattle.device_causes.specs.Seen.{same_package, is_elsewhere, maybe_hides, with_package, with_packages, begun};
+ghost use Rattle.device_causes.specs.Seen.{with_method};
 
 use crate::packages::package_of;
 use link_access::MethodAccess;

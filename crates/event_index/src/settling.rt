@@ -87,7 +87,8 @@ fn fill(
     requires settled { AreSettled app.now listed.now rows.now }
     requires there { class_named app.now class.now.name ≡ Some class.now }
     requires long { length row.now ≡ word_count listed.now.kinds.count }
-    ensures { AddsIf listed.now.kinds row.old row.new (is_class_below app.now listed.now.lists.now class.now.name) result }
+    ensures { AddsIf listed.now.kinds row.old row.new (is_class_below app.now listed.now.lists.now class.now.name)
+        result }
 {
     events_are_exact();
     listed.add(row, class.name.as_bytes());

@@ -5,7 +5,8 @@ ghost use Rattle.app_machine.specs.declared.lists.Lists.{Lists};
 ghost use Rattle.app_machine.specs.Names.{Name as NameOf, is_reference};
 ghost use Rattle.app_machine.specs.Sound.{SoundApp};
 ghost use Rattle.rule_ground.specs.Below.{for_below};
-ghost use Rattle.event_rules.specs.GivenBack.{TakesNone, back, back_index, back_premises, back_register, takes, type_at};
+ghost use Rattle.event_rules.specs.GivenBack.{TakesNone, back, back_index, back_premises, back_register, takes};
+ghost use Rattle.event_rules.specs.GivenBack.{type_at};
 
 use crate::handed::HandedObject;
 use crate::known::Known;

@@ -5,8 +5,8 @@ ghost use Rattle.journal_law.specs.Reading.{TellsTheCases, fits};
 
 use case_rules::{Case, Change};
 
-/// Bytes hold one list of cases, or are foreign, or are bad at one place; and what is told of them is the cases that they
-/// hold, or none. This function does nothing; it is there for its contract.
+/// Bytes hold one list of cases, or are foreign, or are bad at one place; and what is told of them is the cases that
+/// they hold, or none. This function does nothing; it is there for its contract.
 pub fn a_journal_has_one_reading()
     ensures one { HaveOneReading }
     ensures told { TellsTheCases }

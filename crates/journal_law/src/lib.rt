@@ -1,5 +1,5 @@
-//! What bytes hold as a journal of cases: a log with a record for each change, each of which fits. Bytes hold one list of
-//! cases, or are foreign, or are bad at one place.
+//! What bytes hold as a journal of cases: a log with a record for each change, each of which fits. Bytes hold one list
+//! of cases, or are foreign, or are bad at one place.
 #![tactic(auto)]
 
 mod fitting;

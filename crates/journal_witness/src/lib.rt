@@ -1,5 +1,5 @@
-//! Small facts about journals: what the bytes of a change are not, which changes do not fit, and what bytes do not hold. Each
-//! excludes code that answers otherwise. These functions do nothing; they are there for their contracts.
+//! Small facts about journals: what the bytes of a change are not, which changes do not fit, and what bytes do not
+//! hold. Each excludes code that answers otherwise. These functions do nothing; they are there for their contracts.
 #![tactic(auto)]
 
 ghost use Rattle.journal_witness.specs.JournalFacts.{JournalsTell};

@@ -1,7 +1,8 @@
 //! Rules 4 to 7: what follows from the labels of a register.
 ghost use Rattle.std.specs.Prelude.{◌≡◌, OnOk, fold};
 ghost use Rattle.app_machine.specs.Sound.{SoundApp};
-ghost use Rattle.step_rules.specs.StepGiven.{is_bare, rest_gives, size_gives, label_gives, taint_leads, taint_on, step_here};
+ghost use Rattle.step_rules.specs.StepGiven.{is_bare, rest_gives, size_gives, label_gives, taint_leads, taint_on};
+ghost use Rattle.step_rules.specs.StepGiven.{step_here};
 
 use crate::contents::{content, put};
 use crate::numbers;

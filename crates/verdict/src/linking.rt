@@ -40,7 +40,8 @@ struct SeenApp {
     access: Accesses,
 }
 
-/// Gives back the memory of an app and of its papers. Where that stands beside what is known of them, it is dear to prove.
+/// Gives back the memory of an app and of its papers. Where that stands beside what is known of them, it is dear to
+/// prove.
 pub(crate) fn give_back(_linked: Linked) {}
 
 /// Likewise of the files.
@@ -101,7 +102,8 @@ fn app_by(alloc: Global, parts: &Parts, papers: &Papers) -> Result<SeenApp, Halt
     requires papers { HasPapers parts.now papers.now }
     requires manifest { SoundManifest papers.now.manifest }
     requires layouts { SoundLayouts papers.now.layouts }
-    ensures linked { IfOk result (λ seen. IsLinked parts.now (record { papers = papers.now; app = seen.app; access = seen.access })) }
+    ensures linked { IfOk result (λ seen. IsLinked parts.now
+        (record { papers = papers.now; app = seen.app; access = seen.access })) }
     ensures sound { IfOk result (λ seen. SoundApp seen.app) }
     ensures err { IfErr result (λ h. Halts (RefusesOnly parts.now) h) }
 {

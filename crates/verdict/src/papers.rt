@@ -190,7 +190,14 @@ fn flow_forms_of(alloc: Global, parts: &Parts, app: &AppForms) -> Result<FlowFor
 }
 
 fn joined(app: AppForms, flow: FlowForms) -> Papers
-    ensures { result ≡ record { manifest = app.manifest.manifest; layouts = app.layouts; declaration = flow.declaration; lists = flow.lists.lists; device = flow.lists.device; named = app.manifest.named } }
+    ensures { result ≡ record {
+      manifest = app.manifest.manifest;
+      layouts = app.layouts;
+      declaration = flow.declaration;
+      lists = flow.lists.lists;
+      device = flow.lists.device;
+      named = app.manifest.named;
+    } }
 {
     let AppForms { manifest, layouts } = app;
     let FlowForms { declaration, lists } = flow;
