@@ -193,6 +193,27 @@ def hidden_wide(n):
     return strict(dex)
 
 
+def hidden_comb(n):
+    """A chain of classes with as many leaves, one below each, and in all of them a method of one name."""
+    dex, above = DexFile(), 'Ljava/lang/Object;'
+    for i in range(n):
+        for name, flags in ((f'Lp{i % 7}/c{i};', PUBLIC), (f'Lq/d{i};', PRIVATE)):
+            dex.add_class(name, above, methods=[(dex.method(name, 'm'), flags, code_item(1, 1, unit(RETURN_VOID)))])
+            above = f'Lp{i % 7}/c{i};'
+    return strict(dex)
+
+
+def hidden_star(n):
+    """One class with many methods above as many classes, each of which hides one of them."""
+    dex, hub = DexFile(), 'La;'
+    methods = [(dex.method(hub, f'm{i}'), PUBLIC, code_item(1, 1, unit(RETURN_VOID))) for i in range(n)]
+    dex.add_class(hub, methods=methods)
+    for i in range(n):
+        name = f'Lb{i};'
+        dex.add_class(name, hub, methods=[(dex.method(name, f'm{i}'), PRIVATE, code_item(1, 1, unit(RETURN_VOID)))])
+    return strict(dex)
+
+
 def unlisted(n):
     """Classes each with an interface of its own, which the lists don't have."""
     dex = DexFile()
@@ -228,6 +249,8 @@ CASES = {
     'listened_chain': (20_000, lambda n: listened(n, is_chain=True)),
     'hidden_chain': (30_000, hidden_chain),
     'hidden_wide': (30_000, hidden_wide),
+    'hidden_comb': (10_000, hidden_comb),
+    'hidden_star': (10_000, hidden_star),
     'unlisted': (15_000, unlisted),
     'library_statics': (30_000, library_statics),
 }
