@@ -19,8 +19,8 @@ use Rattle.one_answer.specs.Answers.{ClientHasOneAnswer}
 use Rattle.verdict.specs.declared.outcome.Part.TheVariants.{Manifest as manifest_part}
 use Rattle.verdict.specs.declared.outcome.Reason.TheVariants.{Form as BadForm}
 use Rattle.app_folder.specs.Folder.{Refusal as FileRefusal}
-use Rattle.client_service.specs.declared.client.Unfit.{Unfit}
-use Rattle.client_service.specs.declared.client.Unfit.TheVariants.{Absent, TooLong, Form}
+use Rattle.verdict_report.specs.declared.unfit.Unfit.{Unfit}
+use Rattle.verdict_report.specs.declared.unfit.Unfit.TheVariants.{Absent, TooLong, Form}
 use Rattle.client_service.specs.declared.ready.Refusal.{Refusal}
 use Rattle.client_service.specs.declared.ready.Refusal.TheVariants as refusals
 use Rattle.client_service.specs.Clients.{HasText, IsUnfit, SaysClient}
