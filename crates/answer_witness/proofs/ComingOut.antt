@@ -1,5 +1,5 @@
 -- Outcomes compute, and rows are good or have a defect.
-use Rattle.std.proofs.Common.{◌≡◌, ◌+◌, ◌++◌, ℕ, List, [], ◌∷◌, length, Option, Some, None, refl, sym, ap, ◌∙◌, arith}
+use Rattle.std.proofs.Common.{◌≡◌, ◌+◌, ◌++◌, ℕ, List, [], ◌∷◌, length, Option, Some, None, refl, ap, arith}
 use Rattle.std.proofs.lemmas.List.{length-append}
 use Rattle.app_flow.specs.Defect.{OneDefect}
 use Rattle.app_flow.specs.declared.flow.Flow.TheVariants as flows

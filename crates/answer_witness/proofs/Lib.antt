@@ -1,4 +1,5 @@
 pub mod ComingOut
+pub mod Flows
 pub mod Gathered
 pub mod Judging
 pub mod Rows

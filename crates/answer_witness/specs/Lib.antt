@@ -1,3 +1,4 @@
+pub mod FlowFacts
 pub mod FolderFacts
 pub mod GroundFacts
 pub mod JudgingFacts

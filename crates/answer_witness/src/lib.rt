@@ -4,6 +4,7 @@
 //! code which answers otherwise is refused.
 #![tactic(auto)]
 
+ghost use Rattle.answer_witness.specs.FlowFacts.{AllFlowsAreTold};
 ghost use Rattle.answer_witness.specs.FolderFacts.{FolderIsGathered};
 ghost use Rattle.answer_witness.specs.GroundFacts.{RowsAreSought};
 ghost use Rattle.answer_witness.specs.JudgingFacts.{PartsAreJudged};
@@ -43,6 +44,13 @@ pub fn parts_are_judged()
 /// a certificate to a defect just where they are no good table.
 pub fn apps_come_out()
     ensures { AppsComeOut }
+{
+    one_defect();
+}
+
+/// What follows keeps to the limit of the lists, and rows that are no good table have the defect that they have.
+pub fn flows_are_told()
+    ensures { AllFlowsAreTold }
 {
     one_defect();
 }
