@@ -1,0 +1,4 @@
+pub mod Checked
+pub mod Looking
+pub mod Reading
+pub mod Telling
