@@ -4,9 +4,12 @@ pub mod Eights
 pub mod Ending
 pub mod Firm
 pub mod Going
+pub mod Known
+pub mod Lasting
 pub mod Mending
 pub mod OneLog
 pub mod Pieces
 pub mod Records
+pub mod Remaining
 pub mod Shutting
 pub mod Standing

@@ -128,7 +128,7 @@ gate_torn front rest gate m torn is firm t =
 
 module _ (front payload : List ℕ) where
   -- the record stands whole behind whatever gate
-  by_gate : (gate : ℕ) (left : List ℕ) → left ≡ front ++ gate ∷ behind_gate payload → EndsWithEither front payload left
+  pub by_gate : (gate : ℕ) (left : List ℕ) → left ≡ front ++ gate ∷ behind_gate payload → EndsWithEither front payload left
   by_gate zero left is = inl (record { rest = 0 ∷ behind_gate payload; is = is; none = closed_gate (behind_gate payload) })
   by_gate (suc zero) left is = inr (record {
     rest = 0 ∷ [];

@@ -1,7 +1,7 @@
 -- A log as the list of its payloads.
 use Rattle.std.specs.Prelude.{◌≡◌, ◌<◌, ℕ, List, [], ◌∷◌, ◌++◌, length}
 use Rattle.std.specs.List.{AllByRecursion, flat_map}
-use Rattle.gated_log.specs.Format.{magic, record_bytes, NoRecord, EndsWith}
+use Rattle.gated_log.specs.Format.{magic, record_bytes, EndsWith}
 
 -- each length has room in eight bytes
 abbrev pub AreShort : List (List ℕ) → Type 0

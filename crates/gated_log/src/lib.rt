@@ -13,4 +13,4 @@ mod staying;
 pub use closing::{begun_log, closed_log};
 pub use law::bytes_are_one_log;
 pub use log::{Gate, Log};
-pub use reading::{record_at, settled_length};
+pub use reading::{begins_as_log, record_at, settled_length};

@@ -28,10 +28,11 @@ pub struct Log {
 
 impl Log {
     ghost use Rattle.gated_log.specs.Ends.{Stands, front_of, LeavesEither, LeavesLast};
+    ghost use Rattle.gated_log.specs.Last.{LastIs, KeepsLast};
 
     /// Adds a record with this payload. From Ok on it stays. After a fault the log ends where it did, and its gate says
-    /// what is to be mended. At every moment a crash leaves what was there, with the record or without. A log of 2^64
-    /// bytes or more is want of memory.
+    /// what is to be mended; behind one that was touched stands this record and no other. At every moment a crash
+    /// leaves what was there, with the record or without. A log of 2^64 bytes or more is want of memory.
     pub fn append<D: Disk>(
         &mut self,
         alloc: Global,
@@ -48,6 +49,7 @@ impl Log {
             ≡ option_map (λ front. front ++ record_bytes payload.now) (front_of self.old (D.told disk.old))) }
         ensures as_long { OnErr result (self.new.end ≡ self.old.end) }
         ensures kept { OnErr result (front_of self.new (D.told disk.new) ≡ front_of self.old (D.told disk.old)) }
+        ensures last { IfSome (D.told disk.new) (LastIs payload.now self.new) }
         ensures any_moment { LeavesEither self.old.end payload.now (D.told disk.old) (D.told disk.new) }
         ensures cause { DiskCause (D.fault_count disk.old) (D.fault_count disk.new) result }
         ensures room { self.new.end < 18446744073709551615 }
@@ -75,6 +77,7 @@ impl Log {
         ensures closed { OnOk result (self.new.gate ≡ Gate.Closed) }
         ensures as_long { self.new.end ≡ self.old.end }
         ensures kept { front_of self.new (D.told disk.new) ≡ front_of self.old (D.told disk.old) }
+        ensures last { KeepsLast self.old self.new (D.told disk.old) (D.told disk.new) }
         ensures any_moment { LeavesLast self.old (D.told disk.old) (D.told disk.new) }
         ensures cause { DiskCause (D.fault_count disk.old) (D.fault_count disk.new) result }
     {
@@ -92,6 +95,7 @@ impl Log {
         ensures closed { OnOk result (self.new.gate ≡ Gate.Closed) }
         ensures as_long { self.new.end ≡ self.old.end }
         ensures kept { front_of self.new (D.told disk.new) ≡ front_of self.old (D.told disk.old) }
+        ensures last { KeepsLast self.old self.new (D.told disk.old) (D.told disk.new) }
         ensures any_moment { LeavesLast self.old (D.told disk.old) (D.told disk.new) }
         ensures cause { DiskCause (D.fault_count disk.old) (D.fault_count disk.new) result }
     {
@@ -102,9 +106,9 @@ impl Log {
         Ok(())
     }
 
-    /// Makes the end a closed gate that is the last byte. After a fault the log ends where it
-    /// did, and its gate says what is left to mend. At every moment a crash leaves what was
-    /// before the gate; where the gate was touched, with the record behind it or without.
+    /// Makes the end a closed gate that is the last byte. After a fault the log ends where it did, and its gate says
+    /// what is left to mend; behind one that is still touched stands the record that stood there. At every moment a
+    /// crash leaves what was before the gate; where the gate was touched, with the record behind it or without.
     pub fn mend<D: Disk>(&mut self, disk: &mut D) -> Result<(), DiskFault>
         requires stands { IfSome (D.told disk.old) (Stands self.old) }
         requires room { self.old.end < 18446744073709551615 }
@@ -112,6 +116,7 @@ impl Log {
         ensures closed { OnOk result (self.new.gate ≡ Gate.Closed) }
         ensures as_long { self.new.end ≡ self.old.end }
         ensures kept { front_of self.new (D.told disk.new) ≡ front_of self.old (D.told disk.old) }
+        ensures last { KeepsLast self.old self.new (D.told disk.old) (D.told disk.new) }
         ensures any_moment { LeavesLast self.old (D.told disk.old) (D.told disk.new) }
         ensures cause { DiskCause (D.fault_count disk.old) (D.fault_count disk.new) result }
     {

@@ -5,9 +5,13 @@ ghost use Rattle.disks.specs.Disks.{DiskCause, Measures};
 ghost use Rattle.gated_log.specs.Reading.{ReadsOn, items_of};
 ghost use Rattle.gated_log.specs.Calls.{Settles};
 ghost use Rattle.gated_log.specs.Format.{record_length, first_record};
+ghost use Rattle.gated_log.specs.Known.{IsKnown};
 
 use disks::{Disk, DiskFault};
 use std::alloc::Global;
+
+/// VETJRNL1: the bytes by which a log is known.
+const MAGIC: [u8; 8] = [86, 69, 84, 74, 82, 78, 76, 49];
 
 /// Reads once, into the room behind its first bytes, and gives
 /// how many came: what stands behind as many from the offset on.
@@ -107,6 +111,16 @@ pub fn record_at<D: Disk>(
         return Ok(None);
     }
     Ok(Some(payload))
+}
+
+/// Whether the disk begins with the bytes by which a log is known.
+pub fn begins_as_log<D: Disk>(alloc: Global, disk: &mut D) -> Result<bool, DiskFault>
+    ensures answer { IfOk result (λ yes. IfSome (D.told disk.old) (λ t. IsKnown yes t.now.bytes)) }
+    ensures told { D.told disk.new ≡ D.told disk.old }
+    ensures cause { DiskCause (D.fault_count disk.old) (D.fault_count disk.new) result }
+{
+    let found = piece(alloc, disk, 0, 8)?;
+    Ok(found.as_slice() == MAGIC.as_slice())
 }
 
 /// Makes what the disk holds stay, and gives how many bytes that is.

@@ -1,6 +1,7 @@
-use Rattle.gated_log.specs.declared.log.Gate.TheVariants.{Touched}
+use Rattle.std.proofs.Common.{refl}
+use Rattle.gated_log.specs.declared.log.Gate.TheVariants.{Closed, Behind, Touched}
 use Rattle.gated_log.proofs.Mending as mending
-use Rattle.gated_log.proofs.Shutting as shutting
+use Rattle.gated_log.proofs.Lasting.{behind_keeps, closed_keeps, doubt_keeps}
 use Rattle.gated_log.proofs.log.Log.mend_touched.Goals as goal
 
 pub write_to_stay-requires : goal.write_to_stay-requires
@@ -69,3 +70,23 @@ returns-clause-any_moment g c =
     let told = g.D.Disk.told in
     let log = c.args.self.now in
     mending.touched_moments log (told c.args.disk.now) c.requires.touched c.requires.stands (mending.AtLast log.end (mending.Done log.end)) (told c.cut_to_stay.new.disk) (mending.is_cut log (told c.args.disk.now) c.requires.touched c.requires.stands (told c.write_to_stay.new.disk) c.in_ok-write_to_stay.field-0 c.in_ok-write_to_stay.ensures.told (told c.cut_to_stay.new.disk) c.in_ok-cut_to_stay.field-0 c.in_ok-cut_to_stay.ensures.told)
+
+pub returns-in_err-write_to_stay-clause-last : goal.returns-in_err-write_to_stay-clause-last
+returns-in_err-write_to_stay-clause-last g c =
+    let told = g.D.Disk.told in
+    let log = c.args.self.now in
+    doubt_keeps log log (told c.args.disk.now) (told c.write_to_stay.new.disk) c.requires.touched refl (mending.not_shut log (told c.args.disk.now) c.requires.touched c.requires.stands (told c.write_to_stay.new.disk) _ c.in_err-write_to_stay.ensures.told)
+
+pub returns-in_err-cut_to_stay-clause-last : goal.returns-in_err-cut_to_stay-clause-last
+returns-in_err-cut_to_stay-clause-last g c =
+    let told = g.D.Disk.told in
+    let log = c.args.self.now in
+    behind_keeps log (record { end = log.end; gate = Behind }) (told c.args.disk.now) (told c.cut_to_stay.new.disk) refl
+    (mending.touched_moments log (told c.args.disk.now) c.requires.touched c.requires.stands (mending.AtLast log.end (mending.Shut log.end)) (told c.cut_to_stay.new.disk) (mending.not_cut log (told c.args.disk.now) c.requires.touched c.requires.stands (told c.write_to_stay.new.disk) c.in_ok-write_to_stay.field-0 c.in_ok-write_to_stay.ensures.told (told c.cut_to_stay.new.disk) _ c.in_err-cut_to_stay.ensures.told))
+
+pub returns-clause-last : goal.returns-clause-last
+returns-clause-last g c =
+    let told = g.D.Disk.told in
+    let log = c.args.self.now in
+    closed_keeps log (record { end = log.end; gate = Closed }) (told c.args.disk.now) (told c.cut_to_stay.new.disk) refl
+    (mending.touched_moments log (told c.args.disk.now) c.requires.touched c.requires.stands (mending.AtLast log.end (mending.Done log.end)) (told c.cut_to_stay.new.disk) (mending.is_cut log (told c.args.disk.now) c.requires.touched c.requires.stands (told c.write_to_stay.new.disk) c.in_ok-write_to_stay.field-0 c.in_ok-write_to_stay.ensures.told (told c.cut_to_stay.new.disk) c.in_ok-cut_to_stay.field-0 c.in_ok-cut_to_stay.ensures.told))
