@@ -1,0 +1,12 @@
+mod Called
+mod Chosen
+mod Counting
+mod Got
+mod Librarian
+mod Ordered
+mod Quiet
+mod Reached
+mod Running
+mod Standing
+mod Stepping
+mod Taking

@@ -1,0 +1,11 @@
+pub mod Calling
+pub mod Coming
+pub mod Drawing
+pub mod Drawn
+pub mod Laws
+pub mod Librarian
+pub mod Local
+pub mod Ordered
+pub mod Reading
+pub mod Standing
+pub mod Step
