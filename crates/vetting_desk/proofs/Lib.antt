@@ -1,5 +1,6 @@
 pub mod PartsDue
 pub mod ByFile
+pub mod Clearing
 pub mod Commands
 pub mod Ending
 pub mod Generated

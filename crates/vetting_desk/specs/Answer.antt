@@ -1,5 +1,5 @@
 -- What is due to the words; when that says clear, and what clear says; and which files a command reads.
-use Rattle.std.specs.Prelude.{◌≡◌, ◌⊎◌, ℕ, List, length, Option, Some, None, IsTrue, is_some}
+use Rattle.std.specs.Prelude.{◌≡◌, ◌⊎◌, ℕ, List, ◌++◌, length, Option, Some, None, IsTrue, is_some, codes}
 use Rattle.std.specs.Option.{option_map}
 use Rattle.vet_base.specs.Outside.{Told, held_by}
 use Rattle.verdict.specs.declared.outcome.Judged.{Judged}
@@ -41,6 +41,10 @@ pub record HasSafeApp (dir : List ℕ) (told : Option Told) : Type 0 where
   pub holds : IsTrue (is_some told) → Holds (held_by told) dir parts
   pub safe : IsSafeApp parts
 
+-- a text begins with another one
+abbrev pub BeginsWith : List ℕ → List ℕ → Type 0
+BeginsWith front text = (rest : List ℕ) × (text ≡ front ++ rest)
+
 -- the status says that the app of the words is clear
 abbrev pub SaysClear : Option Words → ℕ → Type 0
 SaysClear None status = ⊥
@@ -48,6 +52,14 @@ SaysClear (Some (Check dir n)) status = status ≡ 0
 SaysClear (Some (Certify dir cert)) status = status ≡ 0
 SaysClear (Some (Recheck dir cert)) status = status ≡ 0
 SaysClear (Some (Make seed size n)) status = status ≡ 0
+
+-- the text begins with the word `clear`, be it cut off behind it; `make` prints a summary, and no such text
+abbrev pub TellsClear : Option Words → List ℕ → Type 0
+TellsClear None text = ⊥
+TellsClear (Some (Check dir n)) text = BeginsWith (codes "clear") text
+TellsClear (Some (Certify dir cert)) text = BeginsWith (codes "clear") text
+TellsClear (Some (Recheck dir cert)) text = BeginsWith (codes "clear") text
+TellsClear (Some (Make seed size n)) text = ⊥
 
 -- the words name a safe app
 abbrev pub IsSafe : Option Words → Tells → Type 0

@@ -6,7 +6,7 @@ use Rattle.vet_base.specs.declared.outside.FileFault.{FileFault}
 use Rattle.vet_base.specs.declared.outside.FileFault.TheVariants as faults
 use Rattle.vetting_desk.specs.declared.answer.Status.{Status}
 use Rattle.desk_words.specs.Words.{Words}
-use Rattle.vetting_desk.specs.Answer.{Answers, IsFullReport}
+use Rattle.vetting_desk.specs.Answer.{Answers, IsFullReport, TellsClear}
 use Rattle.app_folder.specs.Due.{Due, NewFile}
 use Rattle.vetting_desk.specs.Due.{read_fault_text}
 use Rattle.vetting_desk.specs.declared.finding.Found.{Found}
@@ -81,6 +81,14 @@ pub record PrintsFullReport (words : Option Words) (old new : Outside) (status :
   pub text : List ℕ
   pub prints : Prints text old new
   pub full : IsFullReport words old.tells status text
+
+-- In between the sink took a text that tells that the app of the words is clear, where the sink tells.
+pub record TakesClear (words : Option Words) (old new : Outside) : Type 0 where
+  pub before : List ℕ
+  pub text : List ℕ
+  pub old_is : old.tells.printed ≡ Some before
+  pub new_is : new.tells.printed ≡ Some (before ++ text)
+  pub tells : TellsClear words text
 
 -- What a put of a text came to: the text went out and the status stands; or the sink failed, having taken a front of the text; or
 -- memory ran out.

@@ -7,7 +7,7 @@ ghost use Rattle.vetting_desk.specs.Due.{due_of};
 ghost use Rattle.vetting_desk.specs.Found.{TheDue, Says, file_of};
 ghost use Rattle.app_folder.specs.Outside.{outside};
 ghost use Rattle.vetting_desk.specs.Top.{PutsText, WritesDue, status_of_write, Finishes};
-ghost use Rattle.vetting_desk.specs.Top.{Ends, EndsAsDue, EndsAsOnlyDue, PrintsFullReport};
+ghost use Rattle.vetting_desk.specs.Top.{Ends, EndsAsDue, EndsAsOnlyDue, PrintsFullReport, TakesClear};
 
 use crate::answer::{Answer, Status, read_fault, status_saying, text_saying};
 use crate::finding::{Found, found_in};
@@ -149,7 +149,8 @@ fn run<F: Files, O: Sink, T: Threads + Wait + Sync, L: Lookout>(
 /// - 3, refused: a file is absent or too long, that of the certificate too, or the parts are no app.
 /// - 4: the words are no command. A line that says so is printed.
 /// - 5: a read of a file of this command failed in this call. A line with the file's name is printed.
-/// - 6: the put failed in this call, and a front of the text that was due was printed; or the write of the certificate
+/// - 6: the put failed in this call, and a front of the text that was due was printed; where that has the word `clear`,
+///   the app is safe as for 0. Or the write of the certificate
 ///   failed in this call, its file has its old bytes or a front of the new ones, and nothing was printed.
 /// - 7: memory ran out, or a hostile app would list more than is allowed, which is answered alike. Nothing was
 ///   printed; a certificate that was due is written or not.
@@ -178,6 +179,12 @@ pub fn vet<F: Files, O: Sink, T: Threads + Wait + Sync, L: Lookout>(
 
     // Clear is a theorem about the very bytes handed in.
     ensures sound { SaysClear (parse (map string_bytes words.now)) result.0 →
+        IsSafe (parse (map string_bytes words.now)) (record { files = F.told files.old; printed = O.taken out.old }) }
+
+    // So it is wherever the word `clear` was printed, also where the put failed behind it.
+    ensures clear { TakesClear (parse (map string_bytes words.now))
+        (outside (F.told files.old) (F.fault_count files.old) (O.taken out.old) (O.fault_count out.old))
+        (outside (F.told files.new) (F.fault_count files.new) (O.taken out.new) (O.fault_count out.new)) →
         IsSafe (parse (map string_bytes words.now)) (record { files = F.told files.old; printed = O.taken out.old }) }
 
     // Flagged and undecided leave out nothing that a run of the app does, unless the app is too large.

@@ -1,4 +1,5 @@
 use Rattle.app_folder.specs.Outside.{outside}
+use Rattle.vetting_desk.proofs.Clearing.{clear_end}
 use Rattle.vetting_desk.proofs.Ending.{ends_as_due, ends_as_only_due, safe_end, full_end}
 use Rattle.vetting_desk.proofs.run.vet.Goals as goal
 
@@ -15,6 +16,11 @@ returns-clause-only g c =
 pub returns-clause-sound : goal.returns-clause-sound
 returns-clause-sound g c =
     safe_end _ (outside (g.F.Files.told c.args.files.now) (g.F.Files.fault_count c.args.files.now) (g.O.Sink.taken c.args.out.now) (g.O.Sink.fault_count c.args.out.now))
+    (outside (g.F.Files.told c.run.new.files) (g.F.Files.fault_count c.run.new.files) (g.O.Sink.taken c.run.new.out) (g.O.Sink.fault_count c.run.new.out)) c.run.result.0 c.run.ensures
+
+pub returns-clause-clear : goal.returns-clause-clear
+returns-clause-clear g c =
+    clear_end _ (outside (g.F.Files.told c.args.files.now) (g.F.Files.fault_count c.args.files.now) (g.O.Sink.taken c.args.out.now) (g.O.Sink.fault_count c.args.out.now))
     (outside (g.F.Files.told c.run.new.files) (g.F.Files.fault_count c.run.new.files) (g.O.Sink.taken c.run.new.out) (g.O.Sink.fault_count c.run.new.out)) c.run.result.0 c.run.ensures
 
 pub returns-clause-full : goal.returns-clause-full
