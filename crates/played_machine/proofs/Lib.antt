@@ -3,9 +3,9 @@ mod Chosen
 mod Counting
 mod Got
 mod Librarian
-mod Ordered
+pub mod Ordered
 mod Quiet
-mod Reached
+pub mod Reached
 mod Running
 mod Standing
 mod Stepping

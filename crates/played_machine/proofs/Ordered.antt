@@ -30,7 +30,7 @@ module _ {A : Type 0} (p : A → Bool) where
       by_test true e later (inr h) = let r = later h in (inr r.0, r.1)
       by_test false e later h = let r = later h in (inr r.0, r.1)
 
-reverse-cons : {A : Type 0} (x : A) (xs : List A) → reverse (x ∷ xs) ≡ reverse xs ++ x ∷ []
+pub reverse-cons : {A : Type 0} (x : A) (xs : List A) → reverse (x ∷ xs) ≡ reverse xs ++ x ∷ []
 reverse-cons x xs = reverse-append (x ∷ []) xs
 
 module _ {A : Type 0} where
@@ -75,7 +75,7 @@ in_inserted x (y ∷ ys) z h = by_order (nat_le x y) (in_inserted x ys z) h
     by_order false later (inr (inl same)) = inl same
     by_order false later (inr (inr h)) = inr (later (inr h))
 
-from_inserted : (x : ℕ) (ys : List ℕ) (z : ℕ) → In z (inserted x ys) → In z (x ∷ ys)
+pub from_inserted : (x : ℕ) (ys : List ℕ) (z : ℕ) → In z (inserted x ys) → In z (x ∷ ys)
 from_inserted x [] z h = h
 from_inserted x (y ∷ ys) z h = by_order (nat_le x y) (from_inserted x ys z) h
   where
