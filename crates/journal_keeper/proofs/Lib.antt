@@ -1,0 +1,4 @@
+pub mod Adds
+pub mod Calls
+pub mod Counting
+pub mod Safe

@@ -1,0 +1,110 @@
+use Rattle.std.proofs.Common.{List, Err}
+use Rattle.std.proofs.lemmas.Result.{err_from_is_err_and}
+use Rattle.case_rules.specs.declared.case.Line.{Line}
+use Rattle.case_rules.specs.Cases.{own_lines}
+use Rattle.journal_keeper.specs.Causes.{IsUnopenable}
+use Rattle.journal_keeper.proofs.Counting.{err_counts, counts_cause}
+use Rattle.journal_keeper.proofs.Calls.{Readied, readied_so, ready_open, state, look_outlasts, look_told, look_counted, look_cause, look_answer}
+use Rattle.journal_keeper.proofs.Safe.{held_kept}
+use Rattle.journal_keeper.proofs.keeper.JournalKeeperKeeper.list.Goals as goal
+
+pub returns-in_err-make_ready-clause-answer : goal.returns-in_err-make_ready-clause-answer
+returns-in_err-make_ready-clause-answer g c =
+    let p = err_from_is_err_and c.from_residual.result c.from_residual.ensures.1 in
+    rw p.1 (λ cases is. tt)
+
+pub returns-in_err-make_ready-clause-cause : goal.returns-in_err-make_ready-clause-cause
+returns-in_err-make_ready-clause-cause g c =
+    let old = c.args.self.now in
+    let new = c.make_ready.new.self in
+    let A = IsUnopenable old.opened old.told in
+    let fault = c.in_err-make_ready.field-0.0 in
+    let p = err_from_is_err_and c.from_residual.result c.from_residual.ensures.1 in
+    rw (p.1, p.2)
+    (counts_cause {X = List Line} A old.faults new.faults old.own new.own (Err fault) (err_counts (Unit {0}) (List Line) A old.faults new.faults old.own new.own fault c.in_err-make_ready.ensures.counts))
+
+pub returns-in_err-make_ready-clause-counts : goal.returns-in_err-make_ready-clause-counts
+returns-in_err-make_ready-clause-counts g c =
+    let old = c.args.self.now in
+    let new = c.make_ready.new.self in
+    let A = IsUnopenable old.opened old.told in
+    let p = err_from_is_err_and c.from_residual.result c.from_residual.ensures.1 in
+    rw (p.1, p.2) (err_counts (Unit {0}) (List Line) A old.faults new.faults old.own new.own c.in_err-make_ready.field-0.0 c.in_err-make_ready.ensures.counts)
+
+pub listed-requires-clause-ready : goal.listed-requires-clause-ready
+listed-requires-clause-ready g c =
+    let old = c.args.self.now in
+    let told = g.D.Disk.told c.self.inside.disk in
+    let faults = g.D.Disk.fault_count c.self.inside.disk in
+    let own = c.self.inside.own in
+    let opened = c.self.inside.opened in
+    let made = c.in_ok-make_ready.ensures in
+    let before : Readied old (state told faults own opened) = readied_so old (state told faults own opened) c.make_ready.new.self c.self.view_is
+    (record { ready = made.ready; told = made.told; outlasts = made.outlasts; faults = made.counts.0; own = made.counts.1 }) in
+    before.ready
+
+pub listed-requires-clause-unfailing : goal.listed-requires-clause-unfailing
+listed-requires-clause-unfailing g c = ready_open c.self.inside.opened (g.D.Disk.told c.self.inside.disk) c.self.invariant
+
+pub invariant_of-self : goal.invariant_of-self
+invariant_of-self g c = held_kept c.self.inside.opened c.listed.new.opened (g.D.Disk.told c.self.inside.disk) c.listed.ensures.same c.self.invariant
+
+pub returns-clause-answer : goal.returns-clause-answer
+returns-clause-answer g c =
+    let old = c.args.self.now in
+    let told = g.D.Disk.told c.self.inside.disk in
+    let faults = g.D.Disk.fault_count c.self.inside.disk in
+    let own = c.self.inside.own in
+    let opened = c.self.inside.opened in
+    let made = c.in_ok-make_ready.ensures in
+    let before : Readied old (state told faults own opened) = readied_so old (state told faults own opened) c.make_ready.new.self c.self.view_is
+    (record { ready = made.ready; told = made.told; outlasts = made.outlasts; faults = made.counts.0; own = made.counts.1 }) in
+    look_answer old told faults own opened c.listed.new.opened before c.listed.ensures.same c.listed.result (own_lines c.args.party.now) c.listed.ensures.answer
+
+pub returns-clause-told : goal.returns-clause-told
+returns-clause-told g c =
+    let old = c.args.self.now in
+    let told = g.D.Disk.told c.self.inside.disk in
+    let faults = g.D.Disk.fault_count c.self.inside.disk in
+    let own = c.self.inside.own in
+    let opened = c.self.inside.opened in
+    let made = c.in_ok-make_ready.ensures in
+    let before : Readied old (state told faults own opened) = readied_so old (state told faults own opened) c.make_ready.new.self c.self.view_is
+    (record { ready = made.ready; told = made.told; outlasts = made.outlasts; faults = made.counts.0; own = made.counts.1 }) in
+    look_told old told faults own opened c.listed.new.opened before c.listed.ensures.same
+
+pub returns-clause-cause : goal.returns-clause-cause
+returns-clause-cause g c =
+    let old = c.args.self.now in
+    let told = g.D.Disk.told c.self.inside.disk in
+    let faults = g.D.Disk.fault_count c.self.inside.disk in
+    let own = c.self.inside.own in
+    let opened = c.self.inside.opened in
+    let made = c.in_ok-make_ready.ensures in
+    let before : Readied old (state told faults own opened) = readied_so old (state told faults own opened) c.make_ready.new.self c.self.view_is
+    (record { ready = made.ready; told = made.told; outlasts = made.outlasts; faults = made.counts.0; own = made.counts.1 }) in
+    look_cause old told faults own opened c.listed.new.opened before c.listed.ensures.same c.listed.result c.listed.ensures.memory
+
+pub returns-clause-outlasts : goal.returns-clause-outlasts
+returns-clause-outlasts g c =
+    let old = c.args.self.now in
+    let told = g.D.Disk.told c.self.inside.disk in
+    let faults = g.D.Disk.fault_count c.self.inside.disk in
+    let own = c.self.inside.own in
+    let opened = c.self.inside.opened in
+    let made = c.in_ok-make_ready.ensures in
+    let before : Readied old (state told faults own opened) = readied_so old (state told faults own opened) c.make_ready.new.self c.self.view_is
+    (record { ready = made.ready; told = made.told; outlasts = made.outlasts; faults = made.counts.0; own = made.counts.1 }) in
+    look_outlasts old told faults own opened c.listed.new.opened before c.listed.ensures.same
+
+pub returns-clause-counts : goal.returns-clause-counts
+returns-clause-counts g c =
+    let old = c.args.self.now in
+    let told = g.D.Disk.told c.self.inside.disk in
+    let faults = g.D.Disk.fault_count c.self.inside.disk in
+    let own = c.self.inside.own in
+    let opened = c.self.inside.opened in
+    let made = c.in_ok-make_ready.ensures in
+    let before : Readied old (state told faults own opened) = readied_so old (state told faults own opened) c.make_ready.new.self c.self.view_is
+    (record { ready = made.ready; told = made.told; outlasts = made.outlasts; faults = made.counts.0; own = made.counts.1 }) in
+    look_counted old told faults own opened c.listed.new.opened before c.listed.ensures.same c.listed.result c.listed.ensures.memory
