@@ -15,7 +15,7 @@ ANSWERS = DATA / "answers"
 SAMPLE = {name: name for name in ("manifest.toml", "layouts.toml", "declaration.toml", "lists.toml")}
 SAMPLE["classes.dex"] = "device_id_posted.dex"
 FEW_LISTS = b'rows = 1\ncategories = ["a"]\n'
-COUNTS = {"link_cases.txt": 26, "cases.txt": 49, "flow_cases.txt": 60, "example_cases.txt": 27, "opcode_cases.txt": 6}
+COUNTS = {"link_cases.txt": 26, "cases.txt": 49, "flow_cases.txt": 61, "example_cases.txt": 27, "opcode_cases.txt": 6}
 # Seed and size of generated apps; and the rows and findings that a program which was made apart from this one told.
 MADE = {(7, 50): (3_315, 39), (1, 1): (112, 1)}
 
@@ -119,6 +119,12 @@ class RefusedTest(unittest.TestCase):
             reason = "magic" if cut < 8 else "outside at 0" if cut < 112 else "header file_size"
             with self.subTest(cut=cut):
                 self.assertEqual(f"3\nrefused classes.dex: {reason}\n", told)
+
+    def test_an_offset_that_the_header_has_too_many_strings_for_is_outside(self) -> None:
+        whole = (ANSWERS / "device_id_posted.dex").read_bytes()
+        at = int.from_bytes(whole[60:64], "little")
+        changed = whole[:56] + b"\xff" * 4 + whole[60:]
+        self.assertEqual(f"3\nrefused classes.dex: outside at {at}\n", found_with({"classes.dex": changed}))
 
     def test_one_component_more_than_the_limit_is_refused(self) -> None:
         text = 'package = "a"\ndex_files = 1\n'

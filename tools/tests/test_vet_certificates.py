@@ -5,10 +5,12 @@ import hashlib
 import shutil
 import tempfile
 import unittest
+from collections import Counter
 from pathlib import Path
 
 from tests.program import answer, at_once
 from tests.support import DATA, ROOT
+from vet_tools.certificate import Certificate, Kind
 
 ANSWERS = DATA / "answers"
 # A certificate of 273 bytes that another program wrote, of another app.
@@ -200,6 +202,28 @@ class TableTest(FolderTest):
             with self.subTest(reason):
                 self.assertEqual(refused(reason), said)
 
+    def test_a_certificate_cut_at_each_byte_or_with_another_count_is_refused(self) -> None:
+        whole = certificate(self.digest(), ROWS)
+        begins = [44]
+        for row in ROWS:
+            begins.append(begins[-1] + len(row))
+
+        def reason(cut: int) -> str:
+            if cut < 44:
+                return "magic" if cut < 8 else "cut at 8" if cut < 40 else "cut at 40"
+            return f"cut at {max(begin for begin in begins if begin <= cut)}"
+
+        changed = [(whole[:cut], reason(cut)) for cut in range(len(whole))]
+        changed += [(whole[:40] + b"\xff" * 4 + whole[44:], f"cut at {len(whole)}"),
+                    (whole + b"\0", f"rest at {len(whole)}"), (b"VETCERT1" + whole[8:], "version 1")]
+        # A kind of row and a site that no certificate has, one behind the last of each.
+        changed += [(whole[:40] + u4(1) + bytes([21]) + ENTRY, "bad at 44"),
+                    (whole[:40] + u4(1) + bytes([16, 4]) + u4(0, 0), "bad at 44")]
+        found = self.rechecked([content for content, _ in changed])
+        for number, ((_, due), said) in enumerate(zip(changed, found)):
+            with self.subTest(number=number, reason=due):
+                self.assertEqual(refused(due), said)
+
     def test_the_digest_of_the_certificate_comes_before_that_of_the_files(self) -> None:
         said, = self.rechecked([certificate(bytes([0x0F]) * 32, [])])
         self.assertEqual(refused(f"digest {'0f' * 32} {self.digest().hex()}"), said)
@@ -223,6 +247,28 @@ class TableTest(FolderTest):
             (self.folder / "D" / name).write_bytes(content)
         said, = self.rechecked([certificate(bytes(32), [])])
         self.assertEqual(refused(f"digest {'00' * 32} {self.digest(*parts).hex()}"), said)
+
+
+class GeneratedTest(FolderTest):
+    """The rows of the generated app of the seed 1 and of one method besides, counted by hand kind by kind."""
+
+    COUNTS = {Kind.LIVE: 8, Kind.REACHED: 12, Kind.POINTS: 33, Kind.TAINT: 38, Kind.CELL: 1, Kind.BACK: 1, Kind.CALLS: 1,
+              Kind.CALLED_BY: 1, Kind.EFFECT: 4, Kind.METHOD_EFFECT: 4, Kind.EXIT_POINTS: 1, Kind.EXIT_TAINT: 2,
+              Kind.USES: 2, Kind.ARRIVE: 1, Kind.HANDED: 1, Kind.HANDED_TAINT: 2}
+
+    def put_app(self) -> None:
+        folder = self.folder / "D"
+        (folder / "manifest.toml").write_text('package = "gen"\ndex_files = 1\n'
+                                              '[[component]]\nkind = "activity"\nclass = "Lgen/Main;"\n')
+        for name in ("layouts.toml", "declaration.toml", "lists.toml"):
+            shutil.copy(ANSWERS / name, folder / name)
+        shutil.copy(ANSWERS / "made_1_1.dex", folder / "classes.dex")
+
+    def test_as_many_rows_of_each_kind_follow(self) -> None:
+        self.assertEqual((1, "flagged 1\ndevice_id -> network at Lgen/Main;->onCreate(Landroid/os/Bundle;)V @8\n"),
+                         self.certify())
+        rows = Certificate((self.folder / "C").read_bytes()).rows()
+        self.assertEqual(self.COUNTS, Counter(Kind(row[0]) for row in rows))
 
 
 if __name__ == "__main__":
