@@ -1,0 +1,5 @@
+pub mod Coming
+pub mod Counting
+pub mod Halving
+pub mod Lines
+pub mod Worklist

@@ -1,0 +1,7 @@
+pub mod Before
+pub mod Keys
+pub mod Orders
+pub mod Renumbering
+pub mod Resting
+pub mod Told
+pub mod WantedNumbers
