@@ -122,25 +122,21 @@ def head_lines(tables: Tables) -> Iterator[str]:
 
 
 def lists_text(tables: Tables, given_back: bool = READS_GIVEN_BACK) -> str:
-    """The whole form. Without `given_back` no result is `handed`, and a static field with a source is left out: under
-    strict lists an app that reads it is undecided then."""
-    statics = [row for row in tables.statics if given_back or not row.source]
+    """The whole form. Without `given_back` no result is `handed`."""
     blocks = [head_lines(tables)]
     blocks += [class_lines(entry) for entry in upward(tables.classes)]
     blocks += [iter(["[[shared]]", f"name = {text(name)}", f"class = {text(owner)}"])
                for name, owner in tables.head.shared.items()]
     blocks += [method_lines(row, given_back) for row in tables.methods]
     blocks += [callback_lines(row) for row in tables.callbacks]
-    blocks += [static_lines(row) for row in statics]
+    blocks += [static_lines(row) for row in tables.statics]
     return TITLE + "\n".join("\n".join(block) + "\n" for block in blocks)
 
 
 def not_carried(tables: Tables) -> list[str]:
-    """What the tables say and the form can't carry while results are not `handed` and static fields have no source."""
+    """What the tables say and the form can't carry while results are not `handed`."""
     if READS_GIVEN_BACK:
         return []
     handed = sum(row.effects.result is Result.HANDED for row in tables.methods)
-    sources = sum(bool(row.source) for row in tables.statics)
-    told = [(sources, f"{sources} static fields that are sources (an app that reads one is undecided)"),
-            (handed, f"{handed} results that were handed (they are blank)")]
+    told = [(handed, f"{handed} results that were handed (they are blank)")]
     return [words for count, words in told if count]

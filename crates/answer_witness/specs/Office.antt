@@ -90,4 +90,5 @@ office_lists = record {
   shared = [];
   methods = [];
   callbacks = [];
+  statics = [];
 }

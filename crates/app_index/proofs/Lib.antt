@@ -1,4 +1,5 @@
 pub mod ClassKeys
+pub mod FieldKeys
 pub mod First
 pub mod Held
 pub mod Numbering

@@ -20,6 +20,27 @@ pub struct ClassKey<'a> {
     pub name: &'a [u8],
 }
 
+/// The class, name and type of a field.
+#[derive(Clone, Copy, Drop, PartialEq, Eq, Hash)]
+pub struct FieldKey<'a> {
+    pub class: &'a [u8],
+    pub name: &'a [u8],
+    pub kind: &'a [u8],
+}
+
+/// The key of the field.
+pub fn field_key<'a>(class: &'a Name, name: &'a Name, kind: &'a Name) -> FieldKey<'a>
+    ensures class { result.class.now ≡ class.now }
+    ensures name { result.name.now ≡ name.now }
+    ensures kind { result.kind.now ≡ kind.now }
+{
+    FieldKey {
+        class: class.as_bytes(),
+        name: name.as_bytes(),
+        kind: kind.as_bytes(),
+    }
+}
+
 /// The key of the method.
 pub fn method_key<'a>(
     class: &'a Name,

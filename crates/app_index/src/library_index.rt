@@ -3,18 +3,19 @@ ghost use Rattle.std.specs.Option.{option_copied};
 ghost use Rattle.app_machine.specs.Sound.{SoundApp};
 ghost use Rattle.app_machine.specs.SoundLists.{SoundLists};
 ghost use Rattle.app_machine.specs.Summaries.{row_of, default_of, listed_class, library_key};
+ghost use Rattle.app_machine.specs.Summaries.{listed_static, source_of, static_source};
 ghost use Rattle.app_index.specs.Walk.{found};
 
-use crate::keys::{ClassKey, MethodKey, method_key};
-use crate::numbers::{number_classes, number_defaults, number_methods};
+use crate::keys::{ClassKey, FieldKey, MethodKey, field_key, method_key};
+use crate::numbers::{number_classes, number_defaults, number_methods, number_statics};
 use crate::walk::{Wanted, on_walk};
-use app_machine::{App, LibClass, Lists, Proto, SummaryId};
+use app_machine::{App, LibClass, Lists, Proto, StaticRow, SummaryId};
 use std::alloc::Global;
 use std::collections::HashMap;
 use std::marker::Model;
 use vet_base::{Memory, Name};
 
-/// The lists of the library, and the numbers of their rows and classes by what a call names.
+/// The lists of the library, and the numbers of their rows and classes by what code names.
 /// Contracts see the lists.
 #[derive(Drop)]
 pub struct LibraryIndex<'a> {
@@ -22,6 +23,7 @@ pub struct LibraryIndex<'a> {
     methods: HashMap<MethodKey<'a>, u32>,
     classes: HashMap<ClassKey<'a>, u32>,
     defaults: HashMap<ClassKey<'a>, u32>,
+    statics: HashMap<FieldKey<'a>, u32>,
 }
 
 impl<'a> Model for LibraryIndex<'a> {
@@ -32,7 +34,7 @@ impl<'a> Model for LibraryIndex<'a> {
 
     ghost view = { λ x. x.lists.now };
 
-    ghost invariant = { λ x. HasNumbers x.methods x.classes x.defaults x.lists.now };
+    ghost invariant = { λ x. HasNumbers x.methods x.classes x.defaults x.statics x.lists.now };
 }
 
 impl<'a> LibraryIndex<'a> {
@@ -46,6 +48,7 @@ impl<'a> LibraryIndex<'a> {
             methods: number_methods(alloc, lists.methods.as_slice())?,
             classes: number_classes(alloc, lists.classes.as_slice())?,
             defaults: number_defaults(alloc, lists.classes.as_slice())?,
+            statics: number_statics(alloc, lists.statics.as_slice())?,
         })
     }
 
@@ -86,6 +89,38 @@ impl<'a> LibraryIndex<'a> {
     {
         match self.classes.get(&ClassKey { name }) {
             Some(number) => self.lists.classes.get(*number as usize),
+            None => None,
+        }
+    }
+
+    /// The category with which the lists label the value of the static of this number.
+    #[tactic(auto, unfolding(app_machine::specs::Summaries::static_source))]
+    pub fn source(&self, app: &App, number: u32) -> Option<u8>
+        ensures { result ≡ static_source app.now self.now number }
+    {
+        match app.statics.get(number as usize) {
+            Some(field) => self.source_of(field),
+            None => None,
+        }
+    }
+
+    /// The same of a field.
+    fn source_of(&self, field: &(Name, Name, Name)) -> Option<u8>
+        ensures { result ≡ source_of (listed_static self.now field.now) }
+    {
+        match self.listed_static(field) {
+            Some(row) => row.source,
+            None => None,
+        }
+    }
+
+    /// The row of the static field.
+    fn listed_static(&self, field: &(Name, Name, Name)) -> Option<&StaticRow>
+        ensures { option_copied result ≡ listed_static self.now field.now }
+    {
+        let key = field_key(&field.0, &field.1, &field.2);
+        match self.statics.get(&key) {
+            Some(number) => self.lists.statics.get(*number as usize),
             None => None,
         }
     }

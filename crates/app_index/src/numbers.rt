@@ -1,9 +1,9 @@
 //! The numbers of rows and classes, the first one where several have the same key.
 ghost use Rattle.std.specs.Prelude.{◌≡◌, ◌≤◌, IfOk, length};
-ghost use Rattle.app_index.specs.Numbers.{HasMethods, HasClasses, HasDefaults};
+ghost use Rattle.app_index.specs.Numbers.{HasMethods, HasClasses, HasDefaults, HasStatics};
 
-use crate::keys::{ClassKey, MethodKey, method_key};
-use app_machine::{LibClass, Summary};
+use crate::keys::{ClassKey, FieldKey, MethodKey, field_key, method_key};
+use app_machine::{LibClass, StaticRow, Summary};
 use std::alloc::Global;
 use std::collections::HashMap;
 use vet_base::Memory;
@@ -23,6 +23,26 @@ pub fn number_methods<'a>(
         left -= 1;
         let row = &rows[left];
         let key = method_key(&row.class, &row.name, &row.proto, row.is_static);
+        numbers.insert(key, left as u32)?;
+    }
+    Ok(numbers)
+}
+
+/// The number of the first row of each static field.
+#[tactic(auto, using(crate::proofs::Numbering::none_yet, crate::proofs::Numbering::one_more, crate::proofs::Numbering::passed_by, crate::proofs::Numbering::all_there))]
+pub fn number_statics<'a>(
+    alloc: Global,
+    rows: &'a [StaticRow],
+) -> Result<HashMap<FieldKey<'a>, u32>, Memory>
+    requires { length rows.now ≤ 65536 }
+    ensures { IfOk result (λ numbers. HasStatics numbers rows.now) }
+{
+    let mut numbers = HashMap::new(alloc);
+    let mut left = rows.len();
+    while left > 0 {
+        left -= 1;
+        let row = &rows[left];
+        let key = field_key(&row.class, &row.name, &row.kind);
         numbers.insert(key, left as u32)?;
     }
     Ok(numbers)

@@ -26,7 +26,7 @@ pub data Without_code (app : App) : Option ℕ → Type 0 where
 
 -- one step, from a world and its frames, the running one first
 pub data Steps (app : App) (lists : Lists) : World → List Frame → World → List Frame → Type 0 where
-  goes_on : {w new : World} {f g : Frame} {fs : List Frame} → Local app w f new g → Steps app lists w (f ∷ fs) new (g ∷ fs)
+  goes_on : {w new : World} {f g : Frame} {fs : List Frame} → Local app lists w f new g → Steps app lists w (f ∷ fs) new (g ∷ fs)
   -- any instruction may raise a blank in place of its step
   raises : {w : World} {f : Frame} {fs gs : List Frame} → Raises app (f ∷ fs) blank gs → Steps app lists w (f ∷ fs) w gs
   throws : {w : World} {f : Frame} {fs gs : List Frame} {x : ℕ} → ActAt app f.method f.pc (Throw x) → Raises app (f ∷ fs) (f.registers x) gs → Steps app lists w (f ∷ fs) w gs

@@ -6,6 +6,7 @@ use Rattle.app_machine.specs.declared.summary.Gives.TheVariants as gives
 use Rattle.app_machine.specs.declared.summary.Summary.{Summary}
 use Rattle.app_machine.specs.declared.lists.LibClass.{LibClass}
 use Rattle.app_machine.specs.declared.lists.Callback.{Callback}
+use Rattle.app_machine.specs.declared.lists.StaticRow.{StaticRow}
 use Rattle.app_machine.specs.declared.lists.Lists.{Lists}
 use Rattle.app_machine.specs.Summaries.{position_count}
 
@@ -44,6 +45,9 @@ pub record SoundSummary (categories shared : ℕ) (s : Summary) : Type 0 where
 pub record SoundCallback (categories : ℕ) (c : Callback) : Type 0 where
   pub sources : All (NamedPosition (position_count false c.proto) categories) c.sources
 
+pub record SoundStatic (categories : ℕ) (s : StaticRow) : Type 0 where
+  pub source : IfSome s.source (λ category. category < categories)
+
 -- 1 to 4,000,000 rows, 1 to 200 categories, at most 65,536 rows in each array, and each row sound
 pub record SoundLists (lists : Lists) : Type 0 where
   pub one_row : 1 ≤ lists.rows
@@ -54,6 +58,8 @@ pub record SoundLists (lists : Lists) : Type 0 where
   pub few_shared : length lists.shared ≤ 65536
   pub few_methods : length lists.methods ≤ 65536
   pub few_callbacks : length lists.callbacks ≤ 65536
+  pub few_statics : length lists.statics ≤ 65536
   pub classes : All SoundClass lists.classes
   pub methods : All (SoundSummary (length lists.categories) (length lists.shared)) lists.methods
   pub callbacks : All (SoundCallback (length lists.categories)) lists.callbacks
+  pub statics : All (SoundStatic (length lists.categories)) lists.statics

@@ -12,6 +12,7 @@ use Rattle.app_machine.specs.declared.lists.FallbackWord.TheVariants as fallback
 use Rattle.app_machine.specs.declared.lists.SummaryId.{SummaryId}
 use Rattle.app_machine.specs.declared.lists.SummaryId.TheVariants.{Row, Fallback}
 use Rattle.app_machine.specs.declared.lists.LibClass.{LibClass}
+use Rattle.app_machine.specs.declared.lists.StaticRow.{StaticRow}
 use Rattle.app_machine.specs.declared.lists.Lists.{Lists}
 use Rattle.vet_base.specs.Members.{In, first_given, first_index}
 use Rattle.app_machine.specs.Names.{Name, same_name, same_proto, is_reference, is_array, array_of, array_types, object_class}
@@ -92,6 +93,18 @@ default_summary word at is_static = record {
 unfoldable pub summary : Lists → SummaryId → MethodRef → Bool → Option Summary
 summary lists (Row i) at is_static = slice_get lists.methods i
 summary lists (Fallback i) at is_static = elim (slice_get lists.classes i) [ None ↦ None | Some c ↦ option_map (λ word. default_summary word at is_static) c.fallback ]
+
+-- the row of the static field of this class, name and type
+unfoldable pub listed_static : Lists → Name × Name × Name → Option StaticRow
+listed_static lists field = find (λ (s : StaticRow). same_name s.class field.0 && (same_name s.name field.1 && same_name s.kind field.2)) lists.statics
+
+abbrev pub source_of : Option StaticRow → Option ℕ
+source_of None = None
+source_of (Some s) = s.source
+
+-- the category with which the lists label the value of the static of this number
+unfoldable pub static_source : App → Lists → ℕ → Option ℕ
+static_source app lists g = elim (slice_get app.statics g) [ None ↦ None | Some field ↦ source_of (listed_static lists field) ]
 
 -- A class or interface is below a type: they are equal, the type is `Object`, a class or interface directly above the app
 -- class is below the type, or the lists have the type above the class.

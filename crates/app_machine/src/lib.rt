@@ -15,7 +15,7 @@ mod summary;
 pub use app::{App, Class, Key};
 pub use call::{CallKind, MethodRef, Proto};
 pub use component::{Component, Kind};
-pub use lists::{Callback, FallbackWord, LibClass, Lists, SummaryId};
+pub use lists::{Callback, FallbackWord, LibClass, Lists, StaticRow, SummaryId};
 pub use method::{Act, Method, Step};
 pub use papers::{Declaration, Layouts, Manifest, Word};
 pub use summary::{Gives, Summary};

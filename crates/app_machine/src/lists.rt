@@ -38,6 +38,17 @@ pub struct Callback {
     pub sources: Seq<(u32, u8)>,
 }
 
+/// A static field of a library class. Reading it gives its value, which no one listed writes.
+#[derive(Debug, Drop)]
+pub struct StaticRow {
+    pub class: Name,
+    pub name: Name,
+    /// The descriptor of its type.
+    pub kind: Name,
+    /// The category with which its value is labelled.
+    pub source: Option<u8>,
+}
+
 /// What the office says of the library.
 #[derive(Drop)]
 pub struct Lists {
@@ -49,4 +60,5 @@ pub struct Lists {
     pub shared: Seq<(Name, Name)>,
     pub methods: Seq<Summary>,
     pub callbacks: Seq<Callback>,
+    pub statics: Seq<StaticRow>,
 }

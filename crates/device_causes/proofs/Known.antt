@@ -6,7 +6,6 @@ use Rattle.app_machine.specs.declared.app.Class.{Class}
 use Rattle.app_machine.specs.declared.lists.Lists.{Lists}
 use Rattle.app_machine.specs.declared.lists.LibClass.{LibClass}
 use Rattle.app_machine.specs.Names.{Name, same_name}
-use Rattle.device_lists.specs.declared.DeviceLists.{DeviceLists}
 use Rattle.link_access.specs.Access.{Accesses}
 use Rattle.link_listing.specs.Texts.{Triple}
 use Rattle.outcomes.specs.Causes.{is_app_class}
@@ -29,8 +28,8 @@ pub foreign_by_set : (access : Accesses) (set : List Triple) (field : Triple) �
 unfolding is_foreign
 foreign_by_set access set field is = ap not (is.same field)
 
-pub unknown_by_set : (device : DeviceLists) (set : List Triple) (field : Triple) → IsListOf set (listed_statics device) → not (is_listed set field) ≡ not (is_listed (listed_statics device) field)
-unknown_by_set device set field is = ap not (is.same field)
+pub unknown_by_set : (lists : Lists) (set : List Triple) (field : Triple) → IsListOf set (listed_statics lists) → not (is_listed set field) ≡ not (is_listed (listed_statics lists) field)
+unknown_by_set lists set field is = ap not (is.same field)
 
 -- the unlisted ones of the superclass, where there is one, and then of the interfaces
 pub above_added : (app : App) (lists : Lists) (c : Class) (old mid new supers interfaces : List Name) → MatchOption c.superclass (supers ≡ []) (λ x. supers ≡ x ∷ []) → interfaces ≡ c.interfaces

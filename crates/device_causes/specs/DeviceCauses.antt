@@ -44,8 +44,8 @@ unfoldable pub unlisted_causes : App → Lists → List Cause
 unlisted_causes app lists = names_told UnlistedClass (unlisted_classes app lists)
 
 -- by method and address, in which order the instructions of an app stand
-unfoldable pub static_causes : App → Accesses → DeviceLists → List Cause
-static_causes app access device = map (λ spot. LibraryStatic (at_spot app spot)) (static_spots app access device)
+unfoldable pub static_causes : App → Accesses → Lists → List Cause
+static_causes app access lists = map (λ spot. LibraryStatic (at_spot app spot)) (static_spots app access lists)
 
 unfoldable pub click_causes : App → Accesses → Lists → List Cause
 click_causes app access lists = methods_told Click (odd_clicks app access lists)
@@ -57,7 +57,7 @@ named_causes app named = names_told NamedClass (filter (is_app_class app) named)
 unfoldable pub strict_causes : App → Accesses → Lists → DeviceLists → List Cause
 strict_causes app access lists device =
     hidden_causes app access ++ interface_causes access ++ platform_causes app lists device ++ unlisted_causes app lists
-    ++ static_causes app access device ++ click_causes app access lists
+    ++ static_causes app access lists ++ click_causes app access lists
 
 -- these, where the lists are strict; and the classes that the manifest says are named elsewhere
 unfoldable pub device_causes : App → Accesses → Lists → DeviceLists → List Name → List Cause

@@ -100,12 +100,12 @@ fn static_causes(
     alloc: Global,
     app: &App,
     access: &Accesses,
-    device: &DeviceLists,
+    lists: &Lists,
 ) -> Result<Vec<Cause>, Memory>
     requires { SoundApp app.now }
-    ensures { IfOk result (λ v. v.items ≡ static_causes app.now access.now.entries device.now) }
+    ensures { IfOk result (λ v. v.items ≡ static_causes app.now access.now.entries lists.now) }
 {
-    let spots = static_spots(alloc, app, access, device)?;
+    let spots = static_spots(alloc, app, access, lists)?;
     statics_at(alloc, app, &spots)
 }
 
@@ -167,7 +167,7 @@ fn strict_causes(
     causes.append(&mut interface_causes(alloc, access)?)?;
     causes.append(&mut platform_causes(alloc, app, lists, device)?)?;
     causes.append(&mut unlisted_causes(alloc, app, lists)?)?;
-    causes.append(&mut static_causes(alloc, app, access, device)?)?;
+    causes.append(&mut static_causes(alloc, app, access, lists)?)?;
     causes.append(&mut click_causes(alloc, app, access, lists)?)?;
     Ok(causes)
 }

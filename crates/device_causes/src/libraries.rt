@@ -13,7 +13,6 @@ use crate::platform::{is_library_class, library_names};
 use crate::sets::{NameSet, TripleSet};
 use app_machine::{Act, App, Class, Lists, Method, Step};
 use app_model::is_reference;
-use device_lists::DeviceLists;
 use link_access::{Accesses, ClassAccess};
 use link_listing::Triple;
 use outcomes::class_names;
@@ -128,11 +127,11 @@ fn defined_statics(alloc: Global, access: &Accesses) -> Result<Vec<Triple>, Memo
 }
 
 #[tactic(auto, unfolding(crate::specs::Libraries::listed_statics))]
-fn listed_statics(alloc: Global, device: &DeviceLists) -> Result<Vec<Triple>, Memory>
-    ensures { IfOk result (λ v. v.items ≡ listed_statics device.now) }
+fn listed_statics(alloc: Global, lists: &Lists) -> Result<Vec<Triple>, Memory>
+    ensures { IfOk result (λ v. v.items ≡ listed_statics lists.now) }
 {
     let mut statics = Vec::new(alloc);
-    for row in device.statics.as_slice() {
+    for row in lists.statics.as_slice() {
         statics.push((row.class.copy()?, row.name.copy()?, row.kind.copy()?))?;
     }
     Ok(statics)
@@ -154,10 +153,10 @@ fn is_foreign(access: &Accesses, fields: &Fields, field: &Triple) -> bool
 }
 
 #[tactic(auto, unfolding(crate::specs::Libraries::is_unknown), using(crate::proofs::Known::unknown_by_set))]
-fn is_unknown(access: &Accesses, device: &DeviceLists, fields: &Fields, field: &Triple) -> bool
+fn is_unknown(access: &Accesses, lists: &Lists, fields: &Fields, field: &Triple) -> bool
     requires defined { IsListOf fields.now.defined (defined_statics access.now.entries) }
-    requires listed { IsListOf fields.now.listed (listed_statics device.now) }
-    ensures { result ≡ is_unknown access.now.entries device.now field.now }
+    requires listed { IsListOf fields.now.listed (listed_statics lists.now) }
+    ensures { result ≡ is_unknown access.now.entries lists.now field.now }
 {
     is_reference(&field.2) && is_foreign(access, fields, field) && !fields.listed.has(field)
 }
@@ -169,17 +168,17 @@ fn marks_of(
     alloc: Global,
     app: &App,
     access: &Accesses,
-    device: &DeviceLists,
+    lists: &Lists,
     fields: &Fields,
 ) -> Result<Vec<Mark>, Memory>
     requires defined { IsListOf fields.now.defined (defined_statics access.now.entries) }
-    requires listed { IsListOf fields.now.listed (listed_statics device.now) }
-    ensures { IfOk result (λ v. v.items ≡ map (mark_of access.now.entries device.now) app.now.statics) }
+    requires listed { IsListOf fields.now.listed (listed_statics lists.now) }
+    ensures { IfOk result (λ v. v.items ≡ map (mark_of access.now.entries lists.now) app.now.statics) }
 {
     let mut marks = Vec::new(alloc);
     for field in app.statics.as_slice() {
         let put = is_foreign(access, fields, field);
-        let got = is_unknown(access, device, fields, field);
+        let got = is_unknown(access, lists, fields, field);
         marks.push((put, got))?;
     }
     Ok(marks)
@@ -191,14 +190,14 @@ fn static_marks(
     alloc: Global,
     app: &App,
     access: &Accesses,
-    device: &DeviceLists,
+    lists: &Lists,
 ) -> Result<Vec<Mark>, Memory>
-    ensures { IfOk result (λ v. v.items ≡ map (mark_of access.now.entries device.now) app.now.statics) }
+    ensures { IfOk result (λ v. v.items ≡ map (mark_of access.now.entries lists.now) app.now.statics) }
 {
     let defined = TripleSet::new(alloc, defined_statics(alloc, access)?)?;
-    let listed = TripleSet::new(alloc, listed_statics(alloc, device)?)?;
+    let listed = TripleSet::new(alloc, listed_statics(alloc, lists)?)?;
     let fields = Fields { defined, listed };
-    marks_of(alloc, app, access, device, &fields)
+    marks_of(alloc, app, access, lists, &fields)
 }
 
 fn put_mark(marks: &[Mark], g: u32) -> bool
@@ -220,9 +219,9 @@ fn got_mark(marks: &[Mark], g: u32) -> bool
 }
 
 #[tactic(auto, unfolding(crate::specs::Libraries::touches), using(crate::proofs::Marks::put_marked, crate::proofs::Marks::got_marked))]
-fn touches(app: &App, access: &Accesses, device: &DeviceLists, marks: &[Mark], act: &Act) -> bool
-    requires { marks.now ≡ map (mark_of access.now.entries device.now) app.now.statics }
-    ensures { result ≡ touches app.now access.now.entries device.now act.now }
+fn touches(app: &App, access: &Accesses, lists: &Lists, marks: &[Mark], act: &Act) -> bool
+    requires { marks.now ≡ map (mark_of access.now.entries lists.now) app.now.statics }
+    ensures { result ≡ touches app.now access.now.entries lists.now act.now }
 {
     match act {
         Act::PutStatic(g, _) => put_mark(marks, *g),
@@ -232,17 +231,11 @@ fn touches(app: &App, access: &Accesses, device: &DeviceLists, marks: &[Mark], a
 }
 
 #[tactic(auto, unfolding(crate::specs::Libraries::is_touching))]
-fn is_touching(
-    app: &App,
-    access: &Accesses,
-    device: &DeviceLists,
-    marks: &[Mark],
-    step: &Step,
-) -> bool
-    requires { marks.now ≡ map (mark_of access.now.entries device.now) app.now.statics }
-    ensures { result ≡ is_touching app.now access.now.entries device.now step.now }
+fn is_touching(app: &App, access: &Accesses, lists: &Lists, marks: &[Mark], step: &Step) -> bool
+    requires { marks.now ≡ map (mark_of access.now.entries lists.now) app.now.statics }
+    ensures { result ≡ is_touching app.now access.now.entries lists.now step.now }
 {
-    touches(app, access, device, marks, &step.act)
+    touches(app, access, lists, marks, &step.act)
 }
 
 /// The number of a method, and an address there.
@@ -258,18 +251,18 @@ fn spot_of(i: u32, step: &Step) -> Spot
 fn add_spots(
     app: &App,
     access: &Accesses,
-    device: &DeviceLists,
+    lists: &Lists,
     marks: &[Mark],
     i: u32,
     method: &Method,
     spots: &mut Vec<Spot>,
 ) -> Result<(), Memory>
-    requires { marks.now ≡ map (mark_of access.now.entries device.now) app.now.statics }
+    requires { marks.now ≡ map (mark_of access.now.entries lists.now) app.now.statics }
     ensures { OnOk result (spots.new.items ≡ spots.old.items
-        ++ spots_in app.now access.now.entries device.now i method.now) }
+        ++ spots_in app.now access.now.entries lists.now i method.now) }
 {
     for step in method.steps.as_slice() {
-        if is_touching(app, access, device, marks, step) {
+        if is_touching(app, access, lists, marks, step) {
             spots.push(spot_of(i, step))?;
         }
     }
@@ -283,15 +276,15 @@ pub fn static_spots(
     alloc: Global,
     app: &App,
     access: &Accesses,
-    device: &DeviceLists,
+    lists: &Lists,
 ) -> Result<Vec<Spot>, Memory>
     requires { SoundApp app.now }
-    ensures { IfOk result (λ v. v.items ≡ static_spots app.now access.now.entries device.now) }
+    ensures { IfOk result (λ v. v.items ≡ static_spots app.now access.now.entries lists.now) }
 {
-    let marks = static_marks(alloc, app, access, device)?;
+    let marks = static_marks(alloc, app, access, lists)?;
     let mut spots = Vec::new(alloc);
     for (i, method) in app.methods.as_slice().iter().enumerate() {
-        add_spots(app, access, device, &marks, i as u32, method, &mut spots)?;
+        add_spots(app, access, lists, &marks, i as u32, method, &mut spots)?;
     }
     Ok(spots)
 }

@@ -1,17 +1,7 @@
-//! What the lists say of a device beside what the machine is told:
-//! names of the platform, and static fields that no one writes.
+//! What the lists say of a device beside what the machine is told: whether they are strict, and names of the platform.
 #![tactic(auto)]
 
 use vet_base::{Name, Seq};
-
-/// A static field of a library class. Reading it gives its value, which no one listed writes.
-#[derive(Drop)]
-pub struct StaticRow {
-    pub class: Name,
-    pub name: Name,
-    /// The descriptor of its type.
-    pub kind: Name,
-}
 
 /// What the lists say of a device.
 #[derive(Drop)]
@@ -22,5 +12,4 @@ pub struct DeviceLists {
     /// longest beginning that fits decides. None stands twice, and none in both.
     pub platform: Seq<Name>,
     pub bundled: Seq<Name>,
-    pub statics: Seq<StaticRow>,
 }

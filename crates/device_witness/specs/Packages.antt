@@ -66,13 +66,13 @@ abbrev pub context_name : Name
 context_name = codes "Landroid/content/Context;"
 
 abbrev pub lists_of : List LibClass → Lists
-lists_of classes = record { rows = 1; categories = []; classes = classes; shared = []; methods = []; callbacks = [] }
+lists_of classes = record { rows = 1; categories = []; classes = classes; shared = []; methods = []; callbacks = []; statics = [] }
 
 abbrev pub all_known : Lists
 all_known = lists_of (listed object [] ∷ listed context_name (object ∷ []) ∷ listed activity_class (context_name ∷ object ∷ []) ∷ listed service_class (context_name ∷ object ∷ []) ∷ [])
 
 abbrev pub device : Bool → List Name → List Name → DeviceLists
-device strict platform bundled = record { strict = strict; platform = platform; bundled = bundled; statics = [] }
+device strict platform bundled = record { strict = strict; platform = platform; bundled = bundled }
 
 abbrev pub strict : DeviceLists
 strict = device true [] []

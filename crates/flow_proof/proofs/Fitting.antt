@@ -1,5 +1,5 @@
 -- When rows fit a value in a heap, and how this lasts over a change of the heap.
-use Rattle.std.proofs.Common.{◌≡◌, ℕ, ◌<◌, List, [], ◌∷◌, length, ◌⊎◌, inl, inr, Some, arith}
+use Rattle.std.proofs.Common.{◌≡◌, ℕ, ◌<◌, List, [], ◌∷◌, ◌++◌, length, ◌⊎◌, inl, inr, Some, arith}
 use Rattle.std.proofs.lemmas.Option.{none-some}
 use Rattle.vet_base.specs.declared.key_id.KeyId.{KeyId}
 use Rattle.access_path.specs.declared.path.Path.{Path}
@@ -8,6 +8,7 @@ use Rattle.access_path.specs.Paths.{Covers, cut}
 use Rattle.app_machine.specs.declared.app.App.{App}
 use Rattle.app_machine.specs.declared.lists.Lists.{Lists}
 use Rattle.vet_base.specs.Members.{In}
+use Rattle.vet_base.proofs.Members.{in_either}
 use Rattle.app_machine.specs.Names.{Name}
 use Rattle.app_machine.specs.Heap.{Value, Object, EntryAt, ClassAt, Reaches, blank, labelled}
 use Rattle.fact_rows.specs.declared.site.Site.{Site}
@@ -55,6 +56,15 @@ fits_map f g fits = record {
   within = fits.within;
   pointed = λ p e. f _ (fits.pointed p e);
   tainted = λ ks label h. covered_map g (fits.tainted ks label h);
+}
+
+-- a value with more labels
+pub labelled_fits : {heap : List Object} {site : ℕ → Site} {v : Value} {points : Site → Type 0} {taints : Path → ℕ → Type 0} (more : List ℕ) →
+    ((l : ℕ) → In l more → Covered taints [] l) → Fits heap site v points taints → Fits heap site (record { place = v.place; labels = more ++ v.labels }) points taints
+labelled_fits {v = v} more own fits = record {
+  within = fits.within;
+  pointed = fits.pointed;
+  tainted = elim [ [] ↦ λ l h. elim (in_either l more v.labels h) [ inl new ↦ own l new | inr old ↦ fits.tainted [] l old ] | k ∷ ks ↦ λ l h. fits.tainted (k ∷ ks) l h ];
 }
 
 -- The entry that is put under the key of an object is known, and the effect on the object's site covers what it leads to.

@@ -34,7 +34,7 @@ use Rattle.flow_proof.proofs.Knowing.{node_of, Pending, RegisterFits, PendingFit
 
 module _ (app : App) (lists : Lists) (has : Row → Type 0) (closed : Closed app lists has) (laws : PathLaws) where
   -- the rules, applied to rows that are there
-  pub loc : {rule : ℕ} {ps : List Row} {row : Row} → LocalRule app rule ps row → Each has ps → has row
+  pub loc : {rule : ℕ} {ps : List Row} {row : Row} → LocalRule app lists rule ps row → Each has ps → has row
   loc r h = closed _ _ _ (by_local r) h
 
   pub eff : {rule : ℕ} {ps : List Row} {row : Row} → EffectRule app rule ps row → Each has ps → has row

@@ -21,7 +21,7 @@ each_map f (row ∷ rows) h = (f row h.0, each_map f rows h.1)
 
 module _ (app : App) (lists : Lists) (sound : SoundApp app) (listed : SoundLists lists) (laws : PathLaws) where
   closed_in : Closed app lists (InApp app lists)
-  closed_in rule premises row (by_local r) h = local_in app lists sound laws r h
+  closed_in rule premises row (by_local r) h = local_in app lists sound laws listed r h
   closed_in rule premises row (by_effect r) h = effect_in app lists sound laws r h
   closed_in rule premises row (by_call r) h = call_in app lists sound r h
   closed_in rule premises row (by_library r) h = library_in app lists sound listed laws r h

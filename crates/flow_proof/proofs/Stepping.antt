@@ -13,6 +13,7 @@ use Rattle.app_machine.specs.declared.lists.Lists.{Lists}
 use Rattle.vet_base.specs.Members.{In}
 use Rattle.app_machine.specs.Names.{Name}
 use Rattle.app_machine.specs.Lookups.{elem_key, step_at, ActAt, Goes}
+use Rattle.app_machine.specs.Summaries.{static_source}
 use Rattle.app_machine.specs.Heap.{Value, Object, blank, labelled, Reaches, put_at, put_to, Gets, entry_of, no_element, no_entry}
 use Rattle.app_machine.specs.State.{result_register, exception_register, write, write_all, World, Frame, object_at, new_object}
 use Rattle.app_machine.specs.Local.{AreOwnLabels, AreElements, Local, skips, goes, blanks, moves, takes_result, takes_exception, joins, makes, fills, gets, puts, gets_static, puts_static}
@@ -25,10 +26,10 @@ use Rattle.fact_rows.specs.declared.row.Row.{Row}
 use Rattle.fact_rows.specs.declared.row.Row.TheVariants.{Points, Cell, Effect}
 use Rattle.flow_rules.specs.Nodes.{at_pc, Acts}
 use Rattle.flow_rules.specs.Sites.{class_made, site_class, SiteClass}
-use Rattle.flow_rules.specs.LocalRules.{move_points, move_taint, result_points, result_taint, exception_points, exception_taint, join_taint, new_points, new_taint, fill_points, fill_cell, fill_taint, get_points, get_taint, put_cell, put_effect, get_static_points, get_static_taint, put_static_points, put_static_taint}
+use Rattle.flow_rules.specs.LocalRules.{move_points, move_taint, result_points, result_taint, exception_points, exception_taint, join_taint, new_points, new_taint, fill_points, fill_cell, fill_taint, get_points, get_taint, put_cell, put_effect, get_static_points, get_static_taint, get_static_source, put_static_points, put_static_taint}
 use Rattle.flow_rules.specs.Rules.{Closed}
 use Rattle.flow_proof.proofs.HeapLaws.{EntryAt-put, ClassAt-put, IsPut, length-put_at}
-use Rattle.flow_proof.proofs.Fitting.{Fits, HeapFits, Covered, Changed, PutFits, fits_map, blank_fits, placeless_fits}
+use Rattle.flow_proof.proofs.Fitting.{Fits, HeapFits, Covered, Changed, PutFits, fits_map, blank_fits, placeless_fits, labelled_fits}
 use Rattle.flow_proof.proofs.Growing.{NewFits, new_fits, walk_before}
 use Rattle.flow_proof.proofs.Sounding.{put_static_below}
 use Rattle.flow_proof.proofs.Knowing.{node_of, Taints, SharedOnly, StaticFits, Running, Runs, Known, written}
@@ -107,10 +108,17 @@ module _ (app : App) (lists : Lists) (has : Row → Type 0) (closed : Closed app
 
   known_get_static : {w : World} {site : ℕ → Site} {c : Ctx} {f : Frame} {fs : List Frame} {pc g : ℕ} {ds : List ℕ} →
       Runs app lists has w site c f fs → ActAt app f.method f.pc (GetStatic ds g) → Goes app f.method f.pc pc →
-      Known app lists has w (record f { pc = pc; registers = write_all f.registers ds (w.statics g) } ∷ fs)
-  known_get_static {w = w} {c = c} {f = f} {g = g} {ds = ds} known act next =
-      goes_writing_all app lists has closed laws (pending_of app lists has closed laws known) act next ds (w.statics g) (λ _ other. other)
-      (λ d is_one. fits_map (λ _ h. loc app lists has closed laws (get_static_points {n = node_of c f} d act is_one next) (known.reached, (h.0, tt))) (λ _ _ h. loc app lists has closed laws (get_static_taint {n = node_of c f} d act is_one next) (known.reached, (h, tt))) (known.world.statics g))
+      Known app lists has w (record f { pc = pc; registers = write_all f.registers ds (record { place = (w.statics g).place; labels = option_to_list (static_source app lists g) ++ (w.statics g).labels }) } ∷ fs)
+  known_get_static {w} {site} {c} {f} {fs} {pc} {g} {ds} known act next =
+      goes_writing_all app lists has closed laws (pending_of app lists has closed laws known) act next ds (record { place = (w.statics g).place; labels = option_to_list (static_source app lists g) ++ (w.statics g).labels }) (λ _ other. other)
+      (λ d is_one. labelled_fits {v = w.statics g} (option_to_list (static_source app lists g)) (λ l h. source d is_one (static_source app lists g) refl l h)
+      (fits_map (λ _ h. loc app lists has closed laws (get_static_points {n = node_of c f} d act is_one next) (known.reached, (h.0, tt))) (λ _ _ h. loc app lists has closed laws (get_static_taint {n = node_of c f} d act is_one next) (known.reached, (h, tt))) (known.world.statics g)))
+    where
+      source : (d : ℕ) → In d ds → (o : Option ℕ) → static_source app lists g ≡ o → (l : ℕ) → In l (option_to_list o) → Covered (Taints has (at_pc (node_of c f) pc) d) [] l
+      source d is_one None is l h = absurd h
+      source d is_one (Some k) is l (inr none) = absurd none
+      source d is_one (Some k) is l (inl same) =
+          record { path = empty_path; covers = laws.empty; row = loc app lists has closed laws (get_static_source {n = node_of c f} d act is_one (is ∙ ap (λ x. Some x) (sym same)) next) (known.reached, tt) }
 
   known_join : {w : World} {site : ℕ → Site} {c : Ctx} {f : Frame} {fs : List Frame} {pc : ℕ} {ds xs : List ℕ} (labels : List ℕ) →
       Runs app lists has w site c f fs → ActAt app f.method f.pc (Join ds xs) → Goes app f.method f.pc pc → AreOwnLabels f xs labels →
@@ -240,7 +248,7 @@ module _ (app : App) (lists : Lists) (has : Row → Type 0) (closed : Closed app
               record { path = cut elem_key t.path; covers = laws.cut elem_key t.path ks t.covers; row = loc app lists has closed laws (fill_taint {n = node_of c f} x act is_source next) (t.row, tt) }
 
   pub known_local : {w : World} {f : Frame} {new : World} {g : Frame} {site : ℕ → Site} {c : Ctx} {fs : List Frame} →
-      Runs app lists has w site c f fs → Local app w f new g → Known app lists has new (g ∷ fs)
+      Runs app lists has w site c f fs → Local app lists w f new g → Known app lists has new (g ∷ fs)
   known_local known (skips act next) = goes_plain app lists has closed laws (pending_of app lists has closed laws known) act next (λ _. refl)
   known_local known (goes act next) = goes_plain app lists has closed laws (pending_of app lists has closed laws known) act next (λ _. refl)
   known_local known (blanks {ds = ds} act next) =

@@ -5,10 +5,12 @@ use Rattle.access_path.specs.declared.path.Path.{Path}
 use Rattle.access_path.specs.Paths.{keys_of, cut, rest, empty_path}
 use Rattle.app_machine.specs.declared.method.Act.{Act}
 use Rattle.app_machine.specs.declared.method.Act.TheVariants.{Join, Move, New, Fill, Get, Put, GetStatic, PutStatic, Return, Throw, TakeResult, TakeException}
+use Rattle.app_machine.specs.declared.lists.Lists.{Lists}
 use Rattle.app_machine.specs.declared.app.App.{App}
 use Rattle.vet_base.specs.Members.{In}
 use Rattle.app_machine.specs.Names.{Name}
 use Rattle.app_machine.specs.Lookups.{elem_key}
+use Rattle.app_machine.specs.Summaries.{static_source}
 use Rattle.app_machine.specs.State.{result_register, exception_register}
 use Rattle.app_machine.specs.Local.{writes}
 use Rattle.fact_rows.specs.declared.context.Node.{Node}
@@ -25,7 +27,7 @@ returning = 0
 abbrev pub throwing : ℕ
 throwing = 1
 
-module _ (app : App) where
+module _ (app : App) (lists : Lists) where
   -- The rule of that number gives the row from these premises.
   pub data LocalRule : ℕ → List Row → Row → Type 0 where
     -- 1. Control goes on: to each next step and to each handler.
@@ -134,7 +136,7 @@ module _ (app : App) where
     put_effect : {n : Node} {o x l : ℕ} {k : KeyId} {s : Site} {p : Path} →
         Acts app n (Put o k x) →
         LocalRule 8 (Points n o s ∷ Taint n x p l ∷ []) (Effect n s (cut k p) l)
-    -- 9. GetStatic gives each destination what the static holds.
+    -- 9. GetStatic gives each destination what the static holds, and the label that the lists give it.
     get_static_points : {n : Node} {pc g : ℕ} (d : ℕ) {ds : List ℕ} {s : Site} →
         Acts app n (GetStatic ds g) →
         In d ds →
@@ -145,6 +147,12 @@ module _ (app : App) where
         In d ds →
         GoesOn app n pc →
         LocalRule 9 (Reached n ∷ StaticTaint g p l ∷ []) (Taint (at_pc n pc) d p l)
+    get_static_source : {n : Node} {pc g l : ℕ} (d : ℕ) {ds : List ℕ} →
+        Acts app n (GetStatic ds g) →
+        In d ds →
+        static_source app lists g ≡ Some l →
+        GoesOn app n pc →
+        LocalRule 9 (Reached n ∷ []) (Taint (at_pc n pc) d empty_path l)
     -- 10. PutStatic gives the static what the register holds.
     put_static_points : {n : Node} {g x : ℕ} {s : Site} →
         Acts app n (PutStatic g x) →

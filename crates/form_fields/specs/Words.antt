@@ -79,7 +79,7 @@ keys_of section.Class = key.Name ∷ key.Parents ∷ key.Default ∷ []
 keys_of section.Shared = key.Name ∷ key.Class ∷ []
 keys_of section.Method = key.Class ∷ key.Name ∷ key.Proto ∷ key.Static ∷ key.Result ∷ key.From ∷ key.Shared ∷ key.Puts ∷ key.Stores ∷ key.Copies ∷ key.Source ∷ key.Sink ∷ key.Positions ∷ key.Reflective ∷ []
 keys_of section.Callback = key.Class ∷ key.Name ∷ key.Proto ∷ key.Sources ∷ []
-keys_of section.Static = key.Class ∷ key.Name ∷ key.Type ∷ []
+keys_of section.Static = key.Class ∷ key.Name ∷ key.Type ∷ key.Source ∷ []
 keys_of section.Office = key.Port ∷ key.Workers ∷ key.AppealDays ∷ key.Party ∷ []
 keys_of section.Party = key.Name ∷ key.Role ∷ key.Token ∷ []
 

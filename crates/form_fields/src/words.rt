@@ -191,7 +191,7 @@ impl Section {
                 Key::Reflective,
             ],
             Section::Callback => &[Key::Class, Key::Name, Key::Proto, Key::Sources],
-            Section::Static => &[Key::Class, Key::Name, Key::Type],
+            Section::Static => &[Key::Class, Key::Name, Key::Type, Key::Source],
             Section::Office => &[Key::Port, Key::Workers, Key::AppealDays, Key::Party],
             Section::Party => &[Key::Name, Key::Role, Key::Token],
         }

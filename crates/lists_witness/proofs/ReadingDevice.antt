@@ -9,7 +9,7 @@ use Rattle.form_fields.specs.Spelling.{is_short, is_class, is_prefix, is_categor
 use Rattle.form_fields.specs.Tree.{items_in}
 use Rattle.form_fields.specs.Words.{text_of, keys_of}
 use Rattle.method_fields.specs.Descriptor.{is_primitive, base_length, first_of_base, first_semicolon, type_length, is_type}
-use Rattle.method_fields.specs.Positions.{flag_at}
+use Rattle.method_fields.specs.Positions.{flag_at, listed_at}
 use Rattle.method_fields.specs.Signature.{key_once, keys_once, type_at}
 use Rattle.store_lists.specs.Callbacks.{callbacks_of}
 use Rattle.store_lists.specs.Classes.{classes_of}
@@ -19,7 +19,7 @@ use Rattle.store_lists.specs.Methods.{methods_of}
 use Rattle.lists_witness.specs.DeviceFacts.{DeviceIsRead}
 
 pub device_is_read : DeviceIsRead
-unfolding lists_form known least_unknown is_known keys_of text_of number_at at_key categories_at texts_at texts_in text_items text_item walk items_in all_fit fits is_category is_short are_category_bytes is_category_byte with_new with_one place_of are_categories arrays_at tables_at all_have has_shape is_table device_at flag_at prefixes_at are_counted maybe_texts_at is_prefix all_rows rows_of classes_of shared_of methods_of callbacks_of statics_of each static_row static_at table_in text_at text_of_value is_class type_at is_type type_length first_of_base base_length first_semicolon is_primitive static_key rows_once names_once keys_once key_once
+unfolding lists_form known least_unknown is_known keys_of text_of number_at at_key categories_at texts_at texts_in text_items text_item walk items_in all_fit fits is_category is_short are_category_bytes is_category_byte with_new with_one place_of are_categories arrays_at tables_at all_have has_shape is_table device_at flag_at listed_at prefixes_at are_counted maybe_texts_at is_prefix all_rows rows_of classes_of shared_of methods_of callbacks_of statics_of each static_row static_at table_in text_at text_of_value is_class type_at is_type type_length first_of_base base_length first_semicolon is_primitive static_key rows_once names_once keys_once key_once
 device_is_read = record {
   in_both = refl;
   twice_in_one = refl;
@@ -29,5 +29,7 @@ device_is_read = record {
   no_word = refl;
   static_once = refl;
   two_types = refl;
+  source = refl;
+  no_source = refl;
   no_void = refl;
 }

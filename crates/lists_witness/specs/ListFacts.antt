@@ -77,8 +77,9 @@ pub record ReadsLists : Type 0 where
       shared = [];
       methods = [];
       callbacks = [];
+      statics = [];
     };
-    device = record { strict = false; platform = []; bundled = []; statics = [] };
+    device = record { strict = false; platform = []; bundled = [] };
   })
   -- positions that are no list are wrong; where the type is tested at another key, they are out of range, as there is no sink
   pub positions_type : run (lists_form of_strange_positions) ≡ Err (Wrong section.Method key.Positions)

@@ -13,7 +13,7 @@ use Rattle.app_machine.specs.Events.{IsApplication}
 use Rattle.app_machine.specs.Lookups.{directly_above}
 use Rattle.app_machine.specs.Names.{Name, descriptor_of, is_wide, same_name}
 use Rattle.app_machine.specs.Sound.{IsAbove, ShortLists, SoundApp, SoundMethod, SoundStep, beyond, directly, taken}
-use Rattle.app_machine.specs.SoundLists.{NamedPosition, SoundCallback, SoundClass, SoundLists, SoundSummary, TwoPositions}
+use Rattle.app_machine.specs.SoundLists.{NamedPosition, SoundCallback, SoundStatic, SoundClass, SoundLists, SoundSummary, TwoPositions}
 use Rattle.app_machine.specs.Summaries.{position_count}
 use Rattle.lookup_witness.specs.Shapes.{activity_class, base_class, body, child_class, does, going, initialiser, int, object, on_given, only_ends, outer_interface, screen_class, service_class, shapes, tap, worker_class}
 use Rattle.lookup_witness.specs.AppFacts.{event_lists}
@@ -220,9 +220,11 @@ sound_lists = record {
   few_shared = lit≤ tt;
   few_methods = lit≤ tt;
   few_callbacks = lit≤ tt;
+  few_statics = lit≤ tt;
   classes = all_from_in SoundClass row_lists.classes (λ c h. each_in SoundClass row_lists.classes c classes h);
   methods = all_from_in (SoundSummary 1 0) row_lists.methods (λ m h. each_in (SoundSummary 1 0) row_lists.methods m methods h);
   callbacks = none (SoundCallback 1);
+  statics = none (SoundStatic 1);
 }
 
 called : AllByRecursion (SoundCallback 1) event_lists.callbacks
@@ -240,7 +242,9 @@ sound_events = record {
   few_shared = lit≤ tt;
   few_methods = lit≤ tt;
   few_callbacks = lit≤ tt;
+  few_statics = lit≤ tt;
   classes = none SoundClass;
   methods = none (SoundSummary 1 0);
   callbacks = all_from_in (SoundCallback 1) event_lists.callbacks (λ c h. each_in (SoundCallback 1) event_lists.callbacks c called h);
+  statics = none (SoundStatic 1);
 }

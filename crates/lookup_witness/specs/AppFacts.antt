@@ -23,6 +23,7 @@ callback_lists = record {
   shared = [];
   methods = [];
   callbacks = record { class = activity_class; name = on_given.name; proto = on_given.proto; sources = [] } ∷ [];
+  statics = [];
 }
 
 abbrev pub numbers : Name
@@ -40,6 +41,7 @@ event_lists = record {
       record { class = outer_interface; name = codes "onFilled"; proto = record { params = numbers ∷ []; ret = void }; sources = [] }
       ∷ record { class = activity_class; name = on_given.name; proto = on_given.proto; sources = [] }
       ∷ [];
+  statics = [];
 }
 
 pub record LooksUp : Type 0 where

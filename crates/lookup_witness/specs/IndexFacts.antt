@@ -44,6 +44,7 @@ row_lists = record {
   shared = [];
   methods = row_of_method clone false ∷ row_of_method sealed true ∷ row_of_method plain true ∷ [];
   callbacks = [];
+  statics = [];
 }
 
 -- what the lists say of a call of the method on the class

@@ -211,7 +211,7 @@ the_constant registers {method} {pc} {to} {ds} in_method there next e =
     let list : ds ≡ 0 ∷ [] = cc in
     subst (λ x. write_all registers x blank 0 ≡ blank) (sym list) refl
 
-quiet_local : {w : World} {f : Frame} {new : World} {g : Frame} → NothingArrived w → f.method ≡ 0 → Local clear_app w f new g → Quiet new (g ∷ [])
+quiet_local : {w : World} {f : Frame} {new : World} {g : Frame} → NothingArrived w → f.method ≡ 0 → Local clear_app small_lists w f new g → Quiet new (g ∷ [])
 quiet_local none in_method (skips act next) = busy none in_method (elsewhere in_method act next (λ e. let no_way : ⊥ = cc in no_way))
 quiet_local none in_method (goes act next) = busy none in_method (elsewhere in_method act next (λ e. let no_way : ⊥ = cc in no_way))
 quiet_local {f = f} none in_method (blanks act next) = busy none in_method (the_constant f.registers in_method act next)

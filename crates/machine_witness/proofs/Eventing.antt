@@ -10,7 +10,7 @@ use Rattle.app_machine.specs.declared.component.Kind.TheVariants.{Application, A
 use Rattle.app_machine.specs.declared.lists.SummaryId.TheVariants.{Row}
 use Rattle.app_machine.specs.Names.{descriptor_of, click_descriptor, is_reference, is_wide, is_array}
 use Rattle.app_machine.specs.Lookups.{HasCode, elem_key, step_at, target, find_body, method_of, method_with, body_named, class_named, up, is_by_receiver}
-use Rattle.app_machine.specs.Summaries.{Below, is_same, is_through, of_class, library_key, summary, row_walk, library_classes, listed_above, listed_class, row_of}
+use Rattle.app_machine.specs.Summaries.{listed_static, static_source, Below, is_same, is_through, of_class, library_key, summary, row_walk, library_classes, listed_above, listed_class, row_of}
 use Rattle.app_machine.specs.Heap.{Value, Object, blank, entry_of}
 use Rattle.app_machine.specs.State.{World, entered, object_at, new_object}
 use Rattle.app_machine.specs.Calls.{by_name}
@@ -71,7 +71,7 @@ unfolding activity_of body_named method_with up descriptor_of click_descriptor
 tap_comes = record { component = record { kind = Activity; class = main_class }; name = codes "tap"; there = record { there = refl }; is_click = record { there = refl }; is_activity = refl; is_body = refl }
 
 click : ArrivesAt (activity_of by_click) 1 1
-unfolding activity_of step_at body_named method_with up layout is_wide
+unfolding activity_of box_lists static_source listed_static step_at body_named method_with up layout is_wide
 click =
     let kept = by_end (by_put_static (by_take (by_id (created_run by_click refl) (knows by_click) 1 refl) (0 ∷ []) 2 refl) 0 0 3 refl) refl in
     let tapped = by_click_of by_click kept tap (step 0 (GetStatic (0 ∷ []) 0) (1 ∷ []) ∷ and_post 1 0) blank (new_object main_class ∷ []) tap_comes (not_zero 1) tap_code refl (one_more is_blank no_more) in
@@ -187,7 +187,7 @@ module _ {w : World} (run : Run by_application box_lists w []) where
   activity_begins v state receiver = then run (begins (lives activity_created_at state (not_zero 0)) main_code receiver (one_more is_blank no_more))
 
 application : ArrivesAt by_application 1 1
-unfolding by_application step_at layout is_wide
+unfolding by_application box_lists static_source listed_static step_at layout is_wide
 application =
     let kept = by_end (by_put_static (by_take (by_id app_begins application_knows 1 refl) (0 ∷ []) 2 refl) 0 0 3 refl) refl in
     let begun = activity_begins (activity_born kept refl refl) (object_at (Some 1)) refl refl in

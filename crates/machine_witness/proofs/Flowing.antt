@@ -1,6 +1,6 @@
 -- How a run goes on by each act and library call of the apps with one flow, whatever the app.
 use Rattle.std.proofs.Common.{◌≡◌, ℕ, zero, suc, List, [], ◌∷◌, true, false, ◌⊎◌, ◌↔◌, inl, inr, Option, Some, None, refl, ap, sym, ◌∙◌, subst, arith}
-use Rattle.std.specs.Prelude.{length, ◌++◌}
+use Rattle.std.specs.Prelude.{length, ◌++◌, option_to_list}
 use Rattle.vet_base.specs.declared.key_id.KeyId.{KeyId}
 use Rattle.app_machine.specs.declared.call.MethodRef.{MethodRef}
 use Rattle.app_machine.specs.declared.call.CallKind.TheVariants.{Static}
@@ -14,7 +14,7 @@ use Rattle.app_machine.specs.declared.lists.SummaryId.TheVariants.{Row}
 use Rattle.vet_base.specs.Members.{In}
 use Rattle.app_machine.specs.Names.{Name, is_void, is_reference, is_wide, is_array}
 use Rattle.app_machine.specs.Lookups.{Body, HasCode, Initialises, elem_key, step_at, target, find_body, up, method_of, class_named, is_by_receiver}
-use Rattle.app_machine.specs.Summaries.{library_key, summary, row_walk, library_classes, listed_above, listed_class, row_of}
+use Rattle.app_machine.specs.Summaries.{static_source, library_key, summary, row_walk, library_classes, listed_above, listed_class, row_of}
 use Rattle.app_machine.specs.Heap.{Value, Object, blank, labelled, Reaches, put_to, Gets}
 use Rattle.app_machine.specs.State.{result_register, exception_register, write, write_all, Arrival, World, Frame, object_at, new_object}
 use Rattle.app_machine.specs.Local.{blanks, takes_result, takes_exception, joins, makes, fills, gets, puts, gets_static, puts_static}
@@ -61,7 +61,7 @@ module _ {app : App} {lists : Lists} {w : World} {f : Frame} {fs : List Frame} (
   by_put_of o k x to e = then run (goes_on (puts (act_of _ e) (next_of _ e (inl refl))))
 
   pub by_get_static : (d g to : ℕ) → step_at app f.method f.pc ≡ Some (step f.pc (GetStatic (d ∷ []) g) (to ∷ []))
-      → Run app lists w (record f { pc = to; registers = write_all f.registers (d ∷ []) (w.statics g) } ∷ fs)
+      → Run app lists w (record f { pc = to; registers = write_all f.registers (d ∷ []) (record { place = (w.statics g).place; labels = option_to_list (static_source app lists g) ++ (w.statics g).labels }) } ∷ fs)
   by_get_static d g to e = then run (goes_on (gets_static (act_of _ e) (next_of _ e (inl refl))))
 
   pub by_put_static : (g x to : ℕ) → step_at app f.method f.pc ≡ Some (step f.pc (PutStatic g x) (to ∷ []))

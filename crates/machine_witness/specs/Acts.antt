@@ -1,5 +1,5 @@
 -- A method with every act, and the steps that the machine takes in it from any world and registers.
-use Rattle.std.specs.Prelude.{◌≡◌, ℕ, false, List, [], ◌∷◌, ◌++◌, length, Some, None, codes}
+use Rattle.std.specs.Prelude.{◌≡◌, ℕ, false, List, [], ◌∷◌, ◌++◌, length, Some, None, option_to_list, codes}
 use Rattle.vet_base.specs.declared.key_id.KeyId.{KeyId}
 use Rattle.app_machine.specs.declared.method.Act.TheVariants.{Skip, Join, Move, Blank, New, Fill, Get, Put, GetStatic, PutStatic, Return, TakeResult, TakeException, Go}
 use Rattle.app_machine.specs.declared.app.Key.{Key}
@@ -8,6 +8,7 @@ use Rattle.app_machine.specs.declared.app.App.{App}
 use Rattle.app_machine.specs.declared.lists.Lists.{Lists}
 use Rattle.app_machine.specs.Names.{Name}
 use Rattle.app_machine.specs.Lookups.{elem_key}
+use Rattle.app_machine.specs.Summaries.{static_source}
 use Rattle.app_machine.specs.Heap.{Value, Object, blank, labelled, EntryAt, put_to}
 use Rattle.app_machine.specs.State.{result_register, exception_register, write, write_all, World, Frame, object_at, new_object}
 use Rattle.app_machine.specs.Run.{Steps}
@@ -88,7 +89,9 @@ pub record EachActSteps (w : World) (r : ℕ → Value) : Type 0 where
   pub gets_field : (p : ℕ) (v : Value) → (r 1).place ≡ Some p → EntryAt w.heap p field_key v → ComesTo w 10 r w 11 (write_all r (0 ∷ []) v)
   pub gets_no_field : (r 1).place ≡ None → ComesTo w 10 r w 11 (write_all r (0 ∷ []) blank)
   pub puts : ComesTo w 11 r (record w { heap = put_to w.heap (r 0).place field_key (r 1) }) 12 r
-  pub gets_static : ComesTo w 12 r w 13 (write_all r (0 ∷ []) (w.statics 0))
+  -- with the label that the lists give the static
+  pub gets_static : (lists : Lists) (fs : List Frame) →
+      Steps acts_app lists w (frame_at 12 r ∷ fs) w (frame_at 13 (write_all r (0 ∷ []) (record { place = (w.statics 0).place; labels = option_to_list (static_source acts_app lists 0) ++ (w.statics 0).labels })) ∷ fs)
   pub puts_static : ComesTo w 13 r (record w { statics = write w.statics 0 (r 1) }) 14 r
   pub makes_array : ComesTo w 14 r (with_object w (new_object ints)) 15 (write r 0 (record { place = Some (length w.heap); labels = (r 1).labels }))
 

@@ -85,6 +85,7 @@ small_lists = record {
       ∷ record { class = net_class; name = codes "post"; proto = post.proto; is_static = true; gives = gives.Blank; puts = []; stores = []; copies = []; source = None; sink = Some (1, 0 ∷ []); reflective = false }
       ∷ [];
   callbacks = [];
+  statics = [];
 }
 
 -- some run brings the label 0 to the sink 1, at the call of `post`

@@ -46,6 +46,13 @@ int = codes "I"
 abbrev pub void : Name
 void = codes "V"
 
+-- a static field of the library that is a source
+abbrev pub build_class : Name
+build_class = codes "Landroid/os/Build;"
+
+abbrev pub text : Name
+text = codes "Ljava/lang/String;"
+
 -- the methods of the library: one puts a number into a box, one pours a box into another, one puts a number into the shared
 -- store, one gives that store, and one gives what a box holds
 abbrev pub add : MethodRef
@@ -112,6 +119,7 @@ box_lists = record {
   shared = (codes "store", store_class) ∷ [];
   methods = id_row ∷ post_row ∷ add_row ∷ pour_row ∷ keep_row ∷ open_row ∷ first_row ∷ [];
   callbacks = callback_of on_number ((1, 0) ∷ []) ∷ callback_of on_told ((1, 0) ∷ []) ∷ callback_of on_given [] ∷ [];
+  statics = record { class = build_class; name = codes "SERIAL"; kind = text; source = Some 0 } ∷ [];
 }
 
 abbrev pub own_box_class : Class
@@ -135,7 +143,7 @@ activity_of s = record {
   classes = one_class ∷ own_box_class ∷ [];
   methods = created_by s.on_create ∷ s.others;
   keys = Elem ∷ number_field ∷ [];
-  statics = (main_class, codes "s", int) ∷ [];
+  statics = (main_class, codes "s", int) ∷ (build_class, codes "SERIAL", text) ∷ [];
   components = record { kind = Activity; class = main_class } ∷ [];
   clicks = codes "tap" ∷ [];
   providers = [];
@@ -164,6 +172,10 @@ and_post pc x = step pc (Call Static post (x ∷ [])) ((pc + 1) ∷ []) ∷ step
 -- through a static field
 abbrev pub by_static : Scene
 by_static = scene (with_id (step 2 (PutStatic 0 0) (3 ∷ []) ∷ step 3 (GetStatic (1 ∷ []) 0) (4 ∷ []) ∷ and_post 4 1)) []
+
+-- as a static field of the library
+abbrev pub by_source : Scene
+by_source = scene (step 0 (GetStatic (0 ∷ []) 1) (1 ∷ []) ∷ and_post 1 0) []
 
 -- through an instance field
 abbrev pub by_field : Scene
@@ -266,6 +278,7 @@ by_application = record {
 -- the label arrives in each of them, each time at the one call of the sink
 pub record WithinOnCreate : Type 0 where
   pub static : ArrivesAt (activity_of by_static) 0 4
+  pub source : ArrivesAt (activity_of by_source) 0 1
   pub field : ArrivesAt (activity_of by_field) 0 5
   pub element : ArrivesAt (activity_of by_element) 0 5
   pub filled : ArrivesAt (activity_of by_filled) 0 5

@@ -48,6 +48,7 @@ results_lists = record {
       ∷ record (row_of_method on_receiver) { is_static = false }
       ∷ [];
   callbacks = [];
+  statics = [];
 }
 
 unfoldable pub results_app : App

@@ -32,6 +32,7 @@ standing_lists = record {
   shared = [];
   methods = record (row_of_method mirror) { reflective = true } ∷ [];
   callbacks = [];
+  statics = [];
 }
 
 abbrev pub native_method : MethodRef → Bool → Method

@@ -91,7 +91,8 @@ pub fn each_act_does_its_step()
     ensures { ActsStep }
 {}
 
-/// A label arrives through a static, a field, an element, a filled array and the size of an array.
+/// A label arrives through a static, as one of the library, through a field, an element, a filled
+/// array and the size of an array.
 pub fn labels_flow_within_a_method()
     ensures { FlowsWithinOnCreate }
 {}

@@ -16,7 +16,7 @@ use Rattle.fact_rows.specs.InApp.{InApp, NodeIn, ParameterIn, at_step, of_method
 use Rattle.fact_rows.specs.Contexts.{event_types}
 use Rattle.flow_rules.specs.Rules.{Follows, by_local, by_effect, by_call, by_library, by_event, Starts, the_application, a_component, Each}
 use Rattle.flow_rules.specs.Nodes.{activation_in, entry, ArgumentRegister}
-use Rattle.flow_rules.specs.LocalRules.{LocalRule, reach_next, reach_caught, keep_points, keep_taint, keep_points_caught, keep_taint_caught, move_points, move_taint, result_points, result_taint, exception_points, exception_taint, join_taint, new_points, new_taint, fill_points, fill_cell, fill_taint, get_points, get_taint, put_cell, put_effect, get_static_points, get_static_taint, put_static_points, put_static_taint, throw_points, throw_taint, throw_exit_points, throw_exit_taint, return_points, return_taint, cell_back}
+use Rattle.flow_rules.specs.LocalRules.{LocalRule, reach_next, reach_caught, keep_points, keep_taint, keep_points_caught, keep_taint_caught, move_points, move_taint, result_points, result_taint, exception_points, exception_taint, join_taint, new_points, new_taint, fill_points, fill_cell, fill_taint, get_points, get_taint, put_cell, put_effect, get_static_points, get_static_taint, get_static_source, put_static_points, put_static_taint, throw_points, throw_taint, throw_exit_points, throw_exit_taint, return_points, return_taint, cell_back}
 use Rattle.flow_rules.specs.EffectRules.{EffectRule, lift_effect, effect_next, effect_caught, method_effect, caller_effect, effect_static, effect_handed, effect_own, effect_other}
 use Rattle.flow_rules.specs.CallRules.{CallRule, enter_direct, enter_class, enter_receiver, pass_points, pass_taint, returned_points, returned_taint, caught_points, caught_taint, unwound_points, unwound_taint, use_by_name, use_by_class, enter_initialiser, initialiser_taint}
 use Rattle.flow_rules.specs.LibraryRules.{LibraryRule, hand_points, hand_taint, sink_arrives, same_points, same_taint, taken_points, taken_taint, joined_points, joined_taint, joined_element, source_taint, source_element, shared_static_points, shared_points, shared_taint, row_put_cell, row_put_effect, store_static, store_cell, store_effect, copy_cell, copy_effect}
@@ -99,7 +99,7 @@ receiver_at {c} {e} {body} {z} {class} {life} at reg =
     subst (λ x. Listed (row.Points (entry (activation_in (ctx.Row x e) body)) z (Component x))) is.component third
 
 -- Rules 1 to 13: the one step goes nowhere and does nothing else.
-closed_local : {rule : ℕ} {premises : List Row} {r : Row} → LocalRule smallest_app rule premises r → Each Listed premises → Listed r
+closed_local : {rule : ℕ} {premises : List Row} {r : Row} → LocalRule smallest_app no_lists rule premises r → Each Listed premises → Listed r
 closed_local (reach_next goes) h = absurd (never_goes goes)
 closed_local (reach_caught caught) h = absurd (never_caught caught)
 closed_local (keep_points _ _ goes) h = absurd (never_goes goes)
@@ -124,6 +124,7 @@ closed_local (put_cell act) h = absurd (only_returns act)
 closed_local (put_effect act) h = absurd (only_returns act)
 closed_local (get_static_points _ act _ _) h = absurd (only_returns act)
 closed_local (get_static_taint _ act _ _) h = absurd (only_returns act)
+closed_local (get_static_source _ act _ _ _) h = absurd (only_returns act)
 closed_local (put_static_points act) h = absurd (only_returns act)
 closed_local (put_static_taint act) h = absurd (only_returns act)
 closed_local (throw_points act _) h = absurd (only_returns act)

@@ -10,7 +10,7 @@ use Rattle.app_machine.specs.Names.{descriptor_of}
 use Rattle.app_machine.specs.Lookups.{ActAt, Goes, Catches, step_at, body_named, method_with, up}
 use Rattle.app_machine.specs.LifeEvents.{life_events}
 use Rattle.app_machine.specs.Events.{LifeEventAt}
-use Rattle.flow_rules.specs.LocalRules.{reach_next, reach_caught, keep_points, keep_taint, keep_points_caught, keep_taint_caught, move_points, move_taint, result_points, result_taint, exception_points, exception_taint, join_taint, new_points, new_taint, fill_points, fill_cell, fill_taint, get_points, get_taint, put_cell, put_effect, get_static_points, get_static_taint, put_static_points, put_static_taint, throw_points, throw_taint, throw_exit_points, throw_exit_taint, return_points, return_taint, cell_back}
+use Rattle.flow_rules.specs.LocalRules.{reach_next, reach_caught, keep_points, keep_taint, keep_points_caught, keep_taint_caught, move_points, move_taint, result_points, result_taint, exception_points, exception_taint, join_taint, new_points, new_taint, fill_points, fill_cell, fill_taint, get_points, get_taint, put_cell, put_effect, get_static_points, get_static_taint, get_static_source, put_static_points, put_static_taint, throw_points, throw_taint, throw_exit_points, throw_exit_taint, return_points, return_taint, cell_back}
 use Rattle.flow_rules.specs.EffectRules.{lift_effect, effect_next, effect_caught, method_effect, caller_effect, effect_static, effect_handed, effect_own, effect_other}
 use Rattle.flow_rules.specs.Rules.{by_local, by_effect}
 use Rattle.rule_witness.specs.Smallest.{main_class}
@@ -96,6 +96,7 @@ step_rules_hold lists c s t p l = record {
   puts_label = by_local (put_effect (acts s8 refl));
   gets_static_site = by_local (get_static_points 2 (acts s9 refl) (inl refl) (goes s9 refl (inl refl)));
   gets_static_label = by_local (get_static_taint 2 (acts s9 refl) (inl refl) (goes s9 refl (inl refl)));
+  gets_static_source = λ is. by_local (get_static_source 2 (acts s9 refl) (inl refl) is (goes s9 refl (inl refl)));
   puts_static_site = by_local (put_static_points (acts s10 refl));
   puts_static_label = by_local (put_static_taint (acts s10 refl));
   throws_site = by_local (throw_points (acts s11 refl) (caught s11 refl (inl refl)));

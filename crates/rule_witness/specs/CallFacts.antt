@@ -78,6 +78,7 @@ calls_lists = record {
   shared = [];
   methods = row_of_method plain true ∷ record (row_of_method mirror true) { reflective = true } ∷ row_of_method size false ∷ [];
   callbacks = [];
+  statics = [];
 }
 
 abbrev pub method_of : MethodRef → Bool → ℕ → ℕ → List Step → Method

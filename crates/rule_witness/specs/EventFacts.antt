@@ -71,6 +71,7 @@ events_lists = record {
   shared = [];
   methods = [];
   callbacks = record { class = activity_class; name = on_box.name; proto = on_box.proto; sources = (0, 1) ∷ (1, 0) ∷ [] } ∷ [];
+  statics = [];
 }
 
 abbrev pub body_in : Ctx → ℕ → Activation

@@ -83,6 +83,7 @@ library_lists = record {
       ∷ record (row_of_method shows true) { sink = Some (1, 1 ∷ []) }
       ∷ [];
   callbacks = [];
+  statics = [];
 }
 
 unfoldable pub library_app : App

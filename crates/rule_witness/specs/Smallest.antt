@@ -41,7 +41,7 @@ smallest_app = record {
 }
 
 unfoldable pub no_lists : Lists
-no_lists = record { rows = 11; categories = []; classes = []; shared = []; methods = []; callbacks = [] }
+no_lists = record { rows = 11; categories = []; classes = []; shared = []; methods = []; callbacks = []; statics = [] }
 
 -- `onCreate` is event 1 in the life of component 0
 abbrev pub on_create_node : Node

@@ -1,5 +1,5 @@
 -- A method with every act, and what rules 1 to 21 give at its steps.
-use Rattle.std.specs.Prelude.{ℕ, false, List, [], ◌∷◌, Some, None, codes}
+use Rattle.std.specs.Prelude.{◌≡◌, ℕ, false, List, [], ◌∷◌, Some, None, codes}
 use Rattle.vet_base.specs.declared.key_id.KeyId.{KeyId}
 use Rattle.access_path.specs.declared.path.Path.{Path}
 use Rattle.access_path.specs.Paths.{cut, empty_path}
@@ -12,6 +12,7 @@ use Rattle.app_machine.specs.declared.app.App.{App}
 use Rattle.app_machine.specs.declared.lists.Lists.{Lists}
 use Rattle.app_machine.specs.Names.{Name}
 use Rattle.app_machine.specs.Lookups.{elem_key}
+use Rattle.app_machine.specs.Summaries.{static_source}
 use Rattle.app_machine.specs.State.{result_register, exception_register}
 use Rattle.fact_rows.specs.declared.context.Ctx.{Ctx}
 use Rattle.fact_rows.specs.declared.context.Ctx.TheVariants as ctx
@@ -108,6 +109,7 @@ pub record StepRulesGive (lists : Lists) (c : Ctx) (s t : Site) (p : Path) (l : 
   pub puts_label : Gives lists 8 (Points (node_at c 8) 1 s ∷ Taint (node_at c 8) 2 p l ∷ []) (Effect (node_at c 8) s (cut field_key p) l)
   pub gets_static_site : Gives lists 9 (Reached (node_at c 9) ∷ StaticPoints 0 s ∷ []) (Points (node_at c 10) 2 s)
   pub gets_static_label : Gives lists 9 (Reached (node_at c 9) ∷ StaticTaint 0 p l ∷ []) (Taint (node_at c 10) 2 p l)
+  pub gets_static_source : static_source acts_app lists 0 ≡ Some l → Gives lists 9 (Reached (node_at c 9) ∷ []) (Taint (node_at c 10) 2 empty_path l)
   pub puts_static_site : Gives lists 10 (Points (node_at c 10) 1 s ∷ []) (StaticPoints 0 s)
   pub puts_static_label : Gives lists 10 (Taint (node_at c 10) 1 p l ∷ []) (StaticTaint 0 p l)
   pub throws_site : Gives lists 11 (Points (node_at c 11) 1 s ∷ []) (Points (node_at c 20) exception_register s)

@@ -6,8 +6,10 @@ use Rattle.access_path.specs.Paths.{keys_of, cut, rest, empty_path}
 use Rattle.app_machine.specs.declared.method.Act.{Act}
 use Rattle.app_machine.specs.declared.method.Act.TheVariants as act
 use Rattle.app_machine.specs.declared.method.Step.{Step}
+use Rattle.app_machine.specs.declared.lists.Lists.{Lists}
 use Rattle.app_machine.specs.declared.app.App.{App}
 use Rattle.app_machine.specs.Lookups.{step_at, elem_key}
+use Rattle.app_machine.specs.Summaries.{static_source}
 use Rattle.app_machine.specs.Local.{writes}
 use Rattle.app_machine.specs.State.{result_register, exception_register, holds}
 use Rattle.fact_rows.specs.declared.context.Node.{Node}
@@ -72,9 +74,22 @@ statics_read hits (act.GetStatic ds g) next n =
     (hits (StaticTaintsOf g))
 statics_read hits _ next n = []
 
-abbrev pub reached_on : Option Step → (Key → List Row) → Node → List Conclusion
-reached_on None hits n = []
-reached_on (Some step) hits n = goes_on step.next n ++ (goes_on step.catches n ++ (made step.act step.next n ++ statics_read hits step.act step.next n))
+-- 9. What the lists label.
+abbrev pub source_gives : Option ℕ → List ℕ → List ℕ → Node → List Conclusion
+source_gives None ds next n = []
+source_gives (Some l) ds next n = to_all 9 (of_one (Reached n)) (Label empty_path l) n ds next
+
+abbrev pub sourced : App → Lists → Act → List ℕ → Node → List Conclusion
+sourced app lists (act.GetStatic ds g) next n = source_gives (static_source app lists g) ds next n
+sourced app lists _ next n = []
+
+abbrev pub statics_got : App → Lists → (Key → List Row) → Act → List ℕ → Node → List Conclusion
+statics_got app lists hits a next n = statics_read hits a next n ++ sourced app lists a next n
+
+abbrev pub reached_on : App → Lists → Option Step → (Key → List Row) → Node → List Conclusion
+reached_on app lists None hits n = []
+reached_on app lists (Some step) hits n =
+    goes_on step.next n ++ (goes_on step.catches n ++ (made step.act step.next n ++ statics_got app lists hits step.act step.next n))
 
 -- 2. A register keeps what it holds.
 abbrev pub keeps : Step → Node → ℕ → Content → List Conclusion
@@ -185,19 +200,19 @@ back_gives s k t = concludes 13 (of_one (Cell s k t)) (Back t k s)
 abbrev pub cell_gives : App → (Key → List Row) → Site → KeyId → Site → List Conclusion
 cell_gives app hits s k t = back_gives s k t ∷ flat_map (getter_gives app s k t) (hits (PointsTo s))
 
-abbrev pub step_given : App → (Key → List Row) → Row → List Conclusion
-step_given app hits (Reached n) = reached_on (step_here app n) hits n
-step_given app hits (Points n r s) = points_on (step_here app n) hits n r s
-step_given app hits (Taint n r p l) = taint_on (step_here app n) hits n r p l
-step_given app hits (Cell s k t) = cell_gives app hits s k t
-step_given app hits (StaticPoints g s) = static_on app hits g (Object s)
-step_given app hits (StaticTaint g p l) = static_on app hits g (Label p l)
-step_given app hits _ = []
+abbrev pub step_given : App → Lists → (Key → List Row) → Row → List Conclusion
+step_given app lists hits (Reached n) = reached_on app lists (step_here app n) hits n
+step_given app lists hits (Points n r s) = points_on (step_here app n) hits n r s
+step_given app lists hits (Taint n r p l) = taint_on (step_here app n) hits n r p l
+step_given app lists hits (Cell s k t) = cell_gives app hits s k t
+step_given app lists hits (StaticPoints g s) = static_on app hits g (Object s)
+step_given app lists hits (StaticTaint g p l) = static_on app hits g (Label p l)
+step_given app lists hits _ = []
 
 -- 9 is led by the node that is reached, 7 and 8 by the object's register
-abbrev pub step_leads : App → (Key → List Row) → Row → List Conclusion
-step_leads app hits (Reached n) = reached_on (step_here app n) hits n
-step_leads app hits (Points n r s) = points_lead (step_here app n) hits n r s
-step_leads app hits (Taint n r p l) = taint_leads (step_here app n) n r p l
-step_leads app hits (Cell s k t) = back_gives s k t ∷ []
-step_leads app hits _ = []
+abbrev pub step_leads : App → Lists → (Key → List Row) → Row → List Conclusion
+step_leads app lists hits (Reached n) = reached_on app lists (step_here app n) hits n
+step_leads app lists hits (Points n r s) = points_lead (step_here app n) hits n r s
+step_leads app lists hits (Taint n r p l) = taint_leads (step_here app n) n r p l
+step_leads app lists hits (Cell s k t) = back_gives s k t ∷ []
+step_leads app lists hits _ = []

@@ -3,14 +3,16 @@ use Rattle.std.proofs.Common.{◌≡◌, ◌==◌, ℕ, true, ◌&&◌, List, []
 use Rattle.std.proofs.lemmas.Bool.{and_from, eqb-true}
 use Rattle.vet_base.specs.declared.key_id.KeyId.{KeyId}
 use Rattle.access_path.specs.declared.path.Path.{Path}
-use Rattle.access_path.specs.Paths.{keys_of, cut}
+use Rattle.access_path.specs.Paths.{keys_of, cut, empty_path}
 use Rattle.app_machine.specs.declared.method.Act.{Act}
 use Rattle.app_machine.specs.declared.method.Act.TheVariants as act
 use Rattle.app_machine.specs.declared.method.Method.{Method}
 use Rattle.app_machine.specs.declared.method.Step.{Step}
+use Rattle.app_machine.specs.declared.lists.Lists.{Lists}
 use Rattle.app_machine.specs.declared.app.App.{App}
 use Rattle.vet_base.specs.Members.{In}
 use Rattle.app_machine.specs.Lookups.{step_at}
+use Rattle.app_machine.specs.Summaries.{static_source}
 use Rattle.app_machine.specs.Local.{writes}
 use Rattle.app_machine.specs.State.{result_register, exception_register}
 use Rattle.fact_rows.specs.declared.context.Node.{Node}
@@ -34,7 +36,7 @@ use Rattle.vet_base.proofs.Every.{in_where, in_unless}
 use Rattle.app_index.specs.Readers.{is_read, reader, readers_of}
 use Rattle.app_index.specs.ReaderLaws.{is_reader}
 use Rattle.rule_ground.specs.Listing.{here, in_each, in_all, itself, found}
-use Rattle.step_rules.specs.StepGiven.{step_here, step_leads, points_lead, taint_leads, goes_on, made, reads, reads_on, reader_gives, reader_takes, static_on, static_gives, statics_read, reached_on, keeps, thrown, passes, put_gives, puts, content_alone, put_on_gives, got_gives, object_gives, points_on, is_bare, label_gives, taint_on, gets, gets_on, getter_gives, step_given}
+use Rattle.step_rules.specs.StepGiven.{step_here, step_leads, points_lead, taint_leads, goes_on, made, reads, reads_on, reader_gives, reader_takes, static_on, static_gives, statics_read, source_gives, sourced, statics_got, reached_on, keeps, thrown, passes, put_gives, puts, content_alone, put_on_gives, got_gives, object_gives, points_on, is_bare, label_gives, taint_on, gets, gets_on, getter_gives, step_given}
 use Rattle.step_rules.specs.Lifted.{next_in, catch_in}
 
 pub bare_of : (p : Path) → keys_of p ≡ [] → is_bare p ≡ true
@@ -57,12 +59,12 @@ step_stands app n step h = of_method (slice_get app.methods n.by.method) refl h
     of_method (Some m) e k =
         record { method = m; there = e; is_step = in_found (λ (s : Step). s.pc == n.pc) m.steps step k; same_pc = eqb-true step.pc n.pc (found_passes (λ (s : Step). s.pc == n.pc) m.steps step k) }
 
-module _ (app : App) (has : Row → Type 0) (hits : Key → List Row) (law : (k : Key) → IsHits has k (hits k)) where
+module _ (app : App) (lists : Lists) (has : Row → Type 0) (hits : Key → List Row) (law : (k : Key) → IsHits has k (hits k)) where
   abbrev given : Row → List Conclusion
-  given row = step_given app hits row
+  given row = step_given app lists hits row
 
   abbrev led : Row → List Conclusion
-  led row = step_leads app hits row
+  led row = step_leads app lists hits row
 
   -- what rows lead is part of what they give
   points_given : (n : Node) (r : ℕ) (s : Site) (o : Option Step) (c : Conclusion) → In c (points_lead o hits n r s) → In c (points_on o hits n r s)
@@ -85,8 +87,8 @@ module _ (app : App) (has : Row → Type 0) (hits : Key → List Row) (law : (k 
   more row h = listed_in (led row) (given row) (led_given row) h
 
   -- a conclusion of the step at the node, for each kind of row
-  pub at_reached : (n : Node) (step : Step) → step_here app n ≡ Some step → (c : Conclusion) → In c (reached_on (Some step) hits n) → In c (led (Reached n))
-  at_reached n step there c i = subst (λ o. In c (reached_on o hits n)) (sym there) i
+  pub at_reached : (n : Node) (step : Step) → step_here app n ≡ Some step → (c : Conclusion) → In c (reached_on app lists (Some step) hits n) → In c (led (Reached n))
+  at_reached n step there c i = subst (λ o. In c (reached_on app lists o hits n)) (sym there) i
 
   at_content : (v : Content) (n : Node) (r : ℕ) (step : Step) → step_here app n ≡ Some step → (c : Conclusion) →
       In c (content_alone step n r v) → In c (led (held v n r))
@@ -260,10 +262,24 @@ module _ (app : App) (has : Row → Type 0) (hits : Key → List Row) (law : (k 
   read_reached v n pc g d ds h i k p =
       let c = concludes 9 (of_two (Reached n) (held_static v g)) (held v (at_pc n pc) d) in
       here led (Reached n) 9 (of_two (Reached n) (held_static v g)) (held v (at_pc n pc) d)
-      (at_reached n h.step h.there c (in_back c (goes_on h.step.next n) (goes_on h.step.catches n ++ (made h.step.act h.step.next n ++ statics_read hits h.step.act h.step.next n))
-      (in_back c (goes_on h.step.catches n) (made h.step.act h.step.next n ++ statics_read hits h.step.act h.step.next n)
-      (in_back c (made h.step.act h.step.next n) (statics_read hits h.step.act h.step.next n)
-      (subst (λ z. In c (statics_read hits z h.step.next n)) (sym h.same) (static_read v n g (ds, h) c p (read_by v n pc g d ds h i k)))))))
+      (at_reached n h.step h.there c (in_back c (goes_on h.step.next n) (goes_on h.step.catches n ++ (made h.step.act h.step.next n ++ statics_got app lists hits h.step.act h.step.next n))
+      (in_back c (goes_on h.step.catches n) (made h.step.act h.step.next n ++ statics_got app lists hits h.step.act h.step.next n)
+      (in_back c (made h.step.act h.step.next n) (statics_got app lists hits h.step.act h.step.next n)
+      (in_front c (statics_read hits h.step.act h.step.next n) (sourced app lists h.step.act h.step.next n)
+      (subst (λ z. In c (statics_read hits z h.step.next n)) (sym h.same) (static_read v n g (ds, h) c p (read_by v n pc g d ds h i k))))))))
+
+  pub source_read : (n : Node) (pc g l d : ℕ) (ds : List ℕ) → Acts app n (act.GetStatic ds g) → In d ds → static_source app lists g ≡ Some l →
+      GoesOn app n pc → IsListed (led (Reached n)) 9 (Reached n ∷ []) (Taint (at_pc n pc) d empty_path l)
+  source_read n pc g l d ds h i is k =
+      let c = concludes 9 (of_one (Reached n)) (Taint (at_pc n pc) d empty_path l) in
+      here led (Reached n) 9 (of_one (Reached n)) (Taint (at_pc n pc) d empty_path l)
+      (at_reached n h.step h.there c (in_back c (goes_on h.step.next n) (goes_on h.step.catches n ++ (made h.step.act h.step.next n ++ statics_got app lists hits h.step.act h.step.next n))
+      (in_back c (goes_on h.step.catches n) (made h.step.act h.step.next n ++ statics_got app lists hits h.step.act h.step.next n)
+      (in_back c (made h.step.act h.step.next n) (statics_got app lists hits h.step.act h.step.next n)
+      (in_back c (statics_read hits h.step.act h.step.next n) (sourced app lists h.step.act h.step.next n)
+      (subst (λ z. In c (sourced app lists z h.step.next n)) (sym h.same)
+      (subst (λ o. In c (source_gives o ds h.step.next n)) (sym is)
+      (in_all 9 (of_one (Reached n)) (Label empty_path l) n h.step.next ds d pc i (next_in app n h k)))))))))
 
   at_static : (v : Content) (g : ℕ) (c : Conclusion) → In c (static_on app hits g v) → In c (given (held_static v g))
   at_static (Object s) g c i = i
@@ -288,6 +304,6 @@ module _ (app : App) (has : Row → Type 0) (hits : Key → List Row) (law : (k 
   made_here n pc r a h i =
       let c = concludes 5 (of_one (Reached n)) (Points (at_pc n pc) r (At n)) in
       here led (Reached n) 5 (of_one (Reached n)) (Points (at_pc n pc) r (At n))
-      (at_reached n h.step h.there c (in_back c (goes_on h.step.next n) (goes_on h.step.catches n ++ (made h.step.act h.step.next n ++ statics_read hits h.step.act h.step.next n))
-      (in_back c (goes_on h.step.catches n) (made h.step.act h.step.next n ++ statics_read hits h.step.act h.step.next n)
-      (in_front c (made h.step.act h.step.next n) (statics_read hits h.step.act h.step.next n) (subst (λ z. In c (made z h.step.next n)) (sym h.same) i)))))
+      (at_reached n h.step h.there c (in_back c (goes_on h.step.next n) (goes_on h.step.catches n ++ (made h.step.act h.step.next n ++ statics_got app lists hits h.step.act h.step.next n))
+      (in_back c (goes_on h.step.catches n) (made h.step.act h.step.next n ++ statics_got app lists hits h.step.act h.step.next n)
+      (in_front c (made h.step.act h.step.next n) (statics_got app lists hits h.step.act h.step.next n) (subst (λ z. In c (made z h.step.next n)) (sym h.same) i)))))

@@ -74,7 +74,7 @@ fn label_size<S: Sink>(
 {
     if size == held.register && is_bare_path(held.path) {
         let inference = Inference {
-            rule: 5,
+            rule: numbers::MAKE,
             premises: Premises::of_one(held.row()),
         };
         let bare = Content::Label(Path::empty(), held.label);

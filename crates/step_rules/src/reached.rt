@@ -4,7 +4,8 @@ ghost use Rattle.app_machine.specs.Sound.{SoundApp};
 ghost use Rattle.step_rules.specs.StepGiven.{goes_on, made, reached_on, step_here};
 
 use crate::numbers;
-use crate::statics::read_statics;
+use crate::statics::{label_static, read_statics};
+use app_index::LibraryIndex;
 use app_machine::{Act, App};
 use app_model::step_at;
 use app_parts::RESULT;
@@ -44,13 +45,14 @@ fn make<S: Sink>(act: &Act, next: &[u32], node: Node, out: &mut S) -> Result<(),
 /// What follows where control comes to the node.
 pub fn reached<F: Facts, S: Sink>(
     app: &App,
+    lists: &LibraryIndex<'_>,
     facts: &F,
     node: Node,
     out: &mut S,
 ) -> Result<(), S::Refusal>
     requires { SoundApp app.now }
     ensures { OnOk result (out.new ≡ fold S.then out.old
-        (reached_on (step_here app.now node) (F.hits facts.now) node)) }
+        (reached_on app.now lists.now (step_here app.now node) (F.hits facts.now) node)) }
 {
     match step_at(app, node.by.method, node.pc) {
         None => Ok(()),
@@ -58,7 +60,8 @@ pub fn reached<F: Facts, S: Sink>(
             go_on(step.next.as_slice(), node, out)?;
             go_on(step.catches.as_slice(), node, out)?;
             make(&step.act, step.next.as_slice(), node, out)?;
-            read_statics(facts, step, node, out)
+            read_statics(facts, step, node, out)?;
+            label_static(app, lists, step, node, out)
         }
     }
 }

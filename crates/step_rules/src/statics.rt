@@ -1,10 +1,12 @@
 //! Rule 9: what a static holds goes to those that read it.
 ghost use Rattle.std.specs.Prelude.{◌≡◌, OnOk, fold, flat_map};
 ghost use Rattle.app_machine.specs.Sound.{SoundApp};
-ghost use Rattle.step_rules.specs.StepGiven.{reads, reader_gives, reader_takes, static_on, static_gives, statics_read};
+ghost use Rattle.step_rules.specs.StepGiven.{reads, reader_gives, reader_takes, sourced};
+ghost use Rattle.step_rules.specs.StepGiven.{static_on, static_gives, statics_read};
 
 use crate::numbers;
-use app_index::{Reader, StaticReaders};
+use access_path::Path;
+use app_index::{LibraryIndex, Reader, StaticReaders};
 use app_machine::{Act, App, Step};
 use app_model::step_at;
 use fact_rows::{Node, Row};
@@ -123,6 +125,39 @@ pub fn read_statics<F: Facts, S: Sink>(
             for_each_hit(facts, &Key::StaticPointsOf(*number), &with, out)?;
             for_each_hit(facts, &Key::StaticTaintsOf(*number), &with, out)
         }
+        _ => Ok(()),
+    }
+}
+
+/// The targets of a read of the static have the label that the lists give it.
+pub fn label_static<S: Sink>(
+    app: &App,
+    lists: &LibraryIndex<'_>,
+    step: &Step,
+    node: Node,
+    out: &mut S,
+) -> Result<(), S::Refusal>
+    ensures { OnOk result (out.new ≡ fold S.then out.old (sourced app.now lists.now step.now.act step.now.next node)) }
+{
+    match &step.act {
+        Act::GetStatic(targets, number) => match lists.source(app, *number) {
+            None => Ok(()),
+            Some(label) => {
+                let inference = Inference {
+                    rule: numbers::GET_STATIC,
+                    premises: Premises::of_one(Row::Reached(node)),
+                };
+                let bare = Content::Label(Path::empty(), label);
+                put_all(
+                    inference,
+                    bare,
+                    node,
+                    targets.as_slice(),
+                    step.next.as_slice(),
+                    out,
+                )
+            }
+        },
         _ => Ok(()),
     }
 }

@@ -1,5 +1,5 @@
 -- What lists that are read say of a device keeps to its numbers and spellings.
-use Rattle.std.proofs.Common.{◌≡◌, ℕ, ◌+◌, ◌≤◌, List, [], ◌∷◌, length, Ok, refl, arith, length-append}
+use Rattle.std.proofs.Common.{◌≡◌, ℕ, ◌+◌, ◌≤◌, List, [], length, Ok}
 use Rattle.std.specs.List.{All}
 use Rattle.toml.specs.Data.{Data, Members}
 use Rattle.vet_base.specs.Script.{run}
@@ -13,13 +13,12 @@ use Rattle.form_fields.specs.Spelling.{fits}
 use Rattle.form_fields.specs.Once.{with_new}
 use Rattle.form_fields.specs.Fields.{known, maybe_texts_at, number_at, tables_at}
 use Rattle.method_fields.specs.Positions.{flag_at}
-use Rattle.store_lists.specs.declared.device.StaticRows.{StaticRows}
 use Rattle.store_lists.specs.declared.device.DeviceKeys.{DeviceKeys}
 use Rattle.store_lists.specs.declared.lists.StoreLists.{StoreLists}
-use Rattle.store_lists.specs.Device.{are_counted, prefixes_at, device_at, static_at, static_row, statics_of}
-use Rattle.store_lists.specs.Lists.{categories_at, rows_of, rows_once, all_rows, arrays_at, lists_form}
+use Rattle.store_lists.specs.Device.{are_counted, prefixes_at, device_at}
+use Rattle.store_lists.specs.Lists.{categories_at, all_rows, arrays_at, lists_form}
 use Rattle.store_lists.specs.Spelled.{SoundDevice}
-use Rattle.form_fields.proofs.Yields.{Yields, yields_value, yields_tested, yields_then, yields_past, yields_each, yields_both}
+use Rattle.form_fields.proofs.Yields.{Yields, yields_value, yields_tested, yields_then, yields_past, yields_both}
 use Rattle.form_fields.proofs.FieldYields.{tables_few, maybe_texts_few}
 use Rattle.form_fields.proofs.Spelled.{Fits, maybe_texts_fit}
 
@@ -37,7 +36,6 @@ prefixes_sound k before t =
 record SoundKeys (keys : DeviceKeys × List Data) : Type 0 where
   platform : Starts keys.0.platform
   bundled : Starts keys.0.bundled
-  few : length keys.1 ≤ 65536
 
 keys_sound : (t : Members) → Yields SoundKeys (device_at t)
 unfolding device_at
@@ -45,27 +43,18 @@ keys_sound t =
     yields_past _ (flag_at section.Lists key.Strict t) _
     (λ strict. yields_then (λ x. Starts x.0) _ (prefixes_at key.Platform [] t) _ (prefixes_sound key.Platform [] t)
     (λ platform start. yields_then (λ x. Starts x.0) _ (prefixes_at key.Bundled platform.1 t) _ (prefixes_sound key.Bundled platform.1 t)
-    (λ bundled more. yields_then _ _ (tables_at section.Lists key.Static 65536 t) _ (tables_few section.Lists key.Static 65536 t)
-    (λ statics few. yields_value _ _ (record { platform = start; bundled = more; few = few })))))
+    (λ bundled more. yields_past _ (tables_at section.Lists key.Static 65536 t) _
+    (λ statics. yields_value _ _ (record { platform = start; bundled = more })))))
 
--- as many rows as tables
-static_counted : (n : ℕ) (d : Data) (rows : StaticRows) → length rows.rows ≡ n → Yields (λ r. length r.rows ≡ n + 1) (static_row d rows)
-unfolding static_row
-static_counted n d rows so_far =
-    yields_past _ (static_at d) _ (λ new. yields_value _ _ (omega (arith, so_far, length-append rows.rows (new ∷ []))))
-
-statics_counted : (ds : List Data) → Yields (λ r. length r.rows ≡ 0 + length ds) (statics_of ds)
-unfolding statics_of
-statics_counted ds = yields_each (λ n r. length r.rows ≡ n) static_row static_counted ds 0 (record { rows = []; keys = [] }) refl
-
-all_counted : (categories : List Name) (arrays : (List Data × List Data) × (List Data × List Data)) (ds : List Data)
-    → Yields (λ x. length x.statics.rows ≡ 0 + length ds) (all_rows categories arrays ds)
-unfolding all_rows
-all_counted categories arrays ds =
-    yields_past _ (rows_of categories arrays.0.0 arrays.0.1 arrays.1.0 arrays.1.1) _
-    (λ rows. yields_then _ _ (statics_of ds) _ (statics_counted ds)
-    (λ statics counted. yields_past _ (rows_once rows statics) _
-    (λ _. yields_value _ _ counted)))
+-- at most so many tables of static fields
+pub static_tables_few : (t : Members) → Yields (λ x. length x.1 ≤ 65536) (device_at t)
+unfolding device_at
+static_tables_few t =
+    yields_past _ (flag_at section.Lists key.Strict t) _
+    (λ strict. yields_past _ (prefixes_at key.Platform [] t) _
+    (λ platform. yields_past _ (prefixes_at key.Bundled platform.1 t) _
+    (λ bundled. yields_then _ _ (tables_at section.Lists key.Static 65536 t) _ (tables_few section.Lists key.Static 65536 t)
+    (λ statics few. yields_value _ _ few))))
 
 device_sound : (t : Members) → Yields (λ d. SoundDevice d.device) (lists_form t)
 unfolding lists_form fits
@@ -75,13 +64,12 @@ device_sound t =
     (λ most. yields_past _ (categories_at t) _
     (λ categories. yields_past _ (arrays_at t) _
     (λ arrays. yields_then SoundKeys _ (device_at t) _ (keys_sound t)
-    (λ device sound. yields_then _ _ (all_rows categories arrays device.1) _ (all_counted categories arrays device.1)
-    (λ all counted. yields_value _ _ (record {
+    (λ device sound. yields_past _ (all_rows categories arrays device.1) _
+    (λ all. yields_value _ _ (record {
       few_platform = sound.platform.0;
       few_bundled = sound.bundled.0;
       platform = sound.platform.1;
       bundled = sound.bundled.1;
-      few_statics = omega (arith, counted, sound.few);
     })))))))
 
 pub sound_device : (t : Members) (d : StoreLists) → run (lists_form t) ≡ Ok d → SoundDevice d.device

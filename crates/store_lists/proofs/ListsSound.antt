@@ -18,6 +18,7 @@ use Rattle.method_fields.specs.declared.signature.Signature.{Signature}
 use Rattle.store_lists.specs.declared.methods.Listed.{Listed}
 use Rattle.store_lists.specs.declared.methods.MethodRows.{MethodRows}
 use Rattle.store_lists.specs.declared.callbacks.CallbackRows.{CallbackRows}
+use Rattle.store_lists.specs.declared.device.StaticRows.{StaticRows}
 use Rattle.store_lists.specs.declared.lists.SharedRows.{SharedRows}
 use Rattle.store_lists.specs.declared.lists.Rows.{Rows}
 use Rattle.store_lists.specs.declared.lists.StoreLists.{StoreLists}
@@ -27,15 +28,17 @@ use Rattle.store_lists.specs.Classes.{above_in, parent_row, parents_at, parents_
 use Rattle.method_fields.specs.Positions.{flag_at, pairs_at, named_at, listed_at}
 use Rattle.app_machine.specs.Summaries.{position_count}
 use Rattle.method_fields.specs.Gives.{gives_at}
+use Rattle.method_fields.specs.Signature.{type_at}
 use Rattle.store_lists.specs.Methods.{sink_at, signature_at, summary_of, method_row, methods_of}
 use Rattle.store_lists.specs.Callbacks.{called_at, callback_of, callback_at, callback_row, callbacks_of}
-use Rattle.store_lists.specs.Device.{device_at, statics_of}
+use Rattle.store_lists.specs.Device.{device_at, static_at, static_row, statics_of}
 use Rattle.store_lists.specs.Lists.{are_categories, categories_at, shared_object, shared_row, shared_of, rows_of, rows_once, all_rows, arrays_at, lists_form}
-use Rattle.app_machine.specs.SoundLists.{SoundGives, TwoPositions, NamedPosition, SoundSink, SoundClass, SoundSummary, SoundCallback, SoundLists}
+use Rattle.app_machine.specs.SoundLists.{SoundGives, TwoPositions, NamedPosition, SoundSink, SoundClass, SoundSummary, SoundCallback, SoundStatic, SoundLists}
 use Rattle.form_fields.proofs.Yields.{Yields, yields_value, yields_tested, yields_then, yields_past, yields_each}
 use Rattle.form_fields.proofs.FieldYields.{number_within, tables_few, texts_few}
 use Rattle.form_fields.proofs.Adding.{with_new_more}
 use Rattle.method_fields.proofs.PositionsSound.{gives_within, pairs_within, named_are_within, listed_within}
+use Rattle.store_lists.proofs.DeviceSound.{static_tables_few}
 use Rattle.store_lists.proofs.SinkSound.{sink_within}
 
 -- 1 to 200 categories
@@ -246,15 +249,48 @@ arrays_few t =
     (λ ms few_methods. yields_then _ _ (tables_at section.Lists key.Callback 65536 t) _ (tables_few section.Lists key.Callback 65536 t)
     (λ ks few_callbacks. yields_value _ _ (record { classes = few_classes; shared = few_shared; methods = few_methods; callbacks = few_callbacks })))))
 
--- what holds of the rows of the four arrays holds of them among all rows
+-- so many static fields, each sound
+pub record StaticsCounted (categories n : ℕ) (statics : StaticRows) : Type 0 where
+  pub is : length statics.rows ≡ n
+  pub sound : All (SoundStatic categories) statics.rows
+
+static_sound : (categories : List Name) (d : Data) → Yields (SoundStatic (length categories)) (static_at categories d)
+unfolding static_at
+static_sound categories d =
+    yields_past _ (table_in section.Lists key.Static d) _
+    (λ t. yields_past _ (known section.Static t) _
+    (λ _. yields_past _ (text_at section.Static key.Class spelling.Class t) _
+    (λ class. yields_past _ (text_at section.Static key.Name spelling.Text t) _
+    (λ name. yields_past _ (type_at section.Static t) _
+    (λ kind. yields_then (λ o. IfSome o (λ n. n < length categories)) _ (listed_at section.Static key.Source categories t) _ (listed_within section.Static key.Source categories t)
+    (λ source within. yields_value _ _ (record { source = within })))))))
+
+static_counted : (categories : List Name) (n : ℕ) (d : Data) (statics : StaticRows) → StaticsCounted (length categories) n statics
+    → Yields (StaticsCounted (length categories) (n + 1)) (static_row categories d statics)
+unfolding static_row
+static_counted categories n d statics so_far =
+    yields_then (SoundStatic (length categories)) _ (static_at categories d) _ (static_sound categories d)
+    (λ new sound. yields_value _ _ (record {
+      is = omega (arith, so_far.is, length-append statics.rows (new ∷ []));
+      sound = All-push (SoundStatic (length categories)) statics.rows new so_far.sound sound;
+    }))
+
+statics_counted : (categories : List Name) (ds : List Data) → Yields (StaticsCounted (length categories) (0 + length ds)) (statics_of categories ds)
+unfolding statics_of
+statics_counted categories ds =
+    yields_each (StaticsCounted (length categories)) (static_row categories) (static_counted categories) ds 0 (record { rows = []; keys = [] })
+    (record { is = refl; sound = All-nil (SoundStatic (length categories)) })
+
+-- what holds of the rows of the four arrays holds of them among all rows, and the static fields are counted
 pub all_yields : (P : Rows → Type 0) (categories : List Name) (arrays : (List Data × List Data) × (List Data × List Data)) (ds : List Data)
-    → Yields P (rows_of categories arrays.0.0 arrays.0.1 arrays.1.0 arrays.1.1) → Yields (λ x. P x.rows) (all_rows categories arrays ds)
+    → Yields P (rows_of categories arrays.0.0 arrays.0.1 arrays.1.0 arrays.1.1)
+    → Yields (λ x. P x.rows × StaticsCounted (length x.rows.listed.categories) (0 + length ds) x.statics) (all_rows categories arrays ds)
 unfolding all_rows
 all_yields P categories arrays ds sound =
     yields_then P _ (rows_of categories arrays.0.0 arrays.0.1 arrays.1.0 arrays.1.1) _ sound
-    (λ rows holds. yields_past _ (statics_of ds) _
-    (λ statics. yields_past _ (rows_once rows statics) _
-    (λ _. yields_value _ _ holds)))
+    (λ rows holds. yields_then (StaticsCounted (length rows.listed.categories) (0 + length ds)) _ (statics_of rows.listed.categories ds) _ (statics_counted rows.listed.categories ds)
+    (λ statics counted. yields_past _ (rows_once rows statics) _
+    (λ _. yields_value _ _ (holds, counted))))
 
 lists_sound : (t : Members) → Yields (λ d. SoundLists d.lists) (lists_form t)
 unfolding lists_form
@@ -263,21 +299,23 @@ lists_sound t =
     (λ _. yields_then _ _ (number_at section.Lists key.Rows 1 4000000 t) _ (number_within section.Lists key.Rows 1 4000000 t)
     (λ most within. yields_then _ _ (categories_at t) _ (categories_few t)
     (λ categories named. yields_then _ _ (arrays_at t) _ (arrays_few t)
-    (λ arrays few. yields_past _ (device_at t) _
-    (λ device. yields_then _ _ (all_rows categories arrays device.1) _
+    (λ arrays few. yields_then (λ x. length x.1 ≤ 65536) _ (device_at t) _ (static_tables_few t)
+    (λ device few_statics. yields_then _ _ (all_rows categories arrays device.1) _
     (all_yields _ categories arrays device.1 (rows_counted categories arrays.0.0 arrays.0.1 arrays.1.0 arrays.1.1))
     (λ all counted. yields_value _ _ (record {
       one_row = within.0;
       few_rows = within.1;
-      one_category = omega (arith, named.one, ap length counted.same);
-      few_categories = omega (arith, named.few, ap length counted.same);
-      few_classes = omega (arith, few.classes, counted.classes);
-      few_shared = omega (arith, few.shared, counted.shared);
-      few_methods = omega (arith, few.methods, counted.methods);
-      few_callbacks = omega (arith, few.callbacks, counted.callbacks);
-      classes = counted.sound_classes;
-      methods = subst (λ (n : ℕ). All (SoundSummary n (length all.rows.shared)) all.rows.methods.rows) (sym (ap length counted.same)) counted.sound_methods;
-      callbacks = subst (λ (n : ℕ). All (SoundCallback n) all.rows.callbacks.rows) (sym (ap length counted.same)) counted.sound_callbacks;
+      one_category = omega (arith, named.one, ap length counted.0.same);
+      few_categories = omega (arith, named.few, ap length counted.0.same);
+      few_classes = omega (arith, few.classes, counted.0.classes);
+      few_shared = omega (arith, few.shared, counted.0.shared);
+      few_methods = omega (arith, few.methods, counted.0.methods);
+      few_callbacks = omega (arith, few.callbacks, counted.0.callbacks);
+      few_statics = omega (arith, few_statics, counted.1.is);
+      classes = counted.0.sound_classes;
+      methods = subst (λ (n : ℕ). All (SoundSummary n (length all.rows.shared)) all.rows.methods.rows) (sym (ap length counted.0.same)) counted.0.sound_methods;
+      callbacks = subst (λ (n : ℕ). All (SoundCallback n) all.rows.callbacks.rows) (sym (ap length counted.0.same)) counted.0.sound_callbacks;
+      statics = counted.1.sound;
     })))))))
 
 pub sound_lists : (t : Members) (d : StoreLists) → run (lists_form t) ≡ Ok d → SoundLists d.lists

@@ -1,5 +1,5 @@
 -- The texts of lists that are read are spelled as their keys say.
-use Rattle.std.proofs.Common.{◌≡◌, ℕ, Bool, true, false, cond, List, [], ◌∷◌, length, Option, Some, Ok, refl, sym, subst, unwrap_or, is_some}
+use Rattle.std.proofs.Common.{◌≡◌, ℕ, ◌+◌, Bool, true, false, cond, List, [], ◌∷◌, length, Option, Some, Ok, refl, sym, subst, unwrap_or, is_some}
 use Rattle.std.specs.Prelude.{nat_le, map, IsTrue}
 use Rattle.std.specs.List.{All}
 use Rattle.std.proofs.lemmas.List.Elements.{All-nil, All-cons, All-push, All-head, All-tail}
@@ -35,7 +35,7 @@ use Rattle.store_lists.specs.Device.{device_at, statics_of}
 use Rattle.store_lists.specs.Lists.{are_categories, categories_at, shared_object, shared_row, shared_of, rows_of, rows_once, all_rows, arrays_at, lists_form}
 use Rattle.method_fields.specs.Spelled.{SpelledProto}
 use Rattle.store_lists.specs.Spelled.{SpelledClass, SpelledShared, SpelledMethod, SpelledLists}
-use Rattle.store_lists.proofs.ListsSound.{all_yields}
+use Rattle.store_lists.proofs.ListsSound.{StaticsCounted, all_yields}
 use Rattle.form_fields.proofs.Yields.{Yields, yields_value, yields_tested, yields_then, yields_past, yields_each}
 use Rattle.form_fields.proofs.Spelled.{Fits, text_fits, texts_fit, all_new}
 use Rattle.method_fields.proofs.TypesSpelled.{proto_spelled}
@@ -232,14 +232,14 @@ lists_spelled t =
     (λ most. yields_then (All (Fits spelling.Category)) _ (categories_at t) _ (categories_spelled t)
     (λ categories named. yields_past _ (arrays_at t) _
     (λ arrays. yields_past _ (device_at t) _
-    (λ device. yields_then (λ x. SpelledRows categories x.rows) _ (all_rows categories arrays device.1) _
+    (λ device. yields_then (λ x. SpelledRows categories x.rows × StaticsCounted (length x.rows.listed.categories) (0 + length device.1) x.statics) _ (all_rows categories arrays device.1) _
     (all_yields (SpelledRows categories) categories arrays device.1 (rows_spelled categories arrays.0.0 arrays.0.1 arrays.1.0 arrays.1.1))
     (λ all spelled. yields_value _ _ (record {
-      categories = subst (λ (names : List Name). All (Fits spelling.Category) names) (sym spelled.same) named;
-      classes = spelled.classes;
-      shared = spelled.shared;
-      methods = spelled.methods;
-      callbacks = spelled.callbacks;
+      categories = subst (λ (names : List Name). All (Fits spelling.Category) names) (sym spelled.0.same) named;
+      classes = spelled.0.classes;
+      shared = spelled.0.shared;
+      methods = spelled.0.methods;
+      callbacks = spelled.0.callbacks;
     })))))))
 
 pub spelled_lists : (t : Members) (d : StoreLists) → run (lists_form t) ≡ Ok d → SpelledLists d.lists

@@ -1,9 +1,9 @@
--- What the lists say of a device: whether they are strict, the names of the platform, and static fields that no one writes.
+-- What the lists say of a device: whether they are strict, and the names of the platform; and of static fields that no one writes.
 use Rattle.std.specs.Prelude.{ℕ, ◌==◌, ◌+◌, Bool, true, List, [], ◌∷◌, ◌++◌, length}
 use Rattle.toml.specs.Data.{Data, Members}
 use Rattle.vet_base.specs.Script.{Script, Value, ◌>>=◌, test, each}
 use Rattle.app_machine.specs.Names.{Name}
-use Rattle.device_lists.specs.declared.StaticRow.{StaticRow}
+use Rattle.app_machine.specs.declared.lists.StaticRow.{StaticRow}
 use Rattle.form_fields.specs.declared.fault.Fault.{Fault}
 use Rattle.form_fields.specs.declared.fault.Fault.TheVariants.{Range}
 use Rattle.form_fields.specs.declared.words.Section.TheVariants as section
@@ -15,7 +15,7 @@ use Rattle.store_lists.specs.declared.device.DeviceKeys.{DeviceKeys}
 use Rattle.store_lists.specs.declared.device.StaticRows.{StaticRows}
 use Rattle.form_fields.specs.Once.{with_new}
 use Rattle.form_fields.specs.Fields.{known, text_at, maybe_texts_at, tables_at, table_in}
-use Rattle.method_fields.specs.Positions.{flag_at}
+use Rattle.method_fields.specs.Positions.{flag_at, listed_at}
 use Rattle.method_fields.specs.Signature.{type_at}
 
 -- there are so many names
@@ -42,20 +42,22 @@ device_at t = do
 unfoldable pub static_key : StaticRow → MethodKey
 static_key s = record { class = s.class; name = s.name; descriptor = s.kind; is_static = true }
 
-unfoldable pub static_at : Data → Script Fault StaticRow
-static_at d = do
+-- the row of a static field, with the category that labels its value, where there is one
+unfoldable pub static_at : List Name → Data → Script Fault StaticRow
+static_at categories d = do
   t ← table_in section.Lists key.Static d
   _ ← known section.Static t
   class ← text_at section.Static key.Class spelling.Class t
   name ← text_at section.Static key.Name spelling.Text t
   kind ← type_at section.Static t
-  Value (record { class = class; name = name; kind = kind })
+  source ← listed_at section.Static key.Source categories t
+  Value (record { class = class; name = name; kind = kind; source = source })
 
 -- a row more
-unfoldable pub static_row : Data → StaticRows → Script Fault StaticRows
-static_row d rows = do
-  new ← static_at d
+unfoldable pub static_row : List Name → Data → StaticRows → Script Fault StaticRows
+static_row categories d rows = do
+  new ← static_at categories d
   Value (record { rows = rows.rows ++ new ∷ []; keys = rows.keys ++ static_key new ∷ [] })
 
-unfoldable pub statics_of : List Data → Script Fault StaticRows
-statics_of tables = each static_row tables (record { rows = []; keys = [] })
+unfoldable pub statics_of : List Name → List Data → Script Fault StaticRows
+statics_of categories tables = each (static_row categories) tables (record { rows = []; keys = [] })

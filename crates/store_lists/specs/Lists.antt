@@ -89,7 +89,7 @@ arrays_at t = do
 unfoldable pub all_rows : List Name → (List Data × List Data) × (List Data × List Data) → List Data → Script Fault AllRows
 all_rows categories arrays static_tables = do
   rows ← rows_of categories arrays.0.0 arrays.0.1 arrays.1.0 arrays.1.1
-  statics ← statics_of static_tables
+  statics ← statics_of rows.listed.categories static_tables
   _ ← rows_once rows statics
   Value (record { rows = rows; statics = statics })
 
@@ -102,6 +102,6 @@ lists_form t = do
   device ← device_at t
   all ← all_rows categories arrays device.1
   Value (record {
-    lists = record { rows = most; categories = all.rows.listed.categories; classes = all.rows.classes; shared = all.rows.shared; methods = all.rows.methods.rows; callbacks = all.rows.callbacks.rows };
-    device = record { strict = device.0.strict; platform = device.0.platform; bundled = device.0.bundled; statics = all.statics.rows };
+    lists = record { rows = most; categories = all.rows.listed.categories; classes = all.rows.classes; shared = all.rows.shared; methods = all.rows.methods.rows; callbacks = all.rows.callbacks.rows; statics = all.statics.rows };
+    device = record { strict = device.0.strict; platform = device.0.platform; bundled = device.0.bundled };
   })

@@ -33,10 +33,9 @@ pub record SpelledLists (lists : Lists) : Type 0 where
   pub methods : All (λ method. SpelledMethod method.class method.name method.proto) lists.methods
   pub callbacks : All (λ callback. SpelledMethod callback.class callback.name callback.proto) lists.callbacks
 
--- at most 4,096 beginnings of names in each list, and at most 65,536 static fields
+-- at most 4,096 beginnings of names in each list
 pub record SoundDevice (device : DeviceLists) : Type 0 where
   pub few_platform : length device.platform ≤ 4096
   pub few_bundled : length device.bundled ≤ 4096
   pub platform : All (λ start. IsTrue (is_prefix start)) device.platform
   pub bundled : All (λ start. IsTrue (is_prefix start)) device.bundled
-  pub few_statics : length device.statics ≤ 65536

@@ -1,11 +1,12 @@
-//! What the lists say of a device.
+//! What the lists say of a device, and of static fields that no one writes.
 ghost use Rattle.std.specs.Prelude.{◌≡◌, ◌≤◌, ◌+◌, ◌++◌, ◌∷◌, [], IsTrue, IfOk, length, map};
 ghost use Rattle.store_lists.specs.Device.{are_counted, prefixes_at, device_at, static_key};
 ghost use Rattle.store_lists.specs.Device.{static_at, static_row, statics_of};
 ghost use Rattle.toml.specs.View.{table_view, view};
 ghost use Rattle.vet_base.specs.Script.{Gives};
 
-use device_lists::StaticRow;
+use crate::methods::category_at;
+use app_machine::StaticRow;
 use form_fields::{
     Fault, Index, Key, Section, Spelling, known, maybe_texts_at, table_in, tables_at, text_at,
     with_new,
@@ -82,25 +83,36 @@ fn are_counted(count: usize, names: &Index<Name>) -> bool
 
 /// Reads the rows of static fields.
 #[tactic(auto, unfolding(crate::specs::Device::statics_of), using(form_fields::proofs::Eaching::eaching_begins, form_fields::proofs::Eaching::eaching_goes_on, form_fields::proofs::Eaching::eaching_fails, form_fields::proofs::Eaching::eaching_is_done))]
-pub fn statics_of(alloc: Global, tables: &[Value]) -> Result<StaticRows, Stop<Fault>>
-    ensures { Gives (λ x. x) result (statics_of (map view tables.now)) }
+pub fn statics_of(
+    alloc: Global,
+    tables: &[Value],
+    categories: &Index<Name>,
+) -> Result<StaticRows, Stop<Fault>>
+    requires { length categories.now ≤ 200 }
+    ensures { Gives (λ x. x) result (statics_of categories.now (map view tables.now)) }
 {
     let mut rows = StaticRows {
         rows: Seq::new(alloc),
         keys: Seq::new(alloc),
     };
     for value in tables {
-        rows = static_row(alloc, value, rows)?;
+        rows = static_row(alloc, value, categories, rows)?;
     }
     Ok(rows)
 }
 
 /// One row more.
 #[tactic(auto, unfolding(crate::specs::Device::static_row), using(vet_base::proofs::Scripts::run_bind))]
-fn static_row(alloc: Global, value: &Value, rows: StaticRows) -> Result<StaticRows, Stop<Fault>>
-    ensures { Gives (λ x. x) result (static_row (view value.now) rows) }
+fn static_row(
+    alloc: Global,
+    value: &Value,
+    categories: &Index<Name>,
+    rows: StaticRows,
+) -> Result<StaticRows, Stop<Fault>>
+    requires { length categories.now ≤ 200 }
+    ensures { Gives (λ x. x) result (static_row categories.now (view value.now) rows) }
 {
-    let row = static_at(alloc, value)?;
+    let row = static_at(alloc, value, categories)?;
     let key = static_key(&row)?;
     Ok(with_static(rows, row, key)?)
 }
@@ -127,13 +139,24 @@ fn static_key(row: &StaticRow) -> Result<MethodKey, Memory>
 }
 
 #[tactic(auto, unfolding(crate::specs::Device::static_at), using(vet_base::proofs::Scripts::run_bind))]
-fn static_at(alloc: Global, value: &Value) -> Result<StaticRow, Stop<Fault>>
-    ensures { Gives (λ x. x) result (static_at (view value.now)) }
+fn static_at(
+    alloc: Global,
+    value: &Value,
+    categories: &Index<Name>,
+) -> Result<StaticRow, Stop<Fault>>
+    requires { length categories.now ≤ 200 }
+    ensures { Gives (λ x. x) result (static_at categories.now (view value.now)) }
 {
     let table = table_in(value, Section::Lists, Key::Static)?;
     known(alloc, table, Section::Static)?;
     let class = text_at(alloc, table, Section::Static, Key::Class, Spelling::Class)?;
     let name = text_at(alloc, table, Section::Static, Key::Name, Spelling::Text)?;
     let kind = type_at(alloc, table, Section::Static)?;
-    Ok(StaticRow { class, name, kind })
+    let source = category_at(alloc, table, Section::Static, Key::Source, categories)?;
+    Ok(StaticRow {
+        class,
+        name,
+        kind,
+        source,
+    })
 }

@@ -42,10 +42,11 @@ pub struct StoreLists {
 /// `from`, `shared`, `puts`, `stores`, `copies`, `source`, `sink`, `positions` and `reflective` what a
 /// call does. A callback has a `class`, a `name`, a `proto` and `sources`. Positions count arguments, a
 /// wide one once, the receiver being 0. No class, shared name, method row or callback row stands twice.
+/// At most 65,536 tables `[[static]]` each have a `class`, a `name` and a `type`, no two the same, and
+/// may have a `source`.
 ///
-/// Of a device they say by `strict`, `false` where it is missing, by the lists `platform` and
-/// `bundled` of at most 4,096 beginnings of class descriptors, none twice and none in both, and by at
-/// most 65,536 tables `[[static]]`, each with a `class`, a `name` and a `type`, no two the same.
+/// Of a device they say by `strict`, `false` where it is missing, and by the lists `platform` and
+/// `bundled` of at most 4,096 beginnings of class descriptors, none twice and none in both.
 #[tactic(auto, using(form_fields::proofs::Forms::is_form, form_fields::proofs::Forms::is_fault, form_fields::proofs::Forms::is_unread))]
 pub fn read_lists(alloc: Global, text: &[u8]) -> Result<StoreLists, FormFault>
     ensures ok { IfOk result (λ d. IsForm lists_form text.now d) }
@@ -83,8 +84,8 @@ fn lists_in(alloc: Global, tree: &Table) -> Result<StoreLists, Stop<Fault>>
         static_tables,
     )?;
     Ok(StoreLists {
-        lists: lists_of(most, rows),
-        device: device_of(keys, statics),
+        lists: lists_of(most, rows, statics),
+        device: device_of(keys),
     })
 }
 
@@ -121,19 +122,14 @@ fn all_rows(
         method_tables,
         callback_tables,
     )?;
-    let statics = statics_of(alloc, static_tables)?;
+    let statics = statics_of(alloc, static_tables, &rows.listed.categories)?;
     rows_once(alloc, &rows, &statics)?;
     Ok(AllRows { rows, statics })
 }
 
 /// What these say of a device.
-fn device_of(keys: DeviceKeys, statics: StaticRows) -> DeviceLists
-    ensures { result ≡ record {
-      strict = keys.strict;
-      platform = keys.platform;
-      bundled = keys.bundled;
-      statics = statics.rows;
-    } }
+fn device_of(keys: DeviceKeys) -> DeviceLists
+    ensures { result ≡ record { strict = keys.strict; platform = keys.platform; bundled = keys.bundled } }
 {
     let DeviceKeys {
         strict,
@@ -144,12 +140,11 @@ fn device_of(keys: DeviceKeys, statics: StaticRows) -> DeviceLists
         strict,
         platform,
         bundled,
-        statics: statics.rows,
     }
 }
 
 /// The lists of these rows.
-fn lists_of(most: u32, rows: Rows) -> Lists
+fn lists_of(most: u32, rows: Rows, statics: StaticRows) -> Lists
     ensures { result ≡ record {
       rows = most;
       categories = rows.listed.categories;
@@ -157,6 +152,7 @@ fn lists_of(most: u32, rows: Rows) -> Lists
       shared = rows.shared;
       methods = rows.methods.rows;
       callbacks = rows.callbacks.rows;
+      statics = statics.rows;
     } }
 {
     let Rows {
@@ -173,6 +169,7 @@ fn lists_of(most: u32, rows: Rows) -> Lists
         shared,
         methods: methods.rows,
         callbacks: callbacks.rows,
+        statics: statics.rows,
     }
 }
 
@@ -309,8 +306,9 @@ fn rows_of(
 ) -> Result<Rows, Stop<Fault>>
     requires categories { length categories ≤ 200 }
     requires shared { length shared_tables.now ≤ 65536 }
-    ensures { Gives (λ x. x) result (rows_of categories (map view class_tables.now) (map view shared_tables.now)
+    ensures value { Gives (λ x. x) result (rows_of categories (map view class_tables.now) (map view shared_tables.now)
         (map view method_tables.now) (map view callback_tables.now)) }
+    ensures few { IfOk result (λ x. length x.listed.categories ≤ 200) }
 {
     let (class_names, classes) = classes_of(alloc, class_tables)?.into_parts();
     let shared = shared_of(alloc, shared_tables)?;

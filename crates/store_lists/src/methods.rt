@@ -146,7 +146,13 @@ fn summary_of(
         &listed.shared,
     )?;
     let copies = pairs_at(alloc, table, Section::Method, Key::Copies, count)?;
-    let source = category_at(alloc, table, Key::Source, &listed.categories)?;
+    let source = category_at(
+        alloc,
+        table,
+        Section::Method,
+        Key::Source,
+        &listed.categories,
+    )?;
     let sink = sink_at(alloc, table, &listed.categories, count)?;
     let reflective = flag_at(table, Section::Method, Key::Reflective)?;
     Ok(Summary {
@@ -165,16 +171,17 @@ fn summary_of(
 }
 
 /// A category by its number.
-fn category_at(
+pub fn category_at(
     alloc: Global,
     table: &Table,
+    section: Section,
     key: Key,
     categories: &Index<Name>,
 ) -> Result<Option<u8>, Stop<Fault>>
     requires { length categories.now ≤ 200 }
-    ensures { Gives (λ n. n) result (listed_at Section.Method key categories.now (table_view table.now)) }
+    ensures { Gives (λ n. n) result (listed_at section key categories.now (table_view table.now)) }
 {
-    match listed_at(alloc, table, Section::Method, key, categories)? {
+    match listed_at(alloc, table, section, key, categories)? {
         Some(number) => Ok(Some(number as u8)),
         None => Ok(None),
     }
@@ -192,7 +199,7 @@ fn sink_at(
     requires { length categories.now ≤ 200 }
     ensures { Gives (λ x. x) result (sink_at categories.now count (table_view table.now)) }
 {
-    let sink = category_at(alloc, table, Key::Sink, categories)?;
+    let sink = category_at(alloc, table, Section::Method, Key::Sink, categories)?;
     items_at(table, Section::Method, Key::Positions, Shape::Number)?;
     if !sink_fits(sink, has_key(table, Key::Positions)) {
         return Err(Stop::Fault(Fault::Range(Section::Method, Key::Positions)));

@@ -6,4 +6,4 @@ use Rattle.form_fields.proofs.Eaching.{Eaching}
 use Rattle.store_lists.proofs.device.statics_of.Given as goal
 
 abbrev pub invariant-loop-value : goal.invariant-loop-value
-invariant-loop-value l = Eaching view l.tables l.value-index static_row l.rows (run (statics_of (map view l.tables)))
+invariant-loop-value l = Eaching view l.tables l.value-index (static_row l.categories) l.rows (run (statics_of l.categories (map view l.tables)))
