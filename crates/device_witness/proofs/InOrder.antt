@@ -155,10 +155,10 @@ module _ (app : App) where
     unfolding unlisted_causes cause_order
     unlisted_rise = told_ascending 10 causes.UnlistedClass (λ c. refl) name_order nat_list_cmp_total (λ c d. refl) (unlisted_classes app lists)
 
-    statics_rise : Rising 11 11 (static_causes app access device)
+    statics_rise : Rising 11 11 (static_causes app access lists)
     unfolding static_causes cause_order
-    statics_rise = told 11 (λ spot. causes.LibraryStatic (at_spot app spot)) (λ spot. refl) spot_order (static_spots app access device)
-        (places_same app access device sound) (spots_rise app access device sound)
+    statics_rise = told 11 (λ spot. causes.LibraryStatic (at_spot app spot)) (λ spot. refl) spot_order (static_spots app access lists)
+        (places_same app access lists sound) (spots_rise app access lists sound)
 
     clicks_rise : Rising 12 12 (click_causes app access lists)
     unfolding click_causes cause_order
@@ -172,9 +172,9 @@ module _ (app : App) where
         after (hidden_causes app access ++ interface_causes access) (platform_causes app lists device) (omega arith) two platform_rise (omega arith) (omega arith) in
         let four : Rising 7 10 (hidden_causes app access ++ interface_causes access ++ platform_causes app lists device ++ unlisted_causes app lists) =
         after (hidden_causes app access ++ interface_causes access ++ platform_causes app lists device) (unlisted_causes app lists) (omega arith) three unlisted_rise (omega arith) (omega arith) in
-        let five : Rising 7 11 (hidden_causes app access ++ interface_causes access ++ platform_causes app lists device ++ unlisted_causes app lists ++ static_causes app access device) =
-        after (hidden_causes app access ++ interface_causes access ++ platform_causes app lists device ++ unlisted_causes app lists) (static_causes app access device) (omega arith) four statics_rise (omega arith) (omega arith) in
-        after (hidden_causes app access ++ interface_causes access ++ platform_causes app lists device ++ unlisted_causes app lists ++ static_causes app access device) (click_causes app access lists) (omega arith) five clicks_rise (omega arith) (omega arith)
+        let five : Rising 7 11 (hidden_causes app access ++ interface_causes access ++ platform_causes app lists device ++ unlisted_causes app lists ++ static_causes app access lists) =
+        after (hidden_causes app access ++ interface_causes access ++ platform_causes app lists device ++ unlisted_causes app lists) (static_causes app access lists) (omega arith) four statics_rise (omega arith) (omega arith) in
+        after (hidden_causes app access ++ interface_causes access ++ platform_causes app lists device ++ unlisted_causes app lists ++ static_causes app access lists) (click_causes app access lists) (omega arith) five clicks_rise (omega arith) (omega arith)
 
     if_strict : (strict : Bool) → Rising 7 12 (if strict then strict_causes app access lists device else [])
     if_strict true = strict_rise
