@@ -1,7 +1,8 @@
 -- What the indexes of lists and of an app find. Behind each fact stands what code would answer that does otherwise.
-use Rattle.std.specs.Prelude.{◌≡◌, Bool, true, false, [], ◌∷◌, Option, Some, None, codes}
+use Rattle.std.specs.Prelude.{◌≡◌, ℕ, Bool, true, false, List, [], ◌∷◌, Option, Some, None, codes}
 use Rattle.app_machine.specs.declared.call.MethodRef.{MethodRef}
 use Rattle.app_machine.specs.declared.lists.FallbackWord.TheVariants as fallback
+use Rattle.app_machine.specs.declared.lists.StaticRow.{StaticRow}
 use Rattle.app_machine.specs.declared.lists.SummaryId.{SummaryId}
 use Rattle.app_machine.specs.declared.lists.SummaryId.TheVariants.{Row, Fallback}
 use Rattle.app_machine.specs.declared.lists.Lists.{Lists}
@@ -9,9 +10,9 @@ use Rattle.app_machine.specs.declared.summary.Gives.TheVariants as gives
 use Rattle.app_machine.specs.declared.summary.Summary.{Summary}
 use Rattle.app_machine.specs.Names.{Name}
 use Rattle.app_machine.specs.SoundLists.{SoundLists}
-use Rattle.app_machine.specs.Summaries.{library_key}
+use Rattle.app_machine.specs.Summaries.{library_key, static_source}
 use Rattle.app_index.specs.Readers.{readers_of}
-use Rattle.lookup_witness.specs.Shapes.{object, int, ref, shapes}
+use Rattle.lookup_witness.specs.Shapes.{base_class, object, int, ref, shapes}
 
 abbrev pub box_class : Name
 box_class = codes "Lvendor/Box;"
@@ -71,5 +72,24 @@ pub record FindsReaders : Type 0 where
   -- there is none
   pub only_get : readers_of shapes 0 ≡ record { method = 1; pc = 0 } ∷ []
 
+-- the category with which lists with these rows label the one static of the app, `s` of the base, an integer
+abbrev pub label_by : List StaticRow → Option ℕ
+label_by rows = static_source shapes (record row_lists { statics = rows }) 0
+
+abbrev pub labels : Name → Name → Name → Option ℕ → StaticRow
+labels class name kind source = record { class = class; name = name; kind = kind; source = source }
+
+pub record FindsLabels : Type 0 where
+  -- the row is that of class, name and type; by name and type alone it gives Some 0, by class and type alone Some 1, and by class
+  -- and name alone Some 2
+  pub of_field : label_by (
+      labels plain_class (codes "s") int (Some 0)
+      ∷ labels base_class (codes "t") int (Some 1)
+      ∷ labels base_class (codes "s") object (Some 2)
+      ∷ labels base_class (codes "s") int (Some 3)
+      ∷ []) ≡ Some 3
+  -- the first row of a field tells, though it has no source; one that is passed over for the next gives Some 0
+  pub first_row : label_by (labels base_class (codes "s") int None ∷ labels base_class (codes "s") int (Some 0) ∷ []) ≡ None
+
 abbrev pub StaticsAreLookedUp : Type 0
-StaticsAreLookedUp = FindsReaders
+StaticsAreLookedUp = FindsReaders × FindsLabels

@@ -18,7 +18,8 @@ pub fn the_lists_are_looked_up()
     ensures { ListsAreLookedUp }
 {}
 
-/// The readers of a static are the steps that get it, under their own method.
+/// The readers of a static are the steps that get it, under their own method, and its label is that of
+/// the first row of its class, name and type.
 pub fn the_readers_of_a_static_are_looked_up()
     ensures { StaticsAreLookedUp }
 {}
