@@ -37,9 +37,9 @@ state_after {e = e} {life = life} at = record {
 }
 
 -- the label that the lists give a static is one of their categories
-source_listed : {app : App} {lists : Lists} {g l : ℕ} → SoundLists lists → static_source app lists g ≡ Some l → l < length lists.categories
+source_listed : (app : App) (lists : Lists) (g l : ℕ) → SoundLists lists → static_source app lists g ≡ Some l → l < length lists.categories
 unfolding static_source listed_static
-source_listed {app} {lists} {g} {l} sound is = by_field (slice_get app.statics g) is
+source_listed app lists g l sound is = by_field (slice_get app.statics g) is
   where
     by_row : (o : Option StaticRow) → ((s : StaticRow) → o ≡ Some s → In s lists.statics) → source_of o ≡ Some l → l < length lists.categories
     by_row None there e = absurd (none-some l e)
@@ -82,7 +82,7 @@ module _ (app : App) (lists : Lists) (sound : SoundApp app) (laws : PathLaws) wh
   local_in listed (step.get_static_points d acts is_one goes) h = (next_in sound h.0.0 goes, (named_register sound acts is_one, (h.1.0.1.0, tt)))
   local_in listed (step.get_static_taint d acts is_one goes) h =
       (next_in sound h.0.0 goes, (named_register sound acts is_one, (h.1.0.1.0, (h.1.0.1.1.0, tt))))
-  local_in listed (step.get_static_source d acts is_one is goes) h = (next_in sound h.0.0 goes, (named_register sound acts is_one, (empty_in app, (source_listed listed is, tt))))
+  local_in listed (step.get_static_source d acts is_one is goes) h = (next_in sound h.0.0 goes, (named_register sound acts is_one, (empty_in app, (source_listed app lists _ _ listed is, tt))))
   local_in listed (step.put_static_points acts) h = (app_static app lists (put_static_below sound acts), (h.0.1.1.0, tt))
   local_in listed (step.put_static_taint acts) h = (app_static app lists (put_static_below sound acts), (h.0.1.1.0, (h.0.1.1.1.0, tt)))
   local_in listed (step.throw_points acts caught) h = (caught_in sound h.0.0 caught, (is_exception refl, (h.0.1.1.0, tt)))
