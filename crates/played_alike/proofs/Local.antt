@@ -1,18 +1,21 @@
 -- Steps within a method, and raises, of alike worlds and frames.
-use Rattle.std.proofs.Common.{◌≡◌, ◌==◌, ℕ, Bool, true, false, cond, List, [], ◌∷◌, ◌++◌, map, reverse, length, Option, Some, None, refl, sym, ap, ◌∙◌, subst}
+use Rattle.std.proofs.Common.{◌≡◌, ◌==◌, inl, inr, ℕ, Bool, true, false, cond, List, [], ◌∷◌, ◌++◌, map, reverse, length, Option, Some, None, refl, sym, ap, ◌∙◌, subst}
 use Rattle.std.specs.Prelude.{option_to_list}
 use Rattle.std.specs.List.{cons_option}
 use Rattle.std.proofs.lemmas.List.{append-nil}
 use Rattle.vet_base.specs.declared.key_id.KeyId.{KeyId}
+use Rattle.vet_base.proofs.Members.{in_either, in_front, in_back}
 use Rattle.app_machine.specs.declared.app.App.{App}
+use Rattle.app_machine.specs.declared.lists.Lists.{Lists}
 use Rattle.app_machine.specs.declared.method.Act.{Act}
 use Rattle.app_machine.specs.declared.method.Act.TheVariants.{Skip, Join, Move, Blank, New, Fill, Get, Put, GetStatic, PutStatic, Call, Return, Throw, TakeResult, TakeException, Go}
 use Rattle.app_machine.specs.declared.method.Step.{Step}
 use Rattle.app_machine.specs.Heap.{Value, Object, blank, labelled, put_to}
 use Rattle.app_machine.specs.Lookups.{elem_key, step_at}
+use Rattle.app_machine.specs.Summaries.{static_source}
 use Rattle.app_machine.specs.State.{result_register, exception_register, write, write_all, World, Frame, object_at, new_object}
 use Rattle.played_machine.specs.Drawing.{give, ◌>>=◌, one_of}
-use Rattle.played_machine.specs.Local.{playing, catches_of, moved, first_or_blank, got_at, got, own_labels, elements, with_object, local, raised_to, raised}
+use Rattle.played_machine.specs.Local.{playing, catches_of, moved, first_or_blank, got_at, got, own_labels, elements, with_object, static_read, local, raised_to, raised}
 use Rattle.played_machine.specs.Reading.{under, values_at}
 use Rattle.played_machine.proofs.Ordered.{reverse-cons}
 use Rattle.played_alike.specs.Alike.{Pairwise, AlikeValue, values_under, AlikeEntries, AlikeObject, AlikeHeap, AlikeValues, AlikeFrame, AlikeFrames, AlikeWorld, AlikePlaying}
@@ -40,6 +43,16 @@ alike_got heap heap' alike v w value k = subst (λ o. AlikeDrawings AlikeValue (
 
 pub alike_labelled : (labels others : List ℕ) → labels ≡ others → AlikeValue (labelled labels) (labelled others)
 alike_labelled labels others same = subst (λ ls. AlikeValue (labelled labels) (labelled ls)) same (alike_itself (labelled labels))
+
+-- a value with more labels
+alike_more_labels : (more : List ℕ) (v w : Value) → AlikeValue v w → AlikeValue (record { place = v.place; labels = more ++ v.labels }) (record { place = w.place; labels = more ++ w.labels })
+alike_more_labels more v w one = record {
+  place = one.place;
+  labels = λ l. (
+    λ h. elim (in_either l more v.labels h) [ inl new ↦ in_front l more w.labels new | inr old ↦ in_back l more w.labels ((one.labels l).0 old) ],
+    λ h. elim (in_either l more w.labels h) [ inl new ↦ in_front l more v.labels new | inr old ↦ in_back l more v.labels ((one.labels l).1 old) ],
+  );
+}
 
 -- entries from the back
 under_append : (j : KeyId) (es ds : List (KeyId × Value)) → values_under j (es ++ ds) ≡ values_under j es ++ values_under j ds
@@ -98,42 +111,47 @@ module _ (w u : World) (alike : AlikeWorld w u) where
         in_order [] = tt
         in_order (y ∷ ys) = alike_option_cons (under j (elem_key, f.registers y)) (under j (elem_key, g.registers y)) (values_under j (map (λ x. (elem_key, f.registers x)) ys)) (values_under j (map (λ x. (elem_key, g.registers x)) ys)) (alike_under j y) (in_order ys)
 
-    pub alike_local : (act : Act) → AlikeDrawings AlikeDone (local w f act) (local u g act)
+    pub alike_local : (app : App) (lists : Lists) (act : Act) → AlikeDrawings AlikeDone (local app lists w f act) (local app lists u g act)
     unfolding local
-    alike_local (Join ds xs) = alike_give AlikeDone _ _ (alike, alike_write_all f.registers g.registers ds (labelled (own_labels f xs)) (labelled (own_labels g xs)) registers (alike_labelled (own_labels f xs) (own_labels g xs) (same_own_labels f g registers xs)))
-    alike_local (Move ds x) = alike_give AlikeDone _ _ (alike, alike_write_all f.registers g.registers ds (f.registers x) (g.registers x) registers (registers x))
-    alike_local (Blank ds) = alike_give AlikeDone _ _ (alike, alike_write_all f.registers g.registers ds blank blank registers (alike_itself blank))
-    alike_local (New d class size) =
+    alike_local app lists (Join ds xs) = alike_give AlikeDone _ _ (alike, alike_write_all f.registers g.registers ds (labelled (own_labels f xs)) (labelled (own_labels g xs)) registers (alike_labelled (own_labels f xs) (own_labels g xs) (same_own_labels f g registers xs)))
+    alike_local app lists (Move ds x) = alike_give AlikeDone _ _ (alike, alike_write_all f.registers g.registers ds (f.registers x) (g.registers x) registers (registers x))
+    alike_local app lists (Blank ds) = alike_give AlikeDone _ _ (alike, alike_write_all f.registers g.registers ds blank blank registers (alike_itself blank))
+    alike_local app lists (New d class size) =
         alike_give AlikeDone _ _ (
           alike_with (new_object class) (new_object class) (alike_object (new_object class)),
           alike_write f.registers g.registers d (record { place = Some (length w.heap); labels = own_labels f (option_to_list size) }) (record { place = Some (length u.heap); labels = own_labels g (option_to_list size) }) registers
               (alike_place (own_labels f (option_to_list size)) (own_labels g (option_to_list size)) (same_own_labels f g registers (option_to_list size))),
         )
-    alike_local (Fill xs class) =
+    alike_local app lists (Fill xs class) =
         alike_give AlikeDone _ _ (
           alike_with (record { class = class; entries = elements f xs }) (record { class = class; entries = elements g xs }) (record { class = refl; entries = alike_elements xs }),
           alike_write f.registers g.registers result_register (object_at (Some (length w.heap))) (object_at (Some (length u.heap))) registers (alike_place [] [] refl),
         )
-    alike_local (Get ds o k) =
+    alike_local app lists (Get ds o k) =
         alike_after AlikeValue AlikeDone (got w.heap (f.registers o) k) (got u.heap (g.registers o) k) (λ v. give (w, write_all f.registers ds v)) (λ v. give (u, write_all g.registers ds v))
         (alike_got w.heap u.heap alike.heap (f.registers o) (g.registers o) (registers o) k)
         (λ x y one. alike_give AlikeDone (w, write_all f.registers ds x) (u, write_all g.registers ds y) (alike, alike_write_all f.registers g.registers ds x y registers one))
-    alike_local (Put o k x) =
+    alike_local app lists (Put o k x) =
         alike_give AlikeDone _ _ (
           with_heap w u alike (put_to w.heap (f.registers o).place k (f.registers x)) (put_to u.heap (g.registers o).place k (g.registers x))
               (alike_put_to w.heap u.heap (f.registers o).place (g.registers o).place k (f.registers x) (g.registers x) alike.heap (registers o).place (registers x)),
           registers,
         )
-    alike_local (GetStatic ds n) = alike_give AlikeDone _ _ (alike, alike_write_all f.registers g.registers ds (w.statics n) (u.statics n) registers (alike.statics n))
-    alike_local (PutStatic n x) =
+    alike_local app lists (GetStatic ds n) =
+        alike_give AlikeDone _ _ (
+          alike,
+          alike_write_all f.registers g.registers ds (static_read app lists w n) (static_read app lists u n) registers
+              (alike_more_labels (option_to_list (static_source app lists n)) (w.statics n) (u.statics n) (alike.statics n)),
+        )
+    alike_local app lists (PutStatic n x) =
         alike_give AlikeDone _ _ (record { heap = alike.heap; statics = alike_write w.statics u.statics n (f.registers x) (g.registers x) alike.statics (registers x); components = alike.components; handed = alike.handed; arrivals = alike.arrivals }, registers)
-    alike_local (TakeResult ds) = alike_give AlikeDone _ _ (alike, alike_write_all f.registers g.registers ds (f.registers result_register) (g.registers result_register) registers (registers result_register))
-    alike_local (TakeException d) = alike_give AlikeDone _ _ (alike, alike_write f.registers g.registers d (f.registers exception_register) (g.registers exception_register) registers (registers exception_register))
-    alike_local Skip = alike_give AlikeDone _ _ (alike, registers)
-    alike_local Go = alike_give AlikeDone _ _ (alike, registers)
-    alike_local (Call kind at args) = alike_give AlikeDone _ _ (alike, registers)
-    alike_local (Return x) = alike_give AlikeDone _ _ (alike, registers)
-    alike_local (Throw x) = alike_give AlikeDone _ _ (alike, registers)
+    alike_local app lists (TakeResult ds) = alike_give AlikeDone _ _ (alike, alike_write_all f.registers g.registers ds (f.registers result_register) (g.registers result_register) registers (registers result_register))
+    alike_local app lists (TakeException d) = alike_give AlikeDone _ _ (alike, alike_write f.registers g.registers d (f.registers exception_register) (g.registers exception_register) registers (registers exception_register))
+    alike_local app lists Skip = alike_give AlikeDone _ _ (alike, registers)
+    alike_local app lists Go = alike_give AlikeDone _ _ (alike, registers)
+    alike_local app lists (Call kind at args) = alike_give AlikeDone _ _ (alike, registers)
+    alike_local app lists (Return x) = alike_give AlikeDone _ _ (alike, registers)
+    alike_local app lists (Throw x) = alike_give AlikeDone _ _ (alike, registers)
 
 -- frames that go on
 pub alike_moved : (f g : Frame) → AlikeFrame f g → (pc : ℕ) (one other : ℕ → Value) → AlikeValues one other → AlikeFrame (moved f pc one) (moved g pc other)

@@ -74,11 +74,11 @@ module _ (app : App) (lists : Lists) (w u : World) (alike : AlikeWorld w u) (f g
   alike_raise : (v v' : Value) → AlikeValue v v' → PlayAlike (raised app v w (f ∷ fs)) (raised app v' u (g ∷ gs))
   alike_raise v v' value = alike_raised app v v' value w u alike (f ∷ fs) (g ∷ gs) (frame, frames)
 
-  alike_acts : (next : List ℕ) (act : Act) → PlayAlike (acts w f fs next act) (acts u g gs next act)
+  alike_acts : (next : List ℕ) (act : Act) → PlayAlike (acts app lists w f fs next act) (acts app lists u g gs next act)
   alike_acts next act =
-      alike_after AlikeDone AlikePlaying (local w f act) (local u g act)
+      alike_after AlikeDone AlikePlaying (local app lists w f act) (local app lists u g act)
       (λ (done : World × (ℕ → Value)). one_of next >>= λ pc. give (playing done.0 (moved f pc done.1 ∷ fs))) (λ (done : World × (ℕ → Value)). one_of next >>= λ pc. give (playing done.0 (moved g pc done.1 ∷ gs)))
-      (alike_local w u alike f g frame.registers act)
+      (alike_local w u alike f g frame.registers app lists act)
       (λ x y one. alike_then AlikePlaying (one_of next) (λ pc. give (playing x.0 (moved f pc x.1 ∷ fs))) (λ pc. give (playing y.0 (moved g pc y.1 ∷ gs)))
       (λ pc. alike_give AlikePlaying (playing x.0 (moved f pc x.1 ∷ fs)) (playing y.0 (moved g pc y.1 ∷ gs)) (record { world = one.0; frames = (alike_moved f g frame pc x.1 y.1 one.1, frames) })))
 
@@ -117,8 +117,8 @@ module _ (app : App) (lists : Lists) (w u : World) (alike : AlikeWorld w u) (f g
   alike_returned None = alike_itself blank
   alike_returned (Some x) = frame.registers x
 
-  alike_local_way : (next : List ℕ) (act : Act) → WayAlike (where_next next (acts w f fs next act)) (where_next next (acts u g gs next act))
-  alike_local_way next act = alike_where_next next (acts w f fs next act) (acts u g gs next act) (alike_acts next act)
+  alike_local_way : (next : List ℕ) (act : Act) → WayAlike (where_next next (acts app lists w f fs next act)) (where_next next (acts app lists u g gs next act))
+  alike_local_way next act = alike_where_next next (acts app lists w f fs next act) (acts app lists u g gs next act) (alike_acts next act)
 
 -- what a return comes to, by whether it is from an initialiser, in the caller
 abbrev by_kind_of : Bool → World → Frame → List Frame → Value → Option Step → Option (Drawing Playing)
@@ -142,7 +142,7 @@ alike_returns app w u alike f g frame x value (h ∷ fs) (k ∷ gs) frames =
     by_kind false o = alike_where_next (next_of o) (resumes w (returned f x) h fs (next_of o)) (resumes u (returned g x) k gs (next_of o)) (alike_resumes w u alike (returned f x) (returned g x) value h k frames.0 fs gs frames.1 (next_of o))
 
 module _ (app : App) (lists : Lists) (w u : World) (alike : AlikeWorld w u) (f g : Frame) (frame : AlikeFrame f g) (fs gs : List Frame) (frames : AlikeFrames fs gs) where
-  alike_stays : (next : List ℕ) (act : Act) → WayAlike (where_next next (acts w f fs next act)) (where_next next (acts u g gs next act))
+  alike_stays : (next : List ℕ) (act : Act) → WayAlike (where_next next (acts app lists w f fs next act)) (where_next next (acts app lists u g gs next act))
   alike_stays next act = alike_local_way app lists w u alike f g frame fs gs frames next act
 
   alike_does : (next : List ℕ) (act : Act) → WayAlike (does app lists w f fs next act) (does app lists u g gs next act)

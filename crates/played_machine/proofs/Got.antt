@@ -7,6 +7,7 @@ use Rattle.vet_base.specs.declared.key_id.KeyId.{KeyId}
 use Rattle.vet_base.specs.Members.{In}
 use Rattle.vet_base.proofs.Members.{in_either, in_flat, from_flat, in_map, from_map}
 use Rattle.app_machine.specs.declared.app.App.{App}
+use Rattle.app_machine.specs.declared.lists.Lists.{Lists}
 use Rattle.app_machine.specs.declared.method.Act.{Act}
 use Rattle.app_machine.specs.declared.method.Act.TheVariants.{Skip, Join, Move, Blank, New, Fill, Get, Put, GetStatic, PutStatic, Call, Return, Throw, TakeResult, TakeException, Go}
 use Rattle.app_machine.specs.declared.method.Step.{Step}
@@ -16,7 +17,7 @@ use Rattle.app_machine.specs.Local.{AreElements, AreOwnLabels, Local, skips, goe
 use Rattle.app_machine.specs.Lookups.{elem_key, step_at, ActAt, Goes, Catches}
 use Rattle.app_machine.specs.State.{result_register, exception_register, write_all, write, World, Frame, object_at, new_object}
 use Rattle.played_machine.specs.Drawing.{give, one_of, Draws}
-use Rattle.played_machine.specs.Local.{Playing, playing, catches_of, moved, first_or_blank, got_at, got, own_labels, elements, with_object, local, raised_to, raised}
+use Rattle.played_machine.specs.Local.{Playing, playing, catches_of, moved, first_or_blank, got_at, got, own_labels, elements, with_object, static_read, local, raised_to, raised}
 use Rattle.played_machine.specs.Reading.{values_at}
 use Rattle.played_machine.proofs.Chosen.{gave, followed, one_drawn}
 use Rattle.played_machine.proofs.Ordered.{in_reverse, from_reverse, in_ascending, from_ascending}
@@ -72,14 +73,14 @@ is_local (Return x) = false
 is_local (Throw x) = false
 is_local act = true
 
-module _ (app : App) (w : World) (f : Frame) (pc : ℕ) (next : Goes app f.method f.pc pc) where
+module _ (app : App) (lists : Lists) (w : World) (f : Frame) (pc : ℕ) (next : Goes app f.method f.pc pc) where
   abbrev LocalTo : World × (ℕ → Value) → Type 0
-  LocalTo done = Local app w f done.0 (moved f pc done.1)
+  LocalTo done = Local app lists w f done.0 (moved f pc done.1)
 
   as_given : (one done : World × (ℕ → Value)) → LocalTo one → Draws (give one) done → LocalTo done
   as_given one done step d = subst LocalTo (sym (gave one done d)) step
 
-  pub local_so : (act : Act) → is_local act ≡ true → ActAt app f.method f.pc act → (done : World × (ℕ → Value)) → Draws (local w f act) done → LocalTo done
+  pub local_so : (act : Act) → is_local act ≡ true → ActAt app f.method f.pc act → (done : World × (ℕ → Value)) → Draws (local app lists w f act) done → LocalTo done
   unfolding local
   local_so Skip stays at done d = as_given (w, f.registers) done (skips at next) d
   local_so Go stays at done d = as_given (w, f.registers) done (goes at next) d
@@ -98,7 +99,7 @@ module _ (app : App) (w : World) (f : Frame) (pc : ℕ) (next : Goes app f.metho
       let h = followed (got w.heap (f.registers o) k) (λ v. give (w, write_all f.registers ds v)) done d in
       as_given (w, write_all f.registers ds h.by) done (gets at next (gets_so w.heap (f.registers o) k h.by h.drawn)) h.after
   local_so (Put o k x) stays at done d = as_given (record w { heap = put_to w.heap (f.registers o).place k (f.registers x) }, f.registers) done (puts at next) d
-  local_so (GetStatic ds g) stays at done d = as_given (w, write_all f.registers ds (w.statics g)) done (gets_static at next) d
+  local_so (GetStatic ds g) stays at done d = as_given (w, write_all f.registers ds (static_read app lists w g)) done (gets_static at next) d
   local_so (PutStatic g x) stays at done d = as_given (record w { statics = write w.statics g (f.registers x) }, f.registers) done (puts_static at next) d
   local_so (Call kind to args) stays at done d = absurd cc
   local_so (Return x) stays at done d = absurd cc

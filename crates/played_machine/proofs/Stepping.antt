@@ -55,11 +55,11 @@ module _ (app : App) (lists : Lists) (sound : SoundLists lists) (w : World) (f :
 
   module _ (next : List ℕ) (there : (to : ℕ) → In to next → Goes app f.method f.pc to) where
     -- an act that neither calls, returns nor throws
-    acts_so : (act : Act) → is_local act ≡ true → ActAt app f.method f.pc act → (t : Playing) → Draws (acts w f fs next act) t → StepsTo t
+    acts_so : (act : Act) → is_local act ≡ true → ActAt app f.method f.pc act → (t : Playing) → Draws (acts app lists w f fs next act) t → StepsTo t
     acts_so act stays at t d =
-        let done = followed (local w f act) (λ (done : World × (ℕ → Value)). one_of next >>= λ pc. give (playing done.0 (moved f pc done.1 ∷ fs))) t d in
+        let done = followed (local app lists w f act) (λ (done : World × (ℕ → Value)). one_of next >>= λ pc. give (playing done.0 (moved f pc done.1 ∷ fs))) t d in
         let to = followed (one_of next) (λ pc. give (playing done.by.0 (moved f pc done.by.1 ∷ fs))) t done.after in
-        as_given (playing done.by.0 (moved f to.by done.by.1 ∷ fs)) t (goes_on (local_so app w f to.by (there to.by (one_drawn next to.by to.drawn)) act stays at done.by done.drawn)) to.after
+        as_given (playing done.by.0 (moved f to.by done.by.1 ∷ fs)) t (goes_on (local_so app lists w f to.by (there to.by (one_drawn next to.by to.drawn)) act stays at done.by done.drawn)) to.after
 
   -- a library call
   module _ (kind : CallKind) (at : MethodRef) (args : List ℕ) (row : Summary) (next : List ℕ) (there : (to : ℕ) → In to next → Goes app f.method f.pc to) (is : ActAt app f.method f.pc (Call kind at args)) (uses : Uses_row app lists w.heap f kind at args row) where
@@ -151,9 +151,9 @@ module _ (app : App) (lists : Lists) (sound : SoundLists lists) (w : World) (f :
       subst (λ (z : World). Steps app lists w (f ∷ fs) z t.frames) (sym to.world) (throws is to.frames)
 
   module _ (next : List ℕ) (there : (to : ℕ) → In to next → Goes app f.method f.pc to) (way : Drawing Playing) (t : Playing) (d : Draws way t) where
-    stays_so : (act : Act) → is_local act ≡ true → ActAt app f.method f.pc act → (ns : List ℕ) → where_next ns (acts w f fs next act) ≡ Some way → Steps app lists w (f ∷ fs) t.world t.frames
+    stays_so : (act : Act) → is_local act ≡ true → ActAt app f.method f.pc act → (ns : List ℕ) → where_next ns (acts app lists w f fs next act) ≡ Some way → Steps app lists w (f ∷ fs) t.world t.frames
     stays_so act stays is [] gives = absurd (none-some way gives)
-    stays_so act stays is (n ∷ ns) gives = acts_so app lists sound w f fs next there act stays is t (subst (λ (z : Drawing Playing). Draws z t) (sym (same_Some (acts w f fs next act) way gives)) d)
+    stays_so act stays is (n ∷ ns) gives = acts_so app lists sound w f fs next there act stays is t (subst (λ (z : Drawing Playing). Draws z t) (sym (same_Some (acts app lists w f fs next act) way gives)) d)
 
     does_so : (act : Act) → ActAt app f.method f.pc act → does app lists w f fs next act ≡ Some way → Steps app lists w (f ∷ fs) t.world t.frames
     does_so (Call kind at args) is gives = call_so app lists sound w f fs kind at args next there is way t d (call_target app w.heap f kind at args) refl gives

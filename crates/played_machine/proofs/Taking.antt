@@ -93,24 +93,24 @@ keeps_got heap v k = by_place v.place
     by_place None = keeps_give blank
     by_place (Some p) = keeps_if (k.0 == 0) (one_of (values_at heap p k ++ blank ∷ [])) (give (first_or_blank (values_at heap p k))) (keeps_one (values_at heap p k ++ blank ∷ [])) (keeps_give (first_or_blank (values_at heap p k)))
 
-keeps_local : (w : World) (f : Frame) (act : Act) → Keeps (local w f act)
+keeps_local : (app : App) (lists : Lists) (w : World) (f : Frame) (act : Act) → Keeps (local app lists w f act)
 unfolding local
-keeps_local w f (Join ds xs) = keeps_give _
-keeps_local w f (Move ds x) = keeps_give _
-keeps_local w f (Blank ds) = keeps_give _
-keeps_local w f (New d class size) = keeps_give _
-keeps_local w f (Fill xs class) = keeps_give _
-keeps_local w f (Get ds o k) = keeps_after (got w.heap (f.registers o) k) (λ v. give (w, write_all f.registers ds v)) (keeps_got w.heap (f.registers o) k) (λ v. keeps_give (w, write_all f.registers ds v))
-keeps_local w f (Put o k x) = keeps_give _
-keeps_local w f (GetStatic ds g) = keeps_give _
-keeps_local w f (PutStatic g x) = keeps_give _
-keeps_local w f (TakeResult ds) = keeps_give _
-keeps_local w f (TakeException d) = keeps_give _
-keeps_local w f Skip = keeps_give _
-keeps_local w f Go = keeps_give _
-keeps_local w f (Call kind at args) = keeps_give _
-keeps_local w f (Return x) = keeps_give _
-keeps_local w f (Throw x) = keeps_give _
+keeps_local app lists w f (Join ds xs) = keeps_give _
+keeps_local app lists w f (Move ds x) = keeps_give _
+keeps_local app lists w f (Blank ds) = keeps_give _
+keeps_local app lists w f (New d class size) = keeps_give _
+keeps_local app lists w f (Fill xs class) = keeps_give _
+keeps_local app lists w f (Get ds o k) = keeps_after (got w.heap (f.registers o) k) (λ v. give (w, write_all f.registers ds v)) (keeps_got w.heap (f.registers o) k) (λ v. keeps_give (w, write_all f.registers ds v))
+keeps_local app lists w f (Put o k x) = keeps_give _
+keeps_local app lists w f (GetStatic ds g) = keeps_give _
+keeps_local app lists w f (PutStatic g x) = keeps_give _
+keeps_local app lists w f (TakeResult ds) = keeps_give _
+keeps_local app lists w f (TakeException d) = keeps_give _
+keeps_local app lists w f Skip = keeps_give _
+keeps_local app lists w f Go = keeps_give _
+keeps_local app lists w f (Call kind at args) = keeps_give _
+keeps_local app lists w f (Return x) = keeps_give _
+keeps_local app lists w f (Throw x) = keeps_give _
 
 keeps_raised : (app : App) (v : Value) (w : World) (fs : List Frame) → Keeps (raised app v w fs)
 keeps_raised app v w [] = keeps_give (playing w [])
@@ -182,9 +182,9 @@ module _ (app : App) (lists : Lists) (w : World) (f : Frame) (fs : List Frame) (
   abbrev then_drawn : World × Value → Drawing Playing
   then_drawn done = draw 2 >>= resumes_or_raises app done.0 done.1 f fs next
 
-  keeps_acts : (act : Act) → Keeps (acts w f fs next act)
+  keeps_acts : (act : Act) → Keeps (acts app lists w f fs next act)
   keeps_acts act =
-      keeps_after (local w f act) goes_on (keeps_local w f act) (λ done. keeps_after (one_of next) (arrives done) (keeps_one next) (λ pc. keeps_give (playing done.0 (moved f pc done.1 ∷ fs))))
+      keeps_after (local app lists w f act) goes_on (keeps_local app lists w f act) (λ done. keeps_after (one_of next) (arrives done) (keeps_one next) (λ pc. keeps_give (playing done.0 (moved f pc done.1 ∷ fs))))
 
   keeps_calls : (kind : CallKind) (at : MethodRef) (args : List ℕ) (row : Summary) → Keeps (stepping.calls_library app lists w f fs next kind at args row)
   keeps_calls kind at args row =
@@ -233,8 +233,8 @@ module _ (app : App) (lists : Lists) (w : World) (f : Frame) (fs : List Frame) w
       by_kind true = one_way (give (playing w (g ∷ gs))) (keeps_give (playing w (g ∷ gs)))
       by_kind false = keeps_where_next (next_of (step_at app g.method g.pc)) (resumes w (returned f x) g gs (next_of (step_at app g.method g.pc))) (keeps_resumes w (returned f x) g gs (next_of (step_at app g.method g.pc)))
 
-  keeps_local_way : (next : List ℕ) (act : Act) → WayKeeps (where_next next (acts w f fs next act))
-  keeps_local_way next act = keeps_where_next next (acts w f fs next act) (keeps_acts app lists w f fs next act)
+  keeps_local_way : (next : List ℕ) (act : Act) → WayKeeps (where_next next (acts app lists w f fs next act))
+  keeps_local_way next act = keeps_where_next next (acts app lists w f fs next act) (keeps_acts app lists w f fs next act)
 
   keeps_does : (next : List ℕ) (act : Act) → WayKeeps (does app lists w f fs next act)
   keeps_does next (Call kind at args) = keeps_target next kind at args (call_target app w.heap f kind at args)

@@ -2,10 +2,12 @@
 use Rattle.std.specs.Prelude.{ℕ, ◌==◌, if◌then◌else◌, List, [], ◌∷◌, ◌++◌, map, reverse, flat_map, length, Option, Some, None, option_to_list}
 use Rattle.vet_base.specs.declared.key_id.KeyId.{KeyId}
 use Rattle.app_machine.specs.declared.app.App.{App}
+use Rattle.app_machine.specs.declared.lists.Lists.{Lists}
 use Rattle.app_machine.specs.declared.method.Act.{Act}
 use Rattle.app_machine.specs.declared.method.Act.TheVariants.{Join, Move, Blank, New, Fill, Get, Put, GetStatic, PutStatic, TakeResult, TakeException}
 use Rattle.app_machine.specs.declared.method.Step.{Step}
 use Rattle.app_machine.specs.Lookups.{elem_key, step_at}
+use Rattle.app_machine.specs.Summaries.{static_source}
 use Rattle.app_machine.specs.Heap.{Value, Object, blank, labelled, put_to}
 use Rattle.app_machine.specs.State.{result_register, exception_register, write_all, write, World, Frame, object_at, new_object}
 use Rattle.played_machine.specs.Drawing.{Drawing, give, ◌>>=◌, one_of}
@@ -58,21 +60,25 @@ elements f xs = reverse (map (λ x. (elem_key, f.registers x)) xs)
 abbrev pub with_object : World → Object → World
 with_object w o = record w { heap = w.heap ++ o ∷ [] }
 
+-- what the static holds, with the label that the lists give it
+abbrev pub static_read : App → Lists → World → ℕ → Value
+static_read app lists w g = record { place = (w.statics g).place; labels = option_to_list (static_source app lists g) ++ (w.statics g).labels }
+
 -- The world and the frame's registers after an act that neither calls, returns nor throws. What a static gives is said at
 -- `GetStatic` alone.
-unfoldable pub local : World → Frame → Act → Drawing (World × (ℕ → Value))
-local w f (Join ds xs) = give (w, write_all f.registers ds (labelled (own_labels f xs)))
-local w f (Move ds x) = give (w, write_all f.registers ds (f.registers x))
-local w f (Blank ds) = give (w, write_all f.registers ds blank)
-local w f (New d class size) = give (with_object w (new_object class), write f.registers d (record { place = Some (length w.heap); labels = own_labels f (option_to_list size) }))
-local w f (Fill xs class) = give (with_object w (record { class = class; entries = elements f xs }), write f.registers result_register (object_at (Some (length w.heap))))
-local w f (Get ds o k) = got w.heap (f.registers o) k >>= λ v. give (w, write_all f.registers ds v)
-local w f (Put o k x) = give (record w { heap = put_to w.heap (f.registers o).place k (f.registers x) }, f.registers)
-local w f (GetStatic ds g) = give (w, write_all f.registers ds (w.statics g))
-local w f (PutStatic g x) = give (record w { statics = write w.statics g (f.registers x) }, f.registers)
-local w f (TakeResult ds) = give (w, write_all f.registers ds (f.registers result_register))
-local w f (TakeException d) = give (w, write f.registers d (f.registers exception_register))
-local w f act = give (w, f.registers)
+unfoldable pub local : App → Lists → World → Frame → Act → Drawing (World × (ℕ → Value))
+local app lists w f (Join ds xs) = give (w, write_all f.registers ds (labelled (own_labels f xs)))
+local app lists w f (Move ds x) = give (w, write_all f.registers ds (f.registers x))
+local app lists w f (Blank ds) = give (w, write_all f.registers ds blank)
+local app lists w f (New d class size) = give (with_object w (new_object class), write f.registers d (record { place = Some (length w.heap); labels = own_labels f (option_to_list size) }))
+local app lists w f (Fill xs class) = give (with_object w (record { class = class; entries = elements f xs }), write f.registers result_register (object_at (Some (length w.heap))))
+local app lists w f (Get ds o k) = got w.heap (f.registers o) k >>= λ v. give (w, write_all f.registers ds v)
+local app lists w f (Put o k x) = give (record w { heap = put_to w.heap (f.registers o).place k (f.registers x) }, f.registers)
+local app lists w f (GetStatic ds g) = give (w, write_all f.registers ds (static_read app lists w g))
+local app lists w f (PutStatic g x) = give (record w { statics = write w.statics g (f.registers x) }, f.registers)
+local app lists w f (TakeResult ds) = give (w, write_all f.registers ds (f.registers result_register))
+local app lists w f (TakeException d) = give (w, write f.registers d (f.registers exception_register))
+local app lists w f act = give (w, f.registers)
 
 abbrev pub raised_to : App → Value → World → Frame → List Frame → Drawing Playing → Option ℕ → Drawing Playing
 raised_to app v w f fs upward (Some pc) = give (playing w (moved f pc (write f.registers exception_register v) ∷ fs))

@@ -27,9 +27,9 @@ where_next [] one = None
 where_next (pc ∷ more) one = Some one
 
 -- an act that neither calls, returns nor throws, and then one of the next
-abbrev pub acts : World → Frame → List Frame → List ℕ → Act → Drawing Playing
-acts w f fs next act =
-    local w f act >>= λ (done : World × (ℕ → Value)).
+abbrev pub acts : App → Lists → World → Frame → List Frame → List ℕ → Act → Drawing Playing
+acts app lists w f fs next act =
+    local app lists w f act >>= λ (done : World × (ℕ → Value)).
     one_of next >>= λ pc.
     give (playing done.0 (moved f pc done.1 ∷ fs))
 
@@ -75,7 +75,7 @@ abbrev pub does : App → Lists → World → Frame → List Frame → List ℕ 
 does app lists w f fs next (Call kind at args) = calls_target app lists w f fs next kind at args (call_target app w.heap f kind at args)
 does app lists w f fs next (Return x) = returns app w f x fs
 does app lists w f fs next (Throw x) = Some (raised app (f.registers x) w (f ∷ fs))
-does app lists w f fs next act = where_next next (acts w f fs next act)
+does app lists w f fs next act = where_next next (acts app lists w f fs next act)
 
 -- the initialiser begins, and the instruction will be tried again
 abbrev pub enters : World → List Frame → ℕ × Method → Drawing Playing
