@@ -32,7 +32,7 @@ use Rattle.fact_rows.specs.declared.context.Ctx.TheVariants as ctx
 use Rattle.fact_rows.specs.declared.context.Activation.{Activation}
 use Rattle.fact_rows.specs.declared.context.Node.{Node}
 use Rattle.fact_rows.specs.declared.site.Site.{Site}
-use Rattle.fact_rows.specs.declared.site.Site.TheVariants.{At, Param, Component as ComponentOf, Shared}
+use Rattle.fact_rows.specs.declared.site.Site.TheVariants.{At, Param, Component as ComponentOf, Shared, Made}
 use Rattle.fact_rows.specs.declared.field.Field.{Field}
 use Rattle.fact_rows.specs.declared.field.Field.TheVariants as field
 use Rattle.fact_rows.specs.Contexts.{IsEvent, event_types, types_of, body_at}
@@ -331,12 +331,14 @@ module _ (app : App) (lists : Lists) (exact : EventsAreExact app lists) where
   site_to (Param x i) h = parameter_to x i h
   site_to (ComponentOf c) h = ltb-true c (length app.components) h
   site_to (Shared i) h = ltb-true i (length lists.shared) h
+  site_to (Made m pc) h = cc
 
   site_from : (s : Site) → SiteIn app lists s → is_site_in app lists s ≡ true
   site_from (At n) h = and_from (step_tells makes (step_at app n.by.method n.pc)) (is_node_in app lists n) (makes_from app n.by.method n.pc h.1) (node_from n h.0)
   site_from (Param x i) h = parameter_from x i h
   site_from (ComponentOf c) h = lt-ltb c (length app.components) h
   site_from (Shared i) h = lt-ltb i (length lists.shared) h
+  site_from (Made m pc) h = absurd h
 
   field_to : (f : Field) → is_field_in app lists f ≡ true → FieldIn app lists f
   field_to (field.Node n) h = node_to n h
@@ -352,6 +354,7 @@ module _ (app : App) (lists : Lists) (exact : EventsAreExact app lists) where
   field_to (field.State c state) h = state_to app c state h
   field_to (field.Cause cause) h = let parts = and_parts (nat_lt 0 cause) (nat_lt cause 4) h in (ltb-true 0 cause parts.0, ltb-true cause 4 parts.1)
   field_to (field.Use u) h = summary_to lists u h
+  field_to (field.Label l) h = cc
 
   field_from : (f : Field) → FieldIn app lists f → is_field_in app lists f ≡ true
   field_from (field.Node n) h = node_from n h
@@ -367,6 +370,7 @@ module _ (app : App) (lists : Lists) (exact : EventsAreExact app lists) where
   field_from (field.State c state) h = state_from app c state h
   field_from (field.Cause cause) h = and_from (nat_lt 0 cause) (nat_lt cause 4) (lt-ltb 0 cause h.0) (lt-ltb cause 4 h.1)
   field_from (field.Use u) h = summary_from lists u h
+  field_from (field.Label l) h = absurd h
 
   fields_to : (fs : List Field) → are_fields_in app lists fs ≡ true → FieldsIn app lists fs
   fields_to [] h = tt

@@ -28,7 +28,7 @@ use Rattle.fact_rows.specs.declared.context.Ctx.TheVariants as ctx
 use Rattle.fact_rows.specs.declared.context.Activation.{Activation}
 use Rattle.fact_rows.specs.declared.context.Node.{Node}
 use Rattle.fact_rows.specs.declared.site.Site.{Site}
-use Rattle.fact_rows.specs.declared.site.Site.TheVariants.{At, Param, Component as ComponentOf, Shared}
+use Rattle.fact_rows.specs.declared.site.Site.TheVariants.{At, Param, Component as ComponentOf, Shared, Made}
 use Rattle.fact_rows.specs.declared.field.Field.{Field}
 use Rattle.fact_rows.specs.declared.field.Field.TheVariants as field
 use Rattle.fact_rows.specs.Contexts.{types_of, callback_types}
@@ -113,6 +113,7 @@ is_site_in app lists (At n) = step_tells makes (step_at app n.by.method n.pc) &&
 is_site_in app lists (Param ctx i) = is_parameter_in app lists ctx i
 is_site_in app lists (ComponentOf c) = nat_lt c (length app.components)
 is_site_in app lists (Shared i) = nat_lt i (length lists.shared)
+is_site_in app lists (Made m pc) = false
 
 abbrev pub is_key_in : App → KeyId → Bool
 is_key_in app k = nat_lt k.0 (length app.keys)
@@ -149,6 +150,7 @@ is_field_in app lists (field.Component c) = nat_lt c (length app.components)
 is_field_in app lists (field.State c state) = is_state_of state (slice_get app.components c)
 is_field_in app lists (field.Cause cause) = nat_lt 0 cause && nat_lt cause 4
 is_field_in app lists (field.Use u) = is_summary_in lists u
+is_field_in app lists (field.Label l) = false
 
 abbrev pub are_fields_in : App → Lists → List Field → Bool
 are_fields_in app lists fields = list_all (is_field_in app lists) fields

@@ -87,6 +87,7 @@ fn is_field_in(index: &EventIndex<'_>, field: Field) -> bool
         Field::State(component, state) => is_state_in(app, component, state),
         Field::Cause(cause) => 0 < cause && cause < 4,
         Field::Use(summary) => is_summary_in(lists, summary),
+        Field::Label(_) => false,
     }
 }
 

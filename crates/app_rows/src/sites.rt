@@ -52,5 +52,6 @@ pub(crate) fn is_site_in(index: &EventIndex<'_>, site: Site) -> bool
         Site::Param(ctx, position) => is_parameter_in(index, ctx, position),
         Site::Component(component) => (component as usize) < index.app().components.len(),
         Site::Shared(number) => (number as usize) < index.lists().shared.len(),
+        Site::Made(_, _) => false,
     }
 }

@@ -15,9 +15,9 @@ use Rattle.fact_rows.specs.declared.context.Ctx.TheVariants as ctx
 use Rattle.fact_rows.specs.declared.context.Activation.{Activation}
 use Rattle.fact_rows.specs.declared.context.Node.{Node}
 use Rattle.fact_rows.specs.declared.site.Site.{Site}
-use Rattle.fact_rows.specs.declared.site.Site.TheVariants.{At, Param, Component, Shared}
-use Rattle.fact_rows.specs.Order.{numbers_of_ctx, numbers_of_activation, numbers_of_node, numbers_of_site, numbers_of_use}
-use Rattle.cert_rows.specs.Fitting.{AreSmall}
+use Rattle.fact_rows.specs.declared.site.Site.TheVariants.{At, Param, Component, Shared, Made}
+use Rattle.fact_rows.specs.Order.{numbers_of_ctx, numbers_of_activation, numbers_of_node, numbers_of_use}
+use Rattle.cert_rows.specs.Fitting.{AreSmall, SiteFits}
 use Rattle.cert_rows.specs.Parts as parts
 use Rattle.cert_rows.specs.Parts.{param_from, site_of, site_from, keys_from, path_from}
 use Rattle.cert_rows.specs.Reading.{From, with, byte_from, u4_from, zero_byte_from, zero_from, two_from, lone_from, call2_from, ctx_of, ctx_from, activation_from, node_from}
@@ -81,14 +81,15 @@ param_again : (c : Ctx) (k : ℕ) (rest : List ℕ) → AreSmall (numbers_of_ctx
 unfolding param_from
 param_again c k rest h small = rw (append_assoc, run_bind, ctx_again c (u4_bytes k ++ rest) h) (λ i. Ok (Param c (whole k small i), rest))
 
-site_again : (s : Site) (rest : List ℕ) → AreSmall (numbers_of_site s) → run (site_from (site_bytes s ++ rest)) ≡ Ok (s, rest)
+site_again : (s : Site) (rest : List ℕ) → SiteFits s → run (site_from (site_bytes s ++ rest)) ≡ Ok (s, rest)
 unfolding site_bytes site_from site_of
-site_again (At n) rest h = with_again At (node_from (node_bytes n ++ rest)) n rest (node_again n rest h.1)
-site_again (Param c k) rest h = let p = small_parts (numbers_of_ctx c) (k ∷ []) h.1 in param_again c k rest p.0 p.1.0
-site_again (Component c) rest h = λ i. Ok (Component (whole c h.1.0 i), rest)
-site_again (Shared g) rest h = λ i. Ok (Shared (whole g h.1.0 i), rest)
+site_again (At n) rest h = with_again At (node_from (node_bytes n ++ rest)) n rest (node_again n rest h.1.1)
+site_again (Param c k) rest h = let p = small_parts (numbers_of_ctx c) (k ∷ []) h.1.1 in param_again c k rest p.0 p.1.0
+site_again (Component c) rest h = λ i. Ok (Component (whole c h.1.1.0 i), rest)
+site_again (Shared g) rest h = λ i. Ok (Shared (whole g h.1.1.0 i), rest)
+site_again (Made m pc) rest h = absurd h.0
 
-pub site : Again site_bytes (λ s. AreSmall (numbers_of_site s)) site_from
+pub site : Again site_bytes SiteFits site_from
 site = record { again = site_again }
 
 abbrev path_of : Bool → Keys → Path

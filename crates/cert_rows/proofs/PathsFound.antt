@@ -16,9 +16,9 @@ use Rattle.app_machine.specs.declared.lists.SummaryId.{SummaryId}
 use Rattle.app_machine.specs.declared.lists.SummaryId.TheVariants as uses
 use Rattle.fact_rows.specs.declared.site.Site.{Site}
 use Rattle.fact_rows.specs.declared.site.Site.TheVariants.{At, Param, Component, Shared}
-use Rattle.fact_rows.specs.Order.{numbers_of_ctx, numbers_of_site, numbers_of_use}
+use Rattle.fact_rows.specs.Order.{numbers_of_ctx, numbers_of_use}
 use Rattle.cert_rows.specs.declared.fault.RowFault.TheVariants.{Bad}
-use Rattle.cert_rows.specs.Fitting.{IsSmall, AreSmall}
+use Rattle.cert_rows.specs.Fitting.{IsSmall, AreSmall, SiteFits}
 use Rattle.cert_rows.specs.Laws.{AreBytes, Begins}
 use Rattle.cert_rows.specs.Parts.{key, bare, param_from, site_of, site_from, keys_from, path_from}
 use Rattle.cert_rows.specs.Reading.{byte_from, u4_from, ctx_from, node_from}
@@ -26,11 +26,8 @@ use Rattle.cert_rows.specs.Rows.{key_from, exit_from, cause_from, use_of_kind, u
 use Rattle.cert_rows.specs.Spelling.{u4_bytes, ctx_bytes, site_bytes, keys_bytes, path_bytes, use_bytes}
 use Rattle.cert_rows.proofs.PartsFound.{Finds, byte, u4, node, ctx_found, by_test, is_number, with_found, after_found}
 
-abbrev pub FitsSite : Site → Type 0
-FitsSite s = AreSmall (numbers_of_site s)
-
 abbrev SiteFound : ℕ → List ℕ → List ℕ → Site → Type 0
-SiteFound kind bytes rest s = Begins site_bytes FitsSite (kind ∷ bytes) s rest
+SiteFound kind bytes rest s = Begins site_bytes SiteFits (kind ∷ bytes) s rest
 
 param_found : (bytes : List ℕ) (s : Site) (rest : List ℕ) → AreBytes bytes → run (param_from bytes) ≡ Ok (s, rest) → SiteFound 1 bytes rest s
 unfolding param_from site_bytes
@@ -39,7 +36,7 @@ param_found bytes s rest h e =
     let kind : IsSmall 1 = omega arith in
     let made : SiteFound 1 bytes rest (Param f.0 f.1) = record {
       is = ap (λ (bs : List ℕ). 1 ∷ bs) (f.3 ∙ sym (append_assoc (ctx_bytes f.0) (u4_bytes f.1) rest));
-      fits = (kind, each_append IsSmall (numbers_of_ctx f.0) (f.1 ∷ []) f.4 (f.5, tt));
+      fits = (tt, (kind, each_append IsSmall (numbers_of_ctx f.0) (f.1 ∷ []) f.4 (f.5, tt)));
       left = f.6;
     } in
     subst (SiteFound 1 bytes rest) f.2 made
@@ -49,7 +46,7 @@ unfolding site_bytes
 at_found bytes s rest h w =
     let f = node.found bytes w.0 rest h w.1 in
     let kind : IsSmall 0 = omega arith in
-    let made : SiteFound 0 bytes rest (At w.0) = record { is = ap (λ (bs : List ℕ). 0 ∷ bs) f.is; fits = (kind, f.fits); left = f.left } in
+    let made : SiteFound 0 bytes rest (At w.0) = record { is = ap (λ (bs : List ℕ). 0 ∷ bs) f.is; fits = (tt, (kind, f.fits)); left = f.left } in
     subst (SiteFound 0 bytes rest) w.2 made
 
 component_found : (bytes : List ℕ) (s : Site) (rest : List ℕ) → AreBytes bytes → (n : ℕ) × (run (u4_from bytes) ≡ Ok (n, rest)) × (Component n ≡ s) → SiteFound 2 bytes rest s
@@ -57,7 +54,7 @@ unfolding site_bytes
 component_found bytes s rest h w =
     let f = u4.found bytes w.0 rest h w.1 in
     let kind : IsSmall 2 = omega arith in
-    let made : SiteFound 2 bytes rest (Component w.0) = record { is = ap (λ (bs : List ℕ). 2 ∷ bs) f.is; fits = (kind, f.fits); left = f.left } in
+    let made : SiteFound 2 bytes rest (Component w.0) = record { is = ap (λ (bs : List ℕ). 2 ∷ bs) f.is; fits = (tt, (kind, f.fits)); left = f.left } in
     subst (SiteFound 2 bytes rest) w.2 made
 
 shared_found : (bytes : List ℕ) (s : Site) (rest : List ℕ) → AreBytes bytes → (n : ℕ) × (run (u4_from bytes) ≡ Ok (n, rest)) × (Shared n ≡ s) → SiteFound 3 bytes rest s
@@ -65,7 +62,7 @@ unfolding site_bytes
 shared_found bytes s rest h w =
     let f = u4.found bytes w.0 rest h w.1 in
     let kind : IsSmall 3 = omega arith in
-    let made : SiteFound 3 bytes rest (Shared w.0) = record { is = ap (λ (bs : List ℕ). 3 ∷ bs) f.is; fits = (kind, f.fits); left = f.left } in
+    let made : SiteFound 3 bytes rest (Shared w.0) = record { is = ap (λ (bs : List ℕ). 3 ∷ bs) f.is; fits = (tt, (kind, f.fits)); left = f.left } in
     subst (SiteFound 3 bytes rest) w.2 made
 
 no_site : (s : Site) (rest : List ℕ) → run {A = Site × List ℕ} (Test false Bad (Value (Component 0, []))) ≡ Ok (s, rest) → ⊥
@@ -89,12 +86,12 @@ site_of_found kind bytes s rest h e =
       ]
     ]
 
-site_found : (bytes : List ℕ) (s : Site) (rest : List ℕ) → AreBytes bytes → run (site_from bytes) ≡ Ok (s, rest) → Begins site_bytes FitsSite bytes s rest
+site_found : (bytes : List ℕ) (s : Site) (rest : List ℕ) → AreBytes bytes → run (site_from bytes) ≡ Ok (s, rest) → Begins site_bytes SiteFits bytes s rest
 unfolding site_from
 site_found [] s rest h e = absurd cc
 site_found (kind ∷ bytes) s rest h e = site_of_found kind bytes s rest h.1 e
 
-pub site : Finds site_bytes FitsSite site_from
+pub site : Finds site_bytes SiteFits site_from
 site = record { found = site_found }
 
 -- a key in front of at most four others

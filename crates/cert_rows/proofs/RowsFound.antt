@@ -16,7 +16,7 @@ use Rattle.cert_rows.specs.declared.fault.RowFault.TheVariants.{Bad}
 use Rattle.cert_rows.specs.Fitting.{IsSmall, RowFits}
 use Rattle.cert_rows.specs.Laws.{AreBytes, Begins, RowsAreFound}
 use Rattle.cert_rows.specs.Reading.{From, u4_from}
-use Rattle.cert_rows.specs.Rows.{one, two, three, row_of, kind_at, kind_from, row_from}
+use Rattle.cert_rows.specs.Rows.{one, two, three, no_row, row_of, kind_at, kind_from, row_from}
 use Rattle.cert_rows.specs.Spelling.{u4_bytes, node_bytes, activation_bytes, site_bytes, path_bytes, use_bytes, field_bytes, row_bytes}
 use Rattle.cert_rows.proofs.PartsFound.{Finds, byte, u4, node, activation}
 use Rattle.cert_rows.proofs.PathsFound.{site, labelled, keyed, exit, cause, use_of}
@@ -83,6 +83,9 @@ three_found {sa = sa} {ra = ra} {sb = sb} {rb = rb} {rc = rc} fa fb fc k make wh
     let is = ha.is ∙ ap (λ (bs : List ℕ). sa a.0.0 ++ bs) (hb.is ∙ ap (λ (bs : List ℕ). sb b.0.0 ++ bs) hc.is) in
     moved k bytes (make a.0.0 b.0.0 c.0.0) r c.0.1 rest s.0 s.1 (subst (λ (bs : List ℕ). RowFound k bs (make a.0.0 b.0.0 c.0.0) c.0.1) (sym is) made)
 
+none_found : (r : Row) (rest : List ℕ) → run no_row ≡ Ok (r, rest) → ⊥
+none_found r rest e = absurd cc
+
 row_of_found : (k : Kind) (bytes : List ℕ) (r : Row) (rest : List ℕ) → AreBytes bytes → run (row_of k bytes) ≡ Ok (r, rest) → RowFound k bytes r rest
 unfolding row_of field_bytes
 row_of_found kind.Reached bytes r rest h e =
@@ -145,6 +148,11 @@ row_of_found kind.Unknown bytes r rest h e =
 row_of_found kind.Uses bytes r rest h e =
     two_found node use_of kind.Uses row.Uses
     (λ n u rest hn hu left. record { kind_is = refl; is = two_behind (node_bytes n) (use_bytes u) _ rest (append-nil (use_bytes u)); fits = (hn, (hu, tt)); left = left }) bytes r rest h e
+row_of_found kind.Label bytes r rest h e = absurd (none_found r rest e)
+row_of_found kind.StaticLabel bytes r rest h e = absurd (none_found r rest e)
+row_of_found kind.CellLabel bytes r rest h e = absurd (none_found r rest e)
+row_of_found kind.Holds bytes r rest h e = absurd (none_found r rest e)
+row_of_found kind.ExitLabel bytes r rest h e = absurd (none_found r rest e)
 
 numbered : (i : ℕ) → i < 20 → number_of (kind_at (i + 1)) ≡ i + 1
 unfolding kind_at

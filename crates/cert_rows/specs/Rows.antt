@@ -9,6 +9,7 @@ use Rattle.fact_rows.specs.declared.kind.Kind.{Kind}
 use Rattle.fact_rows.specs.declared.kind.Kind.TheVariants as kind
 use Rattle.fact_rows.specs.declared.row.Row.{Row}
 use Rattle.fact_rows.specs.declared.row.Row.TheVariants as row
+use Rattle.fact_rows.specs.declared.site.Site.TheVariants.{Component}
 use Rattle.cert_rows.specs.declared.fault.RowFault.TheVariants.{Bad}
 use Rattle.cert_rows.specs.declared.kinds.TheConstants.{KINDS}
 use Rattle.cert_rows.specs.Parts.{key, site_from, path_from}
@@ -68,7 +69,10 @@ three a b c make bytes = do
   z ← c y.1
   Value (make x.0 y.0 z.0, z.1)
 
--- the fields of a row of the kind
+abbrev pub no_row : From Row
+no_row = Test false Bad (Value (row.Handed (Component 0), []))
+
+-- the fields of a row of the kind; rows of the last five kinds are in no certificate
 unfoldable pub row_of : Kind → List ℕ → From Row
 row_of kind.Reached bytes = one node_from row.Reached bytes
 row_of kind.Points bytes = three node_from u4_from site_from row.Points bytes
@@ -90,6 +94,7 @@ row_of kind.HandedTaint bytes = two site_from labelled_from (λ s t. row.HandedT
 row_of kind.Arrive bytes = three byte_from byte_from node_from row.Arrive bytes
 row_of kind.Unknown bytes = two node_from cause_from row.Unknown bytes
 row_of kind.Uses bytes = two node_from use_from row.Uses bytes
+row_of _ bytes = no_row
 
 -- the kind of the number, which is from 1 to 20
 unfoldable pub kind_at : ℕ → Kind

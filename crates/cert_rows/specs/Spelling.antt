@@ -1,12 +1,12 @@
--- The bytes of a row: a byte for its kind, and then its fields. Numbers have four bytes, the low one first; kinds, categories and
--- states have one.
+-- The bytes of a row, one that no certificate has among them: a byte for its kind, and then its fields. Numbers have four bytes,
+-- the low one first; kinds, categories and states have one.
 use Rattle.std.specs.Prelude.{ℕ, ◌/◌, ◌%◌, List, [], ◌∷◌, ◌++◌, map}
 use Rattle.std.specs.List.{flat_map}
 use Rattle.fact_rows.specs.declared.context.Ctx.{Ctx}
 use Rattle.fact_rows.specs.declared.context.Activation.{Activation}
 use Rattle.fact_rows.specs.declared.context.Node.{Node}
 use Rattle.fact_rows.specs.declared.site.Site.{Site}
-use Rattle.fact_rows.specs.declared.site.Site.TheVariants.{At, Param, Component, Shared}
+use Rattle.fact_rows.specs.declared.site.Site.TheVariants.{At, Param, Component, Shared, Made}
 use Rattle.vet_base.specs.declared.key_id.KeyId.{KeyId}
 use Rattle.access_path.specs.declared.path.Path.{Path}
 use Rattle.access_path.specs.Order.{numbers_of_path}
@@ -40,6 +40,7 @@ site_bytes (At n) = 0 ∷ node_bytes n
 site_bytes (Param c i) = 1 ∷ (ctx_bytes c ++ u4_bytes i)
 site_bytes (Component c) = 2 ∷ u4_bytes c
 site_bytes (Shared g) = 3 ∷ u4_bytes g
+site_bytes (Made m pc) = tagged (4 ∷ m ∷ pc ∷ [])
 
 abbrev pub keys_bytes : List KeyId → List ℕ
 keys_bytes keys = flat_map u4_bytes (map (λ (k : KeyId). k.0) keys)
@@ -64,6 +65,7 @@ field_bytes (field.Component c) = u4_bytes c
 field_bytes (field.State c state) = state ∷ []
 field_bytes (field.Cause cause) = cause ∷ []
 field_bytes (field.Use u) = use_bytes u
+field_bytes (field.Label l) = l ∷ []
 
 -- the number of the kind, and then the fields
 unfoldable pub row_bytes : Row → List ℕ

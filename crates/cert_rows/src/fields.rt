@@ -1,7 +1,7 @@
 //! The fields of rows.
 ghost use Rattle.std.specs.Prelude.{◌≡◌, ◌++◌, OnOk};
 ghost use Rattle.fact_rows.specs.Order.{numbers_of_use};
-ghost use Rattle.cert_rows.specs.Fitting.{AreSmall, FieldIsKnown, FieldFits};
+ghost use Rattle.cert_rows.specs.Fitting.{AreSmall, FieldIsSmall};
 ghost use Rattle.cert_rows.specs.Reading.{Reads};
 ghost use Rattle.cert_rows.specs.Rows.{key_from, exit_from, cause_from, use_of_kind, use_from, labelled_from};
 ghost use Rattle.cert_rows.specs.Spelling.{use_bytes, field_bytes};
@@ -101,9 +101,8 @@ fn put_use(out: &mut Vec<u8>, summary: SummaryId) -> Result<(), Memory>
 
 #[tactic(auto, unfolding(crate::specs::Spelling::field_bytes))]
 pub fn put_field(out: &mut Vec<u8>, field: Field) -> Result<(), Memory>
-    requires { FieldIsKnown field }
     ensures bytes { OnOk result (out.new.items ≡ out.old.items ++ field_bytes field) }
-    ensures fits { OnOk result (FieldFits field) }
+    ensures small { OnOk result (FieldIsSmall field) }
 {
     match field {
         Field::Node(node) => put_node(out, node),
@@ -115,7 +114,11 @@ pub fn put_field(out: &mut Vec<u8>, field: Field) -> Result<(), Memory>
             put_u4(out, number)
         }
         Field::Key(key) => put_u4(out, key.0),
-        Field::Category(byte) | Field::Exit(byte) | Field::State(_, byte) | Field::Cause(byte) => {
+        Field::Category(byte)
+        | Field::Exit(byte)
+        | Field::State(_, byte)
+        | Field::Cause(byte)
+        | Field::Label(byte) => {
             out.push(byte)?;
             Ok(())
         }

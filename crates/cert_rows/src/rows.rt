@@ -1,7 +1,7 @@
 //! Rows: their kind, and then their fields.
 ghost use Rattle.std.specs.Prelude.{◌≡◌, ◌++◌, OnOk};
 ghost use Rattle.std.specs.List.{flat_map, AllByRecursion};
-ghost use Rattle.cert_rows.specs.Fitting.{FieldIsKnown, FieldFits, IsKnown, RowFits};
+ghost use Rattle.cert_rows.specs.Fitting.{FieldIsSmall, RowIsSmall};
 ghost use Rattle.cert_rows.specs.Reading.{Reads};
 ghost use Rattle.cert_rows.specs.Rows.{row_of, row_from};
 ghost use Rattle.cert_rows.specs.Spelling.{field_bytes, row_bytes};
@@ -47,6 +47,11 @@ fn row_of(kind: Kind, bytes: &[u8]) -> Result<(Row, &[u8]), RowFault>
         Kind::Arrive => arrive_from(bytes),
         Kind::Unknown => unknown_from(bytes),
         Kind::Uses => uses_from(bytes),
+        Kind::Label => Err(RowFault::Bad),
+        Kind::StaticLabel => Err(RowFault::Bad),
+        Kind::CellLabel => Err(RowFault::Bad),
+        Kind::Holds => Err(RowFault::Bad),
+        Kind::ExitLabel => Err(RowFault::Bad),
     }
 }
 
@@ -60,9 +65,8 @@ pub fn row_from(bytes: &[u8]) -> Result<(Row, &[u8]), RowFault>
 }
 
 fn put_fields(out: &mut Vec<u8>, fields: &[Field]) -> Result<(), Memory>
-    requires { AllByRecursion FieldIsKnown fields.now }
     ensures bytes { OnOk result (out.new.items ≡ out.old.items ++ flat_map field_bytes fields.now) }
-    ensures fits { OnOk result (AllByRecursion FieldFits fields.now) }
+    ensures small { OnOk result (AllByRecursion FieldIsSmall fields.now) }
 {
     match fields {
         [] => Ok(()),
@@ -73,12 +77,12 @@ fn put_fields(out: &mut Vec<u8>, fields: &[Field]) -> Result<(), Memory>
     }
 }
 
-/// The row behind what was written before. After want of memory some of it may have been.
+/// The row, also one that no certificate has, behind what was written before. After want of memory some
+/// of it may have been.
 #[tactic(auto, unfolding(crate::specs::Spelling::row_bytes))]
 pub fn put_row(out: &mut Vec<u8>, row: &Row) -> Result<(), Memory>
-    requires { IsKnown row.now }
     ensures bytes { OnOk result (out.new.items ≡ out.old.items ++ row_bytes row.now) }
-    ensures fits { OnOk result (RowFits row.now) }
+    ensures small { OnOk result (RowIsSmall row.now) }
 {
     let parts = row.parts();
     out.push(parts.kind.number())?;

@@ -75,5 +75,10 @@ pub fn put_site(out: &mut Vec<u8>, site: Site) -> Result<(), Memory>
             out.push(3)?;
             put_u4(out, shared)
         }
+        Site::Made(method, pc) => {
+            out.push(4)?;
+            put_u4(out, method)?;
+            put_u4(out, pc)
+        }
     }
 }

@@ -18,7 +18,7 @@ use Rattle.fact_rows.specs.declared.context.Ctx.TheVariants as ctx
 use Rattle.fact_rows.specs.declared.context.Activation.{Activation}
 use Rattle.fact_rows.specs.declared.context.Node.{Node}
 use Rattle.fact_rows.specs.declared.site.Site.{Site}
-use Rattle.fact_rows.specs.declared.site.Site.TheVariants.{At, Param, Component, Shared}
+use Rattle.fact_rows.specs.declared.site.Site.TheVariants.{At, Param, Component, Shared, Made}
 use Rattle.fact_rows.specs.declared.field.Field.TheVariants as field
 use Rattle.fact_rows.specs.contracts.context.CtxOrd.TheImpl.{ghosts as ctx_order}
 use Rattle.fact_rows.specs.contracts.context.ActivationOrd.TheImpl.{ghosts as activation_order}
@@ -67,6 +67,7 @@ exact_site (Param a b) (Param c d) e =
     (exact_pairs ctx_order.cmp nat_cmp exact_ctx exact_unsigned (a, b) (c, d) e)
 exact_site (Component a) (Component b) e = ap Component (exact_unsigned a b e)
 exact_site (Shared a) (Shared b) e = ap Shared (exact_unsigned a b e)
+exact_site (Made a b) (Made c d) e = ap (λ (p : ℕ × ℕ). Made p.0 p.1) (exact_two (a, b) (c, d) e)
 exact_site _ _ e = absurd (not_equal _ refl e)
 
 exact_use : CmpEqualImpliesEq use_order.cmp
@@ -116,6 +117,7 @@ stated_site = record { is = go }
     go (Param a b) (Param c d) xs ys = (compares_pair stated_ctx one).is (a, b) (c, d) xs ys
     go (Component a) (Component b) xs ys = refl
     go (Shared a) (Shared b) xs ys = refl
+    go (Made a b) (Made c d) xs ys = two.is (a, b) (c, d) xs ys
     go _ _ xs ys = refl
 
 stated_use : ComparesAs nat_cmp use_order.cmp numbers_of_use
@@ -161,6 +163,9 @@ component = record { exact = exact_unsigned; alike = λ a b. refl; stated = one 
 pub cause : ToldBy nat_cmp field.Cause
 cause = record { exact = exact_unsigned; alike = λ a b. refl; stated = one }
 
+pub own_label : ToldBy nat_cmp field.Label
+own_label = record { exact = exact_unsigned; alike = λ a b. refl; stated = one }
+
 pub register : ToldBeside node_order.cmp nat_cmp field.Register
 register = record { exact = exact_unsigned; alike = λ a c b d. refl; own = number; written = λ a b. refl; stated = one }
 
@@ -183,4 +188,5 @@ exact_field (field.Component a) (field.Component b) e = ap field.Component (exac
 exact_field (field.State a b) (field.State c d) e = ap (λ (p : ℕ × ℕ). field.State p.0 p.1) (exact_two (a, b) (c, d) e)
 exact_field (field.Cause a) (field.Cause b) e = ap field.Cause (exact_unsigned a b e)
 exact_field (field.Use a) (field.Use b) e = ap field.Use (exact_use a b e)
+exact_field (field.Label a) (field.Label b) e = ap field.Label (exact_unsigned a b e)
 exact_field _ _ e = absurd (not_equal _ refl e)

@@ -26,7 +26,7 @@ use Rattle.fact_rows.specs.declared.context.Ctx.TheVariants as ctx
 use Rattle.fact_rows.specs.declared.context.Activation.{Activation}
 use Rattle.fact_rows.specs.declared.context.Node.{Node}
 use Rattle.fact_rows.specs.declared.site.Site.{Site}
-use Rattle.fact_rows.specs.declared.site.Site.TheVariants.{At, Param, Component as ComponentOf, Shared}
+use Rattle.fact_rows.specs.declared.site.Site.TheVariants.{At, Param, Component as ComponentOf, Shared, Made}
 use Rattle.fact_rows.specs.declared.row.Row.{Row}
 use Rattle.fact_rows.specs.declared.field.Field.{Field}
 use Rattle.fact_rows.specs.declared.field.Field.TheVariants as field
@@ -85,11 +85,13 @@ pub record ParameterIn (app : App) (lists : Lists) (ctx : Ctx) (i : ℕ) : Type 
   pub is_type : parameter_type (event_types app lists ctx) i ≡ Some type
   pub reference : IsTrue (is_reference type)
 
+-- no object is made in whatever context
 abbrev pub SiteIn : App → Lists → Site → Type 0
 SiteIn app lists (At n) = NodeIn app lists n × MakesAt app n.by.method n.pc
 SiteIn app lists (Param ctx i) = ParameterIn app lists ctx i
 SiteIn app lists (ComponentOf c) = c < length app.components
 SiteIn app lists (Shared i) = i < length lists.shared
+SiteIn app lists (Made m pc) = ⊥
 
 abbrev pub KeyIn : App → KeyId → Type 0
 KeyIn app k = k.0 < length app.keys
@@ -121,6 +123,7 @@ ExitIn how = how < 2
 abbrev pub CauseIn : ℕ → Type 0
 CauseIn cause = (0 < cause) × (cause < 4)
 
+-- no label is a value's own, beside no path
 abbrev pub FieldIn : App → Lists → Field → Type 0
 FieldIn app lists (field.Node n) = NodeIn app lists n
 FieldIn app lists (field.Register n r) = RegisterIn app n r
@@ -135,6 +138,7 @@ FieldIn app lists (field.Component c) = c < length app.components
 FieldIn app lists (field.State c state) = StateIn app c state
 FieldIn app lists (field.Cause cause) = CauseIn cause
 FieldIn app lists (field.Use u) = SummaryIn lists u
+FieldIn app lists (field.Label l) = ⊥
 
 -- each of the fields
 abbrev pub FieldsIn : App → Lists → List Field → Type 0

@@ -3,7 +3,7 @@ use Rattle.std.specs.Prelude.{[], ◌∷◌}
 use Rattle.std.specs.Ordering.{ordering_then}
 use Rattle.std.specs.declared.cmp.Ordering.{Ordering}
 use Rattle.fact_rows.specs.declared.row.Row.{Row}
-use Rattle.fact_rows.specs.declared.row.Row.TheVariants.{Reached, Points, Taint, Cell, Back, StaticPoints, StaticTaint, Calls, CalledBy, Effect, MethodEffect, ExitPoints, ExitTaint, Live, CompTaint, Handed, HandedTaint, Arrive, Unknown, Uses}
+use Rattle.fact_rows.specs.declared.row.Row.TheVariants.{Reached, Points, Taint, Cell, Back, StaticPoints, StaticTaint, Calls, CalledBy, Effect, MethodEffect, ExitPoints, ExitTaint, Live, CompTaint, Handed, HandedTaint, Arrive, Unknown, Uses, Label, StaticLabel, CellLabel, Holds, ExitLabel}
 use Rattle.fact_rows.specs.declared.field.Field.TheVariants as f
 use Rattle.fact_rows.specs.declared.kind.Kind.TheVariants as kind
 use Rattle.fact_rows.specs.declared.parts.Parts.{Parts}
@@ -32,6 +32,11 @@ parts_of (HandedTaint s p l) = record { kind = kind.HandedTaint; fields = f.Site
 parts_of (Arrive l sink n) = record { kind = kind.Arrive; fields = f.Category l ∷ f.Category sink ∷ f.Node n ∷ [] }
 parts_of (Unknown n cause) = record { kind = kind.Unknown; fields = f.Node n ∷ f.Cause cause ∷ [] }
 parts_of (Uses n u) = record { kind = kind.Uses; fields = f.Node n ∷ f.Use u ∷ [] }
+parts_of (Label n r l) = record { kind = kind.Label; fields = f.Node n ∷ f.Register n r ∷ f.Label l ∷ [] }
+parts_of (StaticLabel g l) = record { kind = kind.StaticLabel; fields = f.Static g ∷ f.Label l ∷ [] }
+parts_of (CellLabel s k l) = record { kind = kind.CellLabel; fields = f.Site s ∷ f.Key k ∷ f.Label l ∷ [] }
+parts_of (Holds s l) = record { kind = kind.Holds; fields = f.Site s ∷ f.Label l ∷ [] }
+parts_of (ExitLabel a how l) = record { kind = kind.ExitLabel; fields = f.Activation a ∷ f.Exit how ∷ f.Label l ∷ [] }
 
 -- how the row stands to the rows of the kind that begin with these fields
 abbrev pub side_of : Parts → Row → Ordering

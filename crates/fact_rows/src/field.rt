@@ -24,4 +24,6 @@ pub enum Field {
     /// Why what comes next may not be modelled.
     Cause(u8),
     Use(SummaryId),
+    /// Which a value has itself, beside no path.
+    Label(u8),
 }

@@ -1,7 +1,7 @@
 ghost use Rattle.std.specs.Prelude.{◌≡◌};
 ghost use Rattle.fact_rows.specs.Kinds.{number_of};
 
-/// The kind of a row. The number is that of its byte in a certificate.
+/// The kind of a row. The number is that of its byte where it is written.
 #[derive(Clone, Copy, PartialEq, Eq, PartialOrd, Ord)]
 pub enum Kind {
     Reached = 1,
@@ -24,10 +24,15 @@ pub enum Kind {
     Arrive,
     Unknown,
     Uses,
+    Label,
+    StaticLabel,
+    CellLabel,
+    Holds,
+    ExitLabel,
 }
 
 impl Kind {
-    /// From 1 to 20.
+    /// From 1 to 25.
     pub fn number(self) -> u8
         ensures { result ≡ number_of self }
     {

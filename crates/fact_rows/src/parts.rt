@@ -3,8 +3,8 @@ ghost use Rattle.fact_rows.specs.Parts.{parts_of, side_of};
 ghost use Rattle.fact_rows.specs.RangeLaws.{parts_rise};
 
 use crate::Field::{
-    Activation, Category, Cause, Component, Exit, Key, Node, Path, Register, Site, State, Static,
-    Use,
+    Activation, Category, Cause, Component, Exit, Key, Label, Node, Path, Register, Site, State,
+    Static, Use,
 };
 use crate::fields::Fields;
 use crate::{Field, Kind, Row};
@@ -133,6 +133,16 @@ impl Row {
             ),
             Row::Unknown(n, cause) => Parts::two(Kind::Unknown, Node(n), Cause(cause)),
             Row::Uses(n, summary) => Parts::two(Kind::Uses, Node(n), Use(summary)),
+            Row::Label(n, r, l) => Parts::three(Kind::Label, Node(n), Register(n, r), Label(l)),
+            Row::StaticLabel(g, l) => Parts::two(Kind::StaticLabel, Static(g), Label(l)),
+            Row::CellLabel(s, k, l) => Parts::three(Kind::CellLabel, Site(s), Key(k), Label(l)),
+            Row::Holds(s, l) => Parts::two(Kind::Holds, Site(s), Label(l)),
+            Row::ExitLabel(a, how, l) => Parts::three(
+                Kind::ExitLabel,
+                Activation(a),
+                Exit(how),
+                Label(l),
+            ),
         }
     }
 }

@@ -56,6 +56,17 @@ pub enum Row {
     Unknown(Node, u8),
     /// At the node the summary may be used.
     Uses(Node, SummaryId),
+    /// At the node the register's value may have the label itself. This kind and the next four say labels
+    /// of values and not of paths; no rule concludes them, and no certificate has them.
+    Label(Node, u32, u8),
+    /// The static's value may have the label itself.
+    StaticLabel(u32, u8),
+    /// An object of the site may hold a value with the label under the key.
+    CellLabel(Site, KeyId, u8),
+    /// From an object of the site a value with the label may be reached.
+    Holds(Site, u8),
+    /// What the activation returns (0) or throws (1) may have the label itself.
+    ExitLabel(Activation, u8, u8),
 }
 
 impl Exact for Row {

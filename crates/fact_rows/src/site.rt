@@ -10,4 +10,6 @@ pub enum Site {
     Component(u32),
     /// A shared object of the lists.
     Shared(u32),
+    /// By an allocation in a method, at a pc, in whatever context.
+    Made(u32, u32),
 }

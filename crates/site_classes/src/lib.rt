@@ -4,7 +4,7 @@
 ghost use Rattle.std.specs.Prelude.{◌≡◌};
 ghost use Rattle.std.specs.Option.{option_copied};
 ghost use Rattle.app_machine.specs.Sound.{SoundApp};
-ghost use Rattle.flow_rules.specs.Sites.{class_made, reference_type, site_class};
+ghost use Rattle.flow_rules.specs.Sites.{class_made, class_made_at, reference_type, site_class};
 
 mod types;
 
@@ -23,10 +23,7 @@ pub fn site_class<'a>(app: &'a App, lists: &'a Lists, site: Site) -> Option<&'a 
     ensures { option_copied result ≡ site_class app.now lists.now site }
 {
     match site {
-        Site::At(node) => match step_at(app, node.by.method, node.pc) {
-            Some(step) => class_made(&step.act),
-            None => None,
-        },
+        Site::At(node) => class_made_at(app, node.by.method, node.pc),
         Site::Param(ctx, position) => {
             reference_type(parameter_type(event_types(app, lists, ctx), position))
         }
@@ -38,6 +35,18 @@ pub fn site_class<'a>(app: &'a App, lists: &'a Lists, site: Site) -> Option<&'a 
             Some(shared) => Some(&shared.1),
             None => None,
         },
+        Site::Made(method, pc) => class_made_at(app, method, pc),
+    }
+}
+
+/// The class of what the step makes.
+fn class_made_at(app: &App, method: u32, pc: u32) -> Option<&Name>
+    requires { SoundApp app.now }
+    ensures { option_copied result ≡ class_made_at app.now method pc }
+{
+    match step_at(app, method, pc) {
+        Some(step) => class_made(&step.act),
+        None => None,
     }
 }
 

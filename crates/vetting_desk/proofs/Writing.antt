@@ -7,14 +7,22 @@ use Rattle.app_machine.specs.declared.lists.Lists.{Lists}
 use Rattle.fact_rows.specs.declared.field.Field.{Field}
 use Rattle.fact_rows.specs.declared.field.Field.TheVariants as field
 use Rattle.fact_rows.specs.declared.row.Row.{Row}
-use Rattle.fact_rows.specs.InApp.{FieldIn, FieldsIn}
+use Rattle.fact_rows.specs.declared.site.Site.{Site}
+use Rattle.fact_rows.specs.declared.site.Site.TheVariants.{Made}
+use Rattle.fact_rows.specs.InApp.{SiteIn, FieldIn, FieldsIn}
 use Rattle.fact_rows.specs.Parts.{parts_of}
-use Rattle.cert_rows.specs.Fitting.{FieldIsKnown, IsKnown}
+use Rattle.cert_rows.specs.Fitting.{SiteIsKnown, FieldIsKnown, IsKnown}
 use Rattle.verdict.specs.Table.{IsTable}
+
+site_is_known : (app : App) (lists : Lists) (s : Site) → SiteIn app lists s → SiteIsKnown s
+site_is_known app lists (Made m pc) is = is
+site_is_known app lists _ is = tt
 
 field_is_known : (app : App) (lists : Lists) (f : Field) → FieldIn app lists f → FieldIsKnown f
 field_is_known app lists (field.Exit how) is = is
 field_is_known app lists (field.Cause cause) is = is
+field_is_known app lists (field.Site s) is = site_is_known app lists s is
+field_is_known app lists (field.Label l) is = is
 field_is_known app lists _ is = tt
 
 fields_are_known : (app : App) (lists : Lists) (fields : List Field) → FieldsIn app lists fields → AllByRecursion FieldIsKnown fields
