@@ -1,0 +1,5 @@
+pub mod Certs
+pub mod Faults
+pub mod Fronts
+pub mod RowReaders
+pub mod Steady
