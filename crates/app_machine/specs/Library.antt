@@ -1,10 +1,10 @@
 -- A library call, by what the lists say of it. Every value is read from the state before the call.
-use Rattle.std.specs.Prelude.{◌≡◌, ◌⊎◌, ◌↔◌, ℕ, false, IsTrue, IsFalse, if◌then◌else◌, List, [], ◌∷◌, ◌++◌, length, drop, map, Option, Some, None, slice_get}
+use Rattle.std.specs.Prelude.{◌≡◌, ◌≢◌, ◌⊎◌, ◌↔◌, ℕ, false, IsTrue, IsFalse, if◌then◌else◌, List, [], ◌∷◌, ◌++◌, length, drop, map, Option, Some, None, slice_get}
 use Rattle.vet_base.specs.declared.key_id.KeyId.{KeyId}
 use Rattle.app_machine.specs.declared.call.MethodRef.{MethodRef}
 use Rattle.app_machine.specs.declared.call.CallKind.{CallKind}
 use Rattle.app_machine.specs.declared.summary.Gives.{Gives}
-use Rattle.app_machine.specs.declared.summary.Gives.TheVariants.{Blank, Same, Taken, Joined, Shared}
+use Rattle.app_machine.specs.declared.summary.Gives.TheVariants.{Blank, Same, Taken, Joined, Shared, Handed}
 use Rattle.app_machine.specs.declared.summary.Summary.{Summary}
 use Rattle.app_machine.specs.declared.lists.SummaryId.{SummaryId}
 use Rattle.app_machine.specs.declared.lists.Lists.{Lists}
@@ -12,8 +12,8 @@ use Rattle.app_machine.specs.declared.app.App.{App}
 use Rattle.vet_base.specs.Members.{In}
 use Rattle.app_machine.specs.Names.{Name, is_wide, is_reference, is_void}
 use Rattle.app_machine.specs.Lookups.{elem_key, is_static_call, Library}
-use Rattle.app_machine.specs.Summaries.{library_key, summary}
-use Rattle.app_machine.specs.Heap.{Value, Object, blank, labelled, EntryAt, Reaches, add_all, Gets}
+use Rattle.app_machine.specs.Summaries.{library_key, summary, Below}
+use Rattle.app_machine.specs.Heap.{Value, Object, blank, labelled, EntryAt, ClassAt, Reaches, add_all, Gets}
 use Rattle.app_machine.specs.State.{write, shared_static, Arrival, World, Frame, object_at, new_object}
 use Rattle.app_machine.specs.Calls.{Calls_to}
 
@@ -59,6 +59,7 @@ result_shared Blank = []
 result_shared (Same i) = []
 result_shared (Taken i) = []
 result_shared (Joined from) = []
+result_shared Handed = []
 
 abbrev pub shared_named : Summary → Name → List ℕ
 shared_named row ret = map (λ (s : ℕ × ℕ). s.1) row.stores ++ (if is_void ret then [] else result_shared row.gives)
@@ -87,17 +88,26 @@ AreJoined heap f places from source labels = (l : ℕ) → In l labels ↔ Joins
 abbrev pub joined_object : Name → List ℕ → Object
 joined_object class labels = record { class = class; entries = (elem_key, labelled labels) ∷ [] }
 
--- The result, of the type ret, from the heap and frame before and the statics and heap with the shared objects; and the heap
--- with the result. A void method has a blank one.
-pub data Results (app : App) (before : List Object) (f : Frame) (places : List ℕ) (source : Option ℕ) (ret : Name) (statics : ℕ → Value) (heap : List Object) : Gives → List Object → Value → Type 0 where
-  of_void : {gives : Gives} → IsTrue (is_void ret) → Results app before f places source ret statics heap gives heap blank
-  as_blank : IsFalse (is_void ret) → Results app before f places source ret statics heap Blank heap blank
-  as_same : {i : ℕ} → IsFalse (is_void ret) → Results app before f places source ret statics heap (Same i) heap (value_at f places i)
-  as_taken : {i : ℕ} {v : Value} → IsFalse (is_void ret) → Gets before (value_at f places i) elem_key v → Results app before f places source ret statics heap (Taken i) heap v
-  as_shared : {i : ℕ} → IsFalse (is_void ret) → Results app before f places source ret statics heap (Shared i) heap (statics (shared_static app i))
-  as_labels : {from labels : List ℕ} → IsFalse (is_void ret) → IsFalse (is_reference ret) → AreJoined before f places from source labels → Results app before f places source ret statics heap (Joined from) heap (labelled labels)
-  as_object : {from labels : List ℕ} → IsFalse (is_void ret) → IsTrue (is_reference ret) → AreJoined before f places from source labels →
-      Results app before f places source ret statics heap (Joined from) (heap ++ joined_object ret labels ∷ []) (record { place = Some (length heap); labels = labels })
+-- The library has the object at the place: it was handed it, or it is a component that is there.
+pub data Has_object (w : World) (handed : List ℕ) : ℕ → Type 0 where
+  was_handed : {p : ℕ} → In p handed → Has_object w handed p
+  is_live : (c : ℕ) {p : ℕ} → (w.components c).state ≢ 0 → (w.components c).place ≡ Some p → Has_object w handed p
+
+-- The result, of the type ret, from the world and frame before, the places that are handed with those of this call, and the
+-- statics and heap with the shared objects; and the heap with the result. A void method has a blank one.
+pub data Results (app : App) (lists : Lists) (w : World) (handed : List ℕ) (f : Frame) (places : List ℕ) (source : Option ℕ) (ret : Name) (statics : ℕ → Value) (heap : List Object) : Gives → List Object → Value → Type 0 where
+  of_void : {gives : Gives} → IsTrue (is_void ret) → Results app lists w handed f places source ret statics heap gives heap blank
+  as_blank : IsFalse (is_void ret) → Results app lists w handed f places source ret statics heap Blank heap blank
+  as_same : {i : ℕ} → IsFalse (is_void ret) → Results app lists w handed f places source ret statics heap (Same i) heap (value_at f places i)
+  as_taken : {i : ℕ} {v : Value} → IsFalse (is_void ret) → Gets w.heap (value_at f places i) elem_key v → Results app lists w handed f places source ret statics heap (Taken i) heap v
+  as_shared : {i : ℕ} → IsFalse (is_void ret) → Results app lists w handed f places source ret statics heap (Shared i) heap (statics (shared_static app i))
+  as_labels : {from labels : List ℕ} → IsFalse (is_void ret) → IsFalse (is_reference ret) → AreJoined w.heap f places from source labels → Results app lists w handed f places source ret statics heap (Joined from) heap (labelled labels)
+  as_object : {from labels : List ℕ} → IsFalse (is_void ret) → IsTrue (is_reference ret) → AreJoined w.heap f places from source labels →
+      Results app lists w handed f places source ret statics heap (Joined from) (heap ++ joined_object ret labels ∷ []) (record { place = Some (length heap); labels = labels })
+  -- an object that the library has, whose class is below the type, or a blank
+  as_nothing : IsFalse (is_void ret) → Results app lists w handed f places source ret statics heap Handed heap blank
+  as_given_back : {p : ℕ} {class : Name} → IsTrue (is_reference ret) → Has_object w handed p → ClassAt w.heap p class → Below app lists class ret →
+      Results app lists w handed f places source ret statics heap Handed heap (object_at (Some p))
 
 -- the value becomes an element of the object at the place, by a put, a store or a copy of the row
 pub data Adds (app : App) (before : List Object) (f : Frame) (places : List ℕ) (statics : ℕ → Value) (row : Summary) : ℕ × Value → Type 0 where
@@ -113,7 +123,7 @@ pub record Library_call (app : App) (lists : Lists) (w : World) (f : Frame) (pla
   pub handed : (p : ℕ) → In p new.handed ↔ (In p w.handed ⊎ Hands f places p)
   pub arrivals : (a : Arrival) → In a new.arrivals ↔ (In a w.arrivals ⊎ AtSink w.heap f places row a)
   pub shared : Makes_shared app lists (shared_named row ret) w.heap w.statics with_shared new.statics
-  pub results : Results app w.heap f places row.source ret new.statics with_shared row.gives with_result result
+  pub results : Results app lists w new.handed f places row.source ret new.statics with_shared row.gives with_result result
   pub adds : (a : ℕ × Value) → In a added ↔ Adds app w.heap f places new.statics row a
   pub heap : new.heap ≡ add_all with_result added
   pub components : new.components ≡ w.components

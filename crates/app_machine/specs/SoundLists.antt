@@ -22,6 +22,7 @@ SoundGives count shared (gives.Same position) = position < count
 SoundGives count shared (gives.Taken position) = position < count
 SoundGives count shared (gives.Joined positions) = All (λ position. position < count) positions
 SoundGives count shared (gives.Shared number) = number < shared
+SoundGives count shared gives.Handed = Unit {0}
 
 abbrev pub TwoPositions : ℕ → ℕ × ℕ → Type 0
 TwoPositions count pair = (pair.0 < count) × (pair.1 < count)

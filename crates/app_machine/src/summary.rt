@@ -14,6 +14,8 @@ pub enum Gives {
     Joined(Seq<u32>),
     /// The shared object of that number.
     Shared(u32),
+    /// An object that the library was handed, or a component that is there.
+    Handed,
 }
 
 /// What the lists say of a library method. Categories and shared objects stand by their number.

@@ -27,7 +27,8 @@ use Rattle.flow_rules.specs.EffectRules.{EffectRule, lift_effect, effect_next, e
 use Rattle.flow_rules.specs.CallRules.{CallRule, initialiser_taint}
 use Rattle.flow_rules.specs.LibraryRules.{LibraryRule}
 use Rattle.flow_rules.specs.EventRules.{EventRule}
-use Rattle.flow_rules.specs.Rules.{by_local, by_effect, by_call, by_library, by_event, Each, Closed}
+use Rattle.flow_rules.specs.HandedRules.{HandedRule}
+use Rattle.flow_rules.specs.Rules.{by_local, by_effect, by_call, by_library, by_event, by_handed, Each, Closed}
 use Rattle.flow_proof.proofs.Fitting.{HeapFits, Changed, Touched, fits_map, fits_after, heap_changed, blank_fits}
 use Rattle.flow_proof.proofs.Growing.{with_site, fits_grown, heap_grown, NewFits}
 use Rattle.flow_proof.proofs.Knowing.{node_of, Pending, RegisterFits, PendingFits, SharedOnly, written, written_all, ComponentFits, WorldFits, Waits, none_waits, waits_call, waits_initialiser, Running, Runs, RunsPending, Known, running, waits_map}
@@ -48,6 +49,9 @@ module _ (app : App) (lists : Lists) (has : Row → Type 0) (closed : Closed app
 
   pub evt : {rule : ℕ} {ps : List Row} {row : Row} → EventRule app lists rule ps row → Each has ps → has row
   evt r h = closed _ _ _ (by_event r) h
+
+  pub hnd : {rule : ℕ} {ps : List Row} {row : Row} → HandedRule app lists rule ps row → Each has ps → has row
+  hnd r h = closed _ _ _ (by_handed r) h
 
   -- an effect is lifted to what leads to the object
   pub lift_at : (n : Node) (k : KeyId) (l : ℕ) (s t : Site) (q : Path) → has (Effect n t q l) → has (Cell s k t) → has (Effect n s (cut k q) l)

@@ -3,7 +3,7 @@ use Rattle.std.proofs.Common.{◌≡◌, ℕ, List, [], ◌∷◌, ◌++◌, Boo
 use Rattle.std.specs.Prelude.{slice_get, map}
 use Rattle.access_path.specs.declared.path.Path.{Path}
 use Rattle.app_machine.specs.declared.summary.Gives.{Gives}
-use Rattle.app_machine.specs.declared.summary.Gives.TheVariants.{Blank, Same, Taken, Joined, Shared as SharedResult}
+use Rattle.app_machine.specs.declared.summary.Gives.TheVariants.{Blank, Same, Taken, Joined, Shared as SharedResult, Handed}
 use Rattle.app_machine.specs.declared.lists.Lists.{Lists}
 use Rattle.app_machine.specs.declared.app.App.{App}
 use Rattle.vet_base.specs.Members.{In, IsAt}
@@ -67,6 +67,7 @@ shared_result Blank i h = absurd h
 shared_result (Same j) i h = absurd h
 shared_result (Taken j) i h = absurd h
 shared_result (Joined from) i h = absurd h
+shared_result Handed i h = absurd h
 shared_result (SharedResult j) i (inl same) = ap (λ k. SharedResult k) (sym same)
 shared_result (SharedResult j) i (inr h) = absurd h
 

@@ -10,7 +10,7 @@ use Rattle.app_machine.specs.declared.call.MethodRef.{MethodRef}
 use Rattle.app_machine.specs.declared.call.CallKind.{CallKind}
 use Rattle.app_machine.specs.declared.method.Act.TheVariants.{Call}
 use Rattle.app_machine.specs.declared.summary.Gives.{Gives}
-use Rattle.app_machine.specs.declared.summary.Gives.TheVariants.{Joined}
+use Rattle.app_machine.specs.declared.summary.Gives.TheVariants.{Joined, Handed}
 use Rattle.app_machine.specs.declared.summary.Summary.{Summary}
 use Rattle.app_machine.specs.declared.lists.Lists.{Lists}
 use Rattle.app_machine.specs.declared.lists.SummaryId.{SummaryId}
@@ -18,26 +18,28 @@ use Rattle.app_machine.specs.declared.app.App.{App}
 use Rattle.vet_base.specs.Members.{In, IsAt}
 use Rattle.app_machine.specs.Names.{Name, is_reference, is_void}
 use Rattle.app_machine.specs.Lookups.{Target, Library, elem_key, ActAt, Goes}
-use Rattle.app_machine.specs.Heap.{Value, Object, blank, labelled, EntryAt, Reaches, add_all, entry_of}
+use Rattle.app_machine.specs.Heap.{Value, Object, blank, labelled, EntryAt, ClassAt, Reaches, add_all, entry_of}
+use Rattle.app_machine.specs.Summaries.{Below}
 use Rattle.app_machine.specs.State.{result_register, shared_static, Arrival, World, Frame, object_at, new_object}
 use Rattle.app_machine.specs.Calls.{Calls_to, by_name, by_nothing, by_class}
-use Rattle.app_machine.specs.Library.{positions, value_at, AtSink, Hands, result_shared, shared_named, Makes_shared, all_there, is_there, is_made, Joins, joined_object, Results, of_void, as_blank, as_same, as_taken, as_shared, as_labels, as_object, Adds, by_put, by_store, by_copy, Library_call, Uses_row}
+use Rattle.app_machine.specs.Library.{positions, value_at, AtSink, Hands, result_shared, shared_named, Makes_shared, all_there, is_there, is_made, Joins, joined_object, Has_object, was_handed, is_live, Results, of_void, as_blank, as_same, as_taken, as_shared, as_labels, as_object, as_nothing, as_given_back, Adds, by_put, by_store, by_copy, Library_call, Uses_row}
 use Rattle.fact_rows.specs.declared.context.Ctx.{Ctx}
 use Rattle.fact_rows.specs.declared.site.Site.{Site}
-use Rattle.fact_rows.specs.declared.site.Site.TheVariants.{At, Shared}
+use Rattle.fact_rows.specs.declared.site.Site.TheVariants.{At, Component, Shared}
 use Rattle.fact_rows.specs.declared.row.Row.{Row}
-use Rattle.fact_rows.specs.declared.row.Row.TheVariants.{Points, Taint, Cell, StaticPoints, StaticTaint, Effect, Uses, Arrive}
+use Rattle.fact_rows.specs.declared.row.Row.TheVariants.{Points, Taint, Cell, StaticPoints, StaticTaint, Effect, CompTaint, Uses, Arrive}
 use Rattle.flow_rules.specs.Nodes.{at_pc}
 use Rattle.flow_rules.specs.Sites.{SiteClass}
 use Rattle.flow_rules.specs.EffectRules.{effect_next}
 use Rattle.flow_rules.specs.CallRules.{use_by_name, use_by_class, LooksUp, finds_row}
+use Rattle.flow_rules.specs.HandedRules.{MayGiveBack, handed_points, handed_taint, live_points, live_taint}
 use Rattle.flow_rules.specs.LibraryRules.{RowAt, places_of, hand_points, hand_taint, sink_arrives, same_points, same_taint, taken_points, taken_taint, joined_points, joined_taint, joined_element, source_taint, source_element, shared_static_points, shared_points, shared_taint, row_put_cell, row_put_effect, store_static, store_cell, store_effect, copy_cell, copy_effect}
 use Rattle.flow_rules.specs.Rules.{Closed}
 use Rattle.flow_proof.proofs.HeapLaws.{EntryAt-add_all, ClassAt-add_all, length-add_all}
 use Rattle.flow_proof.proofs.Fitting.{Fits, Covered, Changed, PutFits, Touched, fits_map, fits_after, blank_fits, placeless_fits}
 use Rattle.flow_proof.proofs.Growing.{with_site, NewFits, new_fits, fits_grown}
 use Rattle.flow_proof.proofs.Knowing.{node_of, Taints, RegisterFits, SharedOnly, StaticFits, HandedFits, handed_of, ArrivalKnown, Runs, RunsPending}
-use Rattle.flow_proof.proofs.Lasting.{lib, cal, eff, lift_at, running_after, running_grown}
+use Rattle.flow_proof.proofs.Lasting.{lib, cal, eff, hnd, lift_at, running_after, running_grown}
 use Rattle.flow_proof.proofs.Stepping.{class_at, running_writing, gets_fit}
 use Rattle.flow_proof.proofs.Later.{Later, WithResult, waits_at, owns_at, position_fits, shared_site, stored, shared_result, in_either}
 
@@ -114,18 +116,55 @@ module _ (app : App) (lists : Lists) (has : Row → Type 0) (closed : Closed app
         reached (Some x) e walk =
             lib app lists has closed laws (joined_element {n = node_of c f} i r is_result is_from not_void reference (record { there = e }) next) (uses, (((known.registers x).tainted ks l walk).row, tt))
 
+    -- an object that the library has is known as the result
+    given_back : {p : ℕ} {class : Name} {handed : List ℕ} (pc : ℕ) → Goes app f.method f.pc pc → r.row.gives ≡ Handed →
+        IsTrue (is_reference r.at.proto.ret) → ((p : ℕ) → In p handed → HandedFits has w.heap site p) → Has_object w handed p →
+        ClassAt w.heap p class → Below app lists class r.at.proto.ret →
+        RegisterFits has (at_pc (node_of c f) pc) w.heap site result_register (object_at (Some p))
+    given_back {p} {class} pc next is_result reference fits (was_handed is_one) of_class below =
+        let h = fits p is_one in
+        let may : MayGiveBack app lists (node_of c f) u h.of = record {
+          call = r;
+          is_handed = is_result;
+          reference = reference;
+          class = class;
+          of_class = subst (λ s. SiteClass app lists s class) (h.fits.pointed p refl) (known.world.heap.class p class of_class);
+          below = below;
+        } in
+        fits_map
+        (λ s same. rw same (hnd app lists has closed laws (handed_points {n = node_of c f} may next) (uses, (h.row, tt))))
+        (λ q l t. hnd app lists has closed laws (handed_taint {n = node_of c f} may next) (uses, (h.row, (t, tt))))
+        h.fits
+    given_back {p} {class} pc next is_result reference fits (is_live d there placed) of_class below =
+        let component : Fits w.heap site (object_at (Some p)) (λ x. x ≡ Component d) (λ q l. has (CompTaint d (w.components d).state q l)) =
+        subst (λ o. Fits w.heap site (object_at o) (λ x. x ≡ Component d) (λ q l. has (CompTaint d (w.components d).state q l))) placed (known.world.components d) in
+        let may : MayGiveBack app lists (node_of c f) u (Component d) = record {
+          call = r;
+          is_handed = is_result;
+          reference = reference;
+          class = class;
+          of_class = subst (λ s. SiteClass app lists s class) (component.pointed p refl) (known.world.heap.class p class of_class);
+          below = below;
+        } in
+        let live = known.world.live d there in
+        fits_map
+        (λ s same. rw same (hnd app lists has closed laws (live_points {n = node_of c f} may there next) (uses, (live, tt))))
+        (λ q l t. hnd app lists has closed laws (live_taint {n = node_of c f} may there next) (uses, (live, (t, tt))))
+        component
+
     -- the result
-    result_later : {w' : World} {heap : List Object} {v : Value} {gives : Gives} → (later : Later app lists has w.heap site w' c f fs) →
-        r.row.gives ≡ gives → Results app w.heap f (places_of r) r.row.source r.at.proto.ret w'.statics w'.heap gives heap v →
+    result_later : {w' : World} {heap : List Object} {v : Value} {gives : Gives} {handed : List ℕ} →
+        (later : Later app lists has w.heap site w' c f fs) → ((p : ℕ) → In p handed → HandedFits has w.heap site p) →
+        r.row.gives ≡ gives → Results app lists w handed f (places_of r) r.row.source r.at.proto.ret w'.statics w'.heap gives heap v →
         WithResult app lists has w.heap site (record w' { heap = heap }) c f fs v
-    result_later later is_result (of_void _) = record { later = later; result = λ pc next. blank_fits _ _ _ _ }
-    result_later later is_result (as_blank _) = record { later = later; result = λ pc next. blank_fits _ _ _ _ }
-    result_later later is_result (as_same {i = i} not_void) = record {
+    result_later later fits is_result (of_void _) = record { later = later; result = λ pc next. blank_fits _ _ _ _ }
+    result_later later fits is_result (as_blank _) = record { later = later; result = λ pc next. blank_fits _ _ _ _ }
+    result_later later fits is_result (as_same {i = i} not_void) = record {
       later = later;
       result = λ pc next. position_fits f (places_of r) i (λ x is_at.
           fits_map (λ _ h. lib app lists has closed laws (same_points {n = node_of c f} r is_result not_void is_at next) (uses, (h, tt))) (λ _ _ h. lib app lists has closed laws (same_taint {n = node_of c f} r is_result not_void is_at next) (uses, (h, tt))) (later.running.registers x));
     }
-    result_later later is_result (as_taken {i = i} {v = v} not_void given) = record {
+    result_later later fits is_result (as_taken {i = i} {v = v} not_void given) = record {
       later = later;
       result = λ pc next.
           later.stays v _ _ (gets_fit app lists has laws {P = λ s. (x : ℕ) × IsAt (places_of r) i x × has (Points (node_of c f) x s)} {T = λ q l. (x : ℕ) × IsAt (places_of r) i x × has (Taint (node_of c f) x q l)} known.world.heap
@@ -133,17 +172,17 @@ module _ (app : App) (lists : Lists) (has : Row → Type 0) (closed : Closed app
           (λ p q l (x, is_at, taint) cut_off. lib app lists has closed laws (taken_taint {n = node_of c f} r is_result not_void is_at cut_off next) (uses, (taint, tt)))
           (position_fits f (places_of r) i (λ x is_at. fits_map (λ s h. (x, is_at, h)) (λ q l h. (x, is_at, h)) (known.registers x))) given);
     }
-    result_later later is_result (as_shared {i = i} not_void) = record {
+    result_later later fits is_result (as_shared {i = i} not_void) = record {
       later = later;
       result = λ pc next.
           fits_map (λ s h. subst (λ t. has (Points (at_pc (node_of c f) pc) result_register t)) (sym (h.1 i refl)) (lib app lists has closed laws (shared_points {n = node_of c f} r is_result not_void next) (uses, tt))) (λ _ _ h. lib app lists has closed laws (shared_taint {n = node_of c f} r is_result not_void next) (uses, (h, tt))) (later.running.world.statics (shared_static app i));
     }
-    result_later later is_result (as_labels {labels = labels} not_void plain which) = record {
+    result_later later fits is_result (as_labels {labels = labels} not_void plain which) = record {
       later = later;
       result = λ pc next.
           placeless_fits _ _ labels _ _ (λ l h. record { path = empty_path; covers = laws.empty; row = joined_label pc next is_result not_void l ((which l).0 h) });
     }
-    result_later {w'} later is_result (as_object {labels = labels} not_void reference which) =
+    result_later {w'} later fits is_result (as_object {labels = labels} not_void reference which) =
         record {
           later = record { sites = grown.sites; running = grown.running; stays = λ v P T old. grown.stays v P T (later.stays v P T old) };
           result =
@@ -180,6 +219,11 @@ module _ (app : App) (lists : Lists) (has : Row → Type 0) (closed : Closed app
             element : In l labels → Covered (Taints has (at_pc (node_of c f) pc) result_register) (elem_key ∷ []) l
             element h =
                 record { path = cut elem_key empty_path; covers = laws.cut elem_key empty_path [] laws.empty; row = joined_as_element pc next is_result not_void reference l ((which l).0 h) }
+    result_later later fits is_result (as_nothing _) = record { later = later; result = λ pc next. blank_fits _ _ _ _ }
+    result_later later fits is_result (as_given_back reference has_object of_class below) = record {
+      later = later;
+      result = λ pc next. later.stays _ _ _ (given_back pc next is_result reference fits has_object of_class below);
+    }
 
     -- an added value, in the heap with the result
     put_of : {w' : World} (later : Later app lists has w.heap site w' c f fs) (p : ℕ) (v : Value) {P : Site → Type 0} {T : Path → ℕ → Type 0} →
@@ -274,10 +318,12 @@ module _ (app : App) (lists : Lists) (has : Row → Type 0) (closed : Closed app
     pub running : RunsPending app lists has new sites c f fs
     pub result : (pc : ℕ) → Goes app f.method f.pc pc → RegisterFits has (at_pc (node_of c f) pc) new.heap sites result_register v
 
-  known_row : {w new : World} {site : ℕ → Site} {c : Ctx} {f : Frame} {fs : List Frame} {v : Value} {u : SummaryId} →
+  -- what is known after the call, by what is known before its puts
+  known_after : {w new : World} {site : ℕ → Site} {c : Ctx} {f : Frame} {fs : List Frame} {v : Value} {u : SummaryId} →
       Runs app lists has w site c f fs → (r : RowAt app lists (node_of c f) u) → has (Uses (node_of c f) u) →
-      Library_call app lists w f (places_of r) r.at.proto.ret r.row new v → LibraryKnown new c f fs v
-  known_row {w} {new} {site} {c} {f} {fs} {v} {u} known r uses call = record {
+      (call : Library_call app lists w f (places_of r) r.at.proto.ret r.row new v) →
+      WithResult app lists has w.heap site (record w { heap = call.with_result; statics = new.statics }) c f fs v → LibraryKnown new c f fs v
+  known_after {w} {new} {site} {c} {f} {fs} {v} {u} known r uses call last = record {
     sites = last.later.sites;
     running = record {
       reached = after.reached;
@@ -298,12 +344,6 @@ module _ (app : App) (lists : Lists) (has : Row → Type 0) (closed : Closed app
     result = λ pc next. rw call.heap (fits_after laws last.later.running.world.heap changed (take_in pc next) (last.result pc next));
   }
     where
-      shared : Later app lists has w.heap site (record w { heap = call.with_shared; statics = new.statics }) c f fs
-      shared = shared_later w site (names_shared w site c f fs known u r uses) call.shared known
-
-      last : WithResult app lists has w.heap site (record w { heap = call.with_result; statics = new.statics }) c f fs v
-      last = result_later w site c f fs known u r uses shared refl call.results
-
       changed : Changed has (λ s q l. has (Effect (node_of c f) s q l)) last.later.sites call.with_result (add_all call.with_result call.added)
       changed = adds_changed w site c f fs known u r uses last.later call.added (λ a h. (call.adds a).0 h)
 
@@ -350,6 +390,26 @@ module _ (app : App) (lists : Lists) (has : Row → Type 0) (closed : Closed app
       arrived : (a : Arrival) → In a w.arrivals ⊎ AtSink w.heap f (places_of r) r.row a → ArrivalKnown has a
       arrived a (inl old) = known.world.arrivals a old
       arrived a (inr s) = record { node = node_of c f; same_method = sym s.method; same_pc = sym s.pc; holds = at_sink a s }
+
+  known_row : {w new : World} {site : ℕ → Site} {c : Ctx} {f : Frame} {fs : List Frame} {v : Value} {u : SummaryId} →
+      Runs app lists has w site c f fs → (r : RowAt app lists (node_of c f) u) → has (Uses (node_of c f) u) →
+      Library_call app lists w f (places_of r) r.at.proto.ret r.row new v → LibraryKnown new c f fs v
+  known_row {w} {new} {site} {c} {f} {fs} {v} {u} known r uses call =
+      known_after known r uses call (result_later w site c f fs known u r uses shared handed_before refl call.results)
+    where
+      shared : Later app lists has w.heap site (record w { heap = call.with_shared; statics = new.statics }) c f fs
+      shared = shared_later w site (names_shared w site c f fs known u r uses) call.shared known
+
+      handed_first : (p : ℕ) → In p w.handed ⊎ Hands f (places_of r) p → HandedFits has w.heap site p
+      handed_first p (inl old) = known.world.handed p old
+      handed_first p (inr hands) =
+          let of = placed w site c f fs known u r uses hands.place in
+          handed_of p (known.registers of.0) of.2
+          (λ s h. lib app lists has closed laws (hand_points {n = node_of c f} hands.at r of.1) (uses, (h, tt)))
+          (λ s q l h t. lib app lists has closed laws (hand_taint {n = node_of c f} hands.at r of.1) (uses, (h, (t, tt))))
+
+      handed_before : (p : ℕ) → In p new.handed → HandedFits has w.heap site p
+      handed_before p h = handed_first p ((call.handed p).0 h)
 
   pub known_library : {w new : World} {site : ℕ → Site} {c : Ctx} {f : Frame} {fs : List Frame} {kind : CallKind} {at : MethodRef} {args : List ℕ} {row : Summary} {v : Value} →
       Runs app lists has w site c f fs → ActAt app f.method f.pc (Call kind at args) → Uses_row app lists w.heap f kind at args row →

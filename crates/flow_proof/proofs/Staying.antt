@@ -8,11 +8,11 @@ use Rattle.app_machine.specs.Sound.{SoundApp}
 use Rattle.app_machine.specs.SoundLists.{SoundLists}
 use Rattle.fact_rows.specs.declared.row.Row.{Row}
 use Rattle.fact_rows.specs.InApp.{InApp}
-use Rattle.flow_rules.specs.Rules.{by_local, by_effect, by_call, by_library, by_event, Each, Closed, Derivation, nothing, by_start, by_rule}
+use Rattle.flow_rules.specs.Rules.{by_local, by_effect, by_call, by_library, by_event, by_handed, Each, Closed, Derivation, nothing, by_start, by_rule}
 use Rattle.flow_proof.specs.Staying.{RulesStayInApp}
 use Rattle.flow_proof.proofs.StayingSteps.{local_in, effect_in}
 use Rattle.flow_proof.proofs.StayingCalls.{call_in}
-use Rattle.flow_proof.proofs.StayingLibrary.{library_in}
+use Rattle.flow_proof.proofs.StayingLibrary.{library_in, handed_in}
 use Rattle.flow_proof.proofs.StayingEvents.{event_in, start_in}
 
 each_map : {P Q : Row → Type 0} → ((row : Row) → P row → Q row) → (rows : List Row) → Each P rows → Each Q rows
@@ -26,6 +26,7 @@ module _ (app : App) (lists : Lists) (sound : SoundApp app) (listed : SoundLists
   closed_in rule premises row (by_call r) h = call_in app lists sound r h
   closed_in rule premises row (by_library r) h = library_in app lists sound listed laws r h
   closed_in rule premises row (by_event r) h = event_in app lists sound listed laws r h
+  closed_in rule premises row (by_handed r) h = handed_in app lists sound r h
 
   derived_in : {rows : List Row} → Derivation app lists rows → (row : Row) → In row rows → InApp app lists row
   derived_in nothing row is_in = absurd is_in

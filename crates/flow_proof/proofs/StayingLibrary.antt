@@ -23,6 +23,7 @@ use Rattle.fact_rows.specs.declared.context.Node.{Node}
 use Rattle.fact_rows.specs.declared.row.Row.{Row}
 use Rattle.fact_rows.specs.InApp.{is_result, by_call, InApp}
 use Rattle.flow_rules.specs.LibraryRules as rule
+use Rattle.flow_rules.specs.HandedRules as back
 use Rattle.flow_rules.specs.Rules.{Each}
 use Rattle.flow_proof.proofs.Places.{next_in, elem_in, cut_in, rest_in, empty_in, static_of_shared}
 
@@ -109,3 +110,11 @@ module _ (app : App) (lists : Lists) (sound : SoundApp app) (listed : SoundLists
   library_in (rule.copy_cell i j r is_copy is_from is_to) h = (h.1.1.1.0.1.1.0, (elem_in sound, (h.1.1.0.1.1.0, tt)))
   library_in (rule.copy_effect i j r is_copy is_from is_to left) h =
       (h.0.0, (h.1.1.0.1.1.0, (cut_in app laws _ _ (elem_in sound) (rest_in app laws _ _ _ left h.1.0.1.1.0), (h.1.0.1.1.1.0, tt))))
+
+module _ (app : App) (lists : Lists) (sound : SoundApp app) where
+  pub handed_in : {number : ℕ} {premises : List Row} {row : Row} → back.HandedRule app lists number premises row → Each (InApp app lists) premises →
+      InApp app lists row
+  handed_in (back.handed_points may goes) h = (next_in sound h.0.0 goes, (is_result refl, (h.1.0.0, tt)))
+  handed_in (back.handed_taint may goes) h = (next_in sound h.0.0 goes, (is_result refl, (h.1.1.0.1.0, (h.1.1.0.1.1.0, tt))))
+  handed_in (back.live_points may there goes) h = (next_in sound h.0.0 goes, (is_result refl, (h.1.0.0, tt)))
+  handed_in (back.live_taint may there goes) h = (next_in sound h.0.0 goes, (is_result refl, (h.1.1.0.1.1.0, (h.1.1.0.1.1.1.0, tt))))

@@ -1,6 +1,7 @@
 pub mod CallRules
 pub mod EffectRules
 pub mod EventRules
+pub mod HandedRules
 pub mod LibraryRules
 pub mod LocalRules
 pub mod Naming

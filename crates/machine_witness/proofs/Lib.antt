@@ -8,6 +8,7 @@ pub mod Eventing
 pub mod Flowing
 pub mod Framing
 pub mod General
+pub mod GivingBack
 pub mod Leaking
 pub mod Looking
 pub mod Resulting

@@ -4,6 +4,7 @@ use Rattle.std.specs.Prelude.{length, ◌++◌, codes, IsTrue}
 use Rattle.app_machine.specs.declared.app.Class.{Class}
 use Rattle.app_machine.specs.declared.call.CallKind.TheVariants.{Static, Virtual}
 use Rattle.app_machine.specs.declared.method.Act.TheVariants.{Call}
+use Rattle.app_machine.specs.declared.summary.Gives.{Gives}
 use Rattle.app_machine.specs.declared.summary.Gives.TheVariants as gives
 use Rattle.app_machine.specs.declared.lists.SummaryId.TheVariants.{Row}
 use Rattle.app_machine.specs.declared.summary.Summary.{Summary}
@@ -11,15 +12,15 @@ use Rattle.vet_base.specs.Members.{In, IsAt}
 use Rattle.app_machine.specs.Names.{Name, same_name, is_void, is_reference, is_wide, is_array, array_types, object_class}
 use Rattle.app_machine.specs.Lookups.{step_at, target, find_body, up, method_of, class_named, is_by_receiver, lists_bare, all_above}
 use Rattle.app_machine.specs.Summaries.{library_key, summary, row_walk, library_classes, listed_above, listed_class, row_of, ClassBelow, Below, is_same, is_object, is_through, is_listed, of_class, of_array, of_elements}
-use Rattle.app_machine.specs.Heap.{Object, blank}
-use Rattle.app_machine.specs.State.{World, Frame}
+use Rattle.app_machine.specs.Heap.{Value, Object, ClassAt, blank}
+use Rattle.app_machine.specs.State.{result_register, write, World, Frame, object_at}
 use Rattle.app_machine.specs.Calls.{by_name, by_nothing, hand}
-use Rattle.app_machine.specs.Library.{positions, value_at, Hands, all_there, as_blank, as_same, as_object, AreJoined, Library_call, Uses_row, joined_object}
+use Rattle.app_machine.specs.Library.{positions, value_at, Hands, all_there, Has_object, was_handed, is_live, Results, of_void, as_blank, as_same, as_taken, as_shared, as_labels, as_object, as_nothing, as_given_back, AreJoined, Library_call, Uses_row, joined_object}
 use Rattle.app_machine.specs.Run.{calls_library}
 use Rattle.machine_witness.specs.Apps.{step, one_class}
 use Rattle.machine_witness.specs.Acts.{frame_at}
 use Rattle.machine_witness.specs.Flows.{box_class, row_of_method}
-use Rattle.machine_witness.specs.Results.{gives_blank, gives_same, gives_box, on_receiver, results_app, results_lists, EachResultComes, ClassesStandBelow}
+use Rattle.machine_witness.specs.Results.{gives_blank, gives_same, gives_box, on_receiver, gives_back, back_row, small_box, results_app, results_lists, Comes, with_handed, EachResultComes, ClassesStandBelow}
 use Rattle.machine_witness.proofs.Acting.{act_of, next_of}
 use Rattle.machine_witness.proofs.Flowing.{same_arrivals, no_adds}
 use Rattle.std.proofs.lemmas.Option.{none-some}
@@ -151,6 +152,77 @@ call_on_nothing w f none = record {
   components = refl;
 }
 
+back_used : (heap : List Object) (f : Frame) → Uses_row results_app results_lists heap f Static gives_back (1 ∷ []) back_row
+unfolding results_app results_lists target find_body up method_of is_by_receiver library_key summary row_walk library_classes class_named listed_above listed_class row_of is_array
+back_used heap f = record { class = box_class; goes = by_name refl refl; key = Row 4; is_key = refl; is_row = refl; plain = refl }
+
+one_position_back : positions Static gives_back (1 ∷ []) ≡ 1 ∷ []
+unfolding positions is_wide
+one_position_back = refl
+
+small_below : Below results_app results_lists small_box box_class
+unfolding results_lists listed_above listed_class
+small_below = of_class (is_listed (inr (inl refl)))
+
+-- a call that gives this value back, from the world with what it hands over
+call_back : (w : World) (f : Frame) (v : Value) → Results results_app results_lists w (hand (f.registers 1).place w.handed) f (1 ∷ []) None box_class w.statics w.heap gives.Handed w.heap v →
+    Library_call results_app results_lists w f (1 ∷ []) gives_back.proto.ret back_row (record w { handed = hand (f.registers 1).place w.handed }) v
+unfolding is_void
+call_back w f v results = record {
+  with_shared = w.heap;
+  with_result = w.heap;
+  added = [];
+  handed = handed_one f (f.registers 1).place refl w.handed;
+  arrivals = same_arrivals w.arrivals refl;
+  shared = all_there;
+  results = results;
+  adds = λ a. (λ h. absurd h, no_adds refl refl refl);
+  heap = refl;
+  components = refl;
+}
+
+-- an object of a small box that the library has
+back_object : (w : World) (f : Frame) (p : ℕ) → Has_object w (hand (f.registers 1).place w.handed) p → ClassAt w.heap p small_box →
+    Results results_app results_lists w (hand (f.registers 1).place w.handed) f (1 ∷ []) None box_class w.statics w.heap gives.Handed w.heap (object_at (Some p))
+unfolding is_reference
+back_object w f p has_object of_small = as_given_back refl has_object of_small small_below
+
+back_nothing : (w : World) (f : Frame) → Results results_app results_lists w (hand (f.registers 1).place w.handed) f (1 ∷ []) None box_class w.statics w.heap gives.Handed w.heap blank
+unfolding is_void
+back_nothing w f = as_nothing refl
+
+-- what was handed is so still, and so is the argument
+still_handed : (o : Option ℕ) (handed : List ℕ) (p : ℕ) → In p handed → In p (hand o handed)
+still_handed None handed p h = h
+still_handed (Some q) handed p h = inr h
+
+argument_handed : (o : Option ℕ) (handed : List ℕ) (p : ℕ) → o ≡ Some p → In p (hand o handed)
+argument_handed None handed p e = absurd (none-some p e)
+argument_handed (Some q) handed p e = inl (let same : ◌≡◌ {A = Option ℕ} (Some q) (Some p) = e in cc)
+
+back_step : (w : World) (r : ℕ → Value) (v : Value) → Results results_app results_lists w (hand (r 1).place w.handed) (frame_at 4 r) (1 ∷ []) None box_class w.statics w.heap gives.Handed w.heap v →
+    Comes w 4 r (with_handed w r) (write r result_register v)
+unfolding results_app step_at
+back_step w r v results fs = calls_library (act_of (step 4 (Call Static gives_back (1 ∷ [])) (5 ∷ [])) refl) (next_of (step 4 (Call Static gives_back (1 ∷ [])) (5 ∷ [])) refl (inl refl)) (back_used w.heap (frame_at 4 r)) (subst (λ places. Library_call results_app results_lists w (frame_at 4 r) places gives_back.proto.ret back_row (with_handed w r) v) (sym one_position_back) (call_back w (frame_at 4 r) v results))
+
+-- what comes back
+has_it : {w : World} {handed : List ℕ} {f : Frame} {places : List ℕ} {source : Option ℕ} {ret : Name} {statics : ℕ → Value} {heap new : List Object} {kind : Gives} {v : Value} (p : ℕ) →
+    Results results_app results_lists w handed f places source ret statics heap kind new v → kind ≡ gives.Handed → v.place ≡ Some p → Has_object w handed p × ((class : Name) × (ClassAt w.heap p class × Below results_app results_lists class ret))
+has_it p (of_void void) e there = absurd (none-some p there)
+has_it p (as_blank not_void) e there = absurd (none-some p there)
+has_it p (as_same not_void) e there = absurd cc
+has_it p (as_taken not_void taken) e there = absurd cc
+has_it p (as_shared not_void) e there = absurd cc
+has_it p (as_labels not_void plain which) e there = absurd cc
+has_it p (as_object not_void reference which) e there = absurd cc
+has_it p (as_nothing not_void) e there = absurd (none-some p there)
+has_it {w} {handed} p (as_given_back {p = q} {class = class} reference has_object is_there below) e there =
+    let same : q ≡ p = some_is there in
+    (subst (Has_object w handed) same has_object, (class, (subst (λ z. ClassAt w.heap z class) same is_there, below)))
+  where
+    some_is : {a b : ℕ} → ◌≡◌ {A = Option ℕ} (Some a) (Some b) → a ≡ b
+    some_is e = cc
+
 pub each_result_comes : EachResultComes
 unfolding results_app step_at
 each_result_comes w r = record {
@@ -158,6 +230,12 @@ each_result_comes w r = record {
   gives_same = λ fs. calls_library (act_of (step 1 (Call Static gives_same (1 ∷ [])) (2 ∷ [])) refl) (next_of (step 1 (Call Static gives_same (1 ∷ [])) (2 ∷ [])) refl (inl refl)) (same_used w.heap (frame_at 1 r)) (subst (λ places. Library_call results_app results_lists w (frame_at 1 r) places gives_same.proto.ret same_row (record w { handed = hand (r 1).place w.handed }) (r 1)) (sym one_position_same) (call_same w (frame_at 1 r)));
   gives_box = λ fs. calls_library (act_of (step 2 (Call Static gives_box []) (3 ∷ [])) refl) (next_of (step 2 (Call Static gives_box []) (3 ∷ [])) refl (inl refl)) (box_used w.heap (frame_at 2 r)) (subst (λ places. Library_call results_app results_lists w (frame_at 2 r) places gives_box.proto.ret box_row (record w { heap = w.heap ++ joined_object box_class (0 ∷ []) ∷ [] }) (record { place = Some (length w.heap); labels = 0 ∷ [] })) (sym no_positions_box) (call_box w (frame_at 2 r)));
   on_nothing = λ none fs. calls_library (act_of (step 3 (Call Virtual on_receiver (1 ∷ [])) (4 ∷ [])) refl) (next_of (step 3 (Call Virtual on_receiver (1 ∷ [])) (4 ∷ [])) refl (inl refl)) (receiver_used w.heap (frame_at 3 r) none) (subst (λ places. Library_call results_app results_lists w (frame_at 3 r) places on_receiver.proto.ret receiver_row w blank) (sym one_position_receiver) (call_on_nothing w (frame_at 3 r) none));
+  nothing_back = back_step w r blank (back_nothing w (frame_at 4 r));
+  handed_back = λ p among of_small. back_step w r (object_at (Some p)) (back_object w (frame_at 4 r) p (was_handed (still_handed (r 1).place w.handed p among)) of_small);
+  itself_back = λ p there of_small. back_step w r (object_at (Some p)) (back_object w (frame_at 4 r) p (was_handed (argument_handed (r 1).place w.handed p there)) of_small);
+  component_back = λ c p live there of_small. back_step w r (object_at (Some p)) (back_object w (frame_at 4 r) p (is_live c live there) of_small);
+  no_other_back = λ new v p call there. (has_it p call.results refl there).0;
+  none_of_another_class = λ new v p call there. (has_it p call.results refl there).1;
 }
 
 differ : (a b : Name) → same_name a b ≡ false → a ≡ b → ⊥

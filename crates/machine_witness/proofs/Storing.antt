@@ -6,9 +6,10 @@ use Rattle.app_machine.specs.declared.method.Act.TheVariants.{Call}
 use Rattle.app_machine.specs.Lookups.{elem_key, step_at, method_with, body_named, find_body, method_of, up}
 use Rattle.app_machine.specs.Heap.{Value, entry_of}
 use Rattle.machine_witness.specs.Apps.{step}
-use Rattle.machine_witness.specs.Flows.{own_box, add, tries, by_library_put, by_library_copy, by_library_store, by_library_raise, ArrivesAt, FlowsThroughTheLibrary, activity_of}
+use Rattle.machine_witness.specs.Flows.{own_box, add, tries, by_library_put, by_library_copy, by_library_store, by_library_raise, by_handed_result, ArrivesAt, FlowsThroughTheLibrary, activity_of}
 use Rattle.machine_witness.proofs.Flowing.{by_take, by_new, by_get, by_id, by_post, knows, the_label}
 use Rattle.machine_witness.proofs.Boxing.{by_add, by_add_and_raise, by_pour, by_keep, by_open, by_first}
+use Rattle.machine_witness.proofs.GivingBack.{by_find}
 use Rattle.machine_witness.proofs.Beginning.{created_run}
 use Rattle.machine_witness.proofs.Arriving.{arrives_at}
 
@@ -49,5 +50,13 @@ raise =
     let caught = by_add_and_raise by_library_raise boxed 1 0 1 (tries 3 (Call Static add (1 ∷ 0 ∷ [])) (6 ∷ []) (4 ∷ [])) 4 refl refl refl refl (inl refl) in
     arrives_at (by_post (by_get caught 2 1 elem_key the_label 5 refl (entry_of refl (inl refl))) (knows by_library_raise) 2 6 refl refl) (inl refl)
 
+given_back : ArrivesAt (activity_of by_handed_result) 0 7
+unfolding activity_of step_at body_named method_with up
+given_back =
+    let boxed = by_new (by_take (by_id (created_run by_handed_result refl) (knows by_handed_result) 1 refl) (0 ∷ []) 2 refl) 1 own_box 3 refl in
+    let added = by_add by_handed_result boxed 1 0 1 (step 3 (Call Static add (1 ∷ 0 ∷ [])) (4 ∷ [])) 4 refl refl refl refl (inl refl) in
+    let found = by_take (by_find by_handed_result added 1 5 (inl refl) refl refl) (2 ∷ []) 6 refl in
+    arrives_at (by_post (by_get found 0 2 elem_key the_label 7 refl (entry_of refl (inl refl))) (knows by_handed_result) 0 8 refl refl) (inl refl)
+
 pub through_the_library : FlowsThroughTheLibrary
-through_the_library = record { put = put; copy = copy; store = store; raise = raise }
+through_the_library = record { put = put; copy = copy; store = store; raise = raise; given_back = given_back }

@@ -70,6 +70,9 @@ open_store = ref store_class (codes "open") [] store_class
 abbrev pub first : MethodRef
 first = ref box_class (codes "first") [] int
 
+abbrev pub find : MethodRef
+find = ref box_class (codes "find") [] box_class
+
 -- a static method without source and sink
 abbrev pub row_of_method : MethodRef → Summary
 row_of_method at = record { class = at.class; name = at.name; proto = at.proto; is_static = true; gives = gives.Blank; puts = []; stores = []; copies = []; source = None; sink = None; reflective = false }
@@ -95,6 +98,9 @@ open_row = record (row_of_method open_store) { gives = gives.Shared 0 }
 abbrev pub first_row : Summary
 first_row = record (row_of_method first) { is_static = false; gives = gives.Taken 0 }
 
+abbrev pub find_row : Summary
+find_row = record (row_of_method find) { gives = gives.Handed }
+
 -- the callbacks: an activity is told a number, it is told a box, both labelled, and it is given a box
 abbrev pub on_number : MethodRef
 on_number = ref main_class (codes "onNumber") (int ∷ []) void
@@ -117,7 +123,7 @@ box_lists = record {
   categories = codes "device_id" ∷ codes "network" ∷ [];
   classes = library_class device_class ∷ library_class net_class ∷ library_class box_class ∷ library_class store_class ∷ [];
   shared = (codes "store", store_class) ∷ [];
-  methods = id_row ∷ post_row ∷ add_row ∷ pour_row ∷ keep_row ∷ open_row ∷ first_row ∷ [];
+  methods = id_row ∷ post_row ∷ add_row ∷ pour_row ∷ keep_row ∷ open_row ∷ first_row ∷ find_row ∷ [];
   callbacks = callback_of on_number ((1, 0) ∷ []) ∷ callback_of on_told ((1, 0) ∷ []) ∷ callback_of on_given [] ∷ [];
   statics = record { class = build_class; name = codes "SERIAL"; kind = text; source = Some 0 } ∷ [];
 }
@@ -226,6 +232,10 @@ by_library_copy = scene (with_id (step 2 (New 1 own_box None) (3 ∷ []) ∷ ste
 abbrev pub by_library_store : Scene
 by_library_store = scene (with_id (step 2 (Call Static keep (0 ∷ [])) (3 ∷ []) ∷ step 3 (Call Static open_store []) (4 ∷ []) ∷ step 4 (TakeResult (1 ∷ [])) (5 ∷ []) ∷ step 5 (Get (2 ∷ []) 1 elem_key) (6 ∷ []) ∷ and_post 6 2)) []
 
+-- in a box that was handed to the library, which another call gives back
+abbrev pub by_handed_result : Scene
+by_handed_result = scene (with_id (step 2 (New 1 own_box None) (3 ∷ []) ∷ step 3 (Call Static add (1 ∷ 0 ∷ [])) (4 ∷ []) ∷ step 4 (Call Static find []) (5 ∷ []) ∷ step 5 (TakeResult (2 ∷ [])) (6 ∷ []) ∷ step 6 (Get (0 ∷ []) 2 elem_key) (7 ∷ []) ∷ and_post 7 0)) []
+
 -- by a call that puts and then raises: only the handler posts
 abbrev pub by_library_raise : Scene
 by_library_raise = scene (with_id (step 2 (New 1 own_box None) (3 ∷ []) ∷ tries 3 (Call Static add (1 ∷ 0 ∷ [])) (6 ∷ []) (4 ∷ []) ∷ step 4 (Get (2 ∷ []) 1 elem_key) (5 ∷ []) ∷ and_post 5 2)) []
@@ -294,6 +304,7 @@ pub record ThroughTheLibrary : Type 0 where
   pub copy : ArrivesAt (activity_of by_library_copy) 0 7
   pub store : ArrivesAt (activity_of by_library_store) 0 6
   pub raise : ArrivesAt (activity_of by_library_raise) 0 5
+  pub given_back : ArrivesAt (activity_of by_handed_result) 0 7
 
 pub record FromEventToEvent : Type 0 where
   pub callback : ArrivesAt (activity_of by_callback) 1 0

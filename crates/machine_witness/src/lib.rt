@@ -102,7 +102,8 @@ pub fn labels_flow_through_other_methods()
     ensures { FlowsByOtherMethods }
 {}
 
-/// A label arrives through a put, a copy and a store of the library, and by a put of a call that then raises.
+/// A label arrives through a put, a copy and a store of the library, in an object that it gives back, and by a
+/// put of a call that then raises.
 pub fn labels_flow_through_the_library()
     ensures { FlowsThroughTheLibrary }
 {}
@@ -133,8 +134,8 @@ pub fn frames_come_and_go()
     ensures { FramesStep }
 {}
 
-/// A library call gives a blank, an argument or a new labelled object, and goes by the name where
-/// the receiver has no place.
+/// A library call gives a blank, an argument, a new labelled object or one that the library has, and no
+/// other, and goes by the name where the receiver has no place.
 pub fn each_result_of_the_library_comes()
     ensures { EachResultComes }
 {}
