@@ -13,6 +13,7 @@ use Rattle.app_index.specs.contracts.keys.MethodKeyPartialEq.TheImpl.{ghosts as 
 use Rattle.app_index.specs.declared.keys.ClassKey.{ClassKey}
 use Rattle.app_index.specs.declared.keys.FieldKey.{FieldKey}
 use Rattle.app_index.specs.declared.keys.MethodKey.{MethodKey}
+use Rattle.app_index.specs.Handed.{handed_rows}
 use Rattle.vet_base.specs.Members.{first_index}
 
 -- the map has of each key the number of the first element that the key is of
@@ -47,9 +48,10 @@ module _ {S : Type 0} where
   abbrev pub HasStatics : HashMap FieldKey ℕ S → List StaticRow → Type 0
   HasStatics = HasFirst field_key_eq.eq is_field_of
 
-  -- the maps of the lists
-  pub record HasNumbers (rows : HashMap MethodKey ℕ S) (names words : HashMap ClassKey ℕ S) (fields : HashMap FieldKey ℕ S) (lists : Lists) : Type 0 where
+  -- the maps of the lists, and the rows that give back what the library has
+  pub record HasNumbers (rows : HashMap MethodKey ℕ S) (names words : HashMap ClassKey ℕ S) (fields : HashMap FieldKey ℕ S) (back : List ℕ) (lists : Lists) : Type 0 where
     pub methods : HasMethods rows lists.methods
     pub classes : HasClasses names lists.classes
     pub defaults : HasDefaults words lists.classes
     pub statics : HasStatics fields lists.statics
+    pub handed : back ≡ handed_rows lists

@@ -4,8 +4,10 @@ ghost use Rattle.app_machine.specs.Sound.{SoundApp};
 ghost use Rattle.app_machine.specs.SoundLists.{SoundLists};
 ghost use Rattle.app_machine.specs.Summaries.{row_of, default_of, listed_class, library_key};
 ghost use Rattle.app_machine.specs.Summaries.{listed_static, source_of, static_source};
+ghost use Rattle.app_index.specs.Handed.{handed_rows};
 ghost use Rattle.app_index.specs.Walk.{found};
 
+use crate::handed::handed_rows;
 use crate::keys::{ClassKey, FieldKey, MethodKey, field_key, method_key};
 use crate::numbers::{number_classes, number_defaults, number_methods, number_statics};
 use crate::walk::{Wanted, on_walk};
@@ -15,7 +17,8 @@ use std::collections::HashMap;
 use std::marker::Model;
 use vet_base::{Memory, Name};
 
-/// The lists of the library, and the numbers of their rows and classes by what code names.
+/// The lists of the library, the numbers of their rows and classes by what code names, and those of rows that
+/// give back what the library has.
 /// Contracts see the lists.
 #[derive(Drop)]
 pub struct LibraryIndex<'a> {
@@ -24,6 +27,7 @@ pub struct LibraryIndex<'a> {
     classes: HashMap<ClassKey<'a>, u32>,
     defaults: HashMap<ClassKey<'a>, u32>,
     statics: HashMap<FieldKey<'a>, u32>,
+    handed: Vec<u32>,
 }
 
 impl<'a> Model for LibraryIndex<'a> {
@@ -34,11 +38,12 @@ impl<'a> Model for LibraryIndex<'a> {
 
     ghost view = { λ x. x.lists.now };
 
-    ghost invariant = { λ x. HasNumbers x.methods x.classes x.defaults x.statics x.lists.now };
+    ghost invariant = { λ x. HasNumbers x.methods x.classes x.defaults x.statics x.handed.items x.lists.now };
 }
 
 impl<'a> LibraryIndex<'a> {
     /// The index of the lists, in time and memory of their length.
+    #[tactic(auto, unfolding(crate::specs::Handed::handed_rows))]
     pub fn of(alloc: Global, lists: &'a Lists) -> Result<LibraryIndex<'a>, Memory>
         requires { SoundLists lists.now }
         ensures { IfOk result (λ index. index ≡ lists.now) }
@@ -49,6 +54,7 @@ impl<'a> LibraryIndex<'a> {
             classes: number_classes(alloc, lists.classes.as_slice())?,
             defaults: number_defaults(alloc, lists.classes.as_slice())?,
             statics: number_statics(alloc, lists.statics.as_slice())?,
+            handed: handed_rows(alloc, lists.methods.as_slice())?,
         })
     }
 
@@ -57,6 +63,13 @@ impl<'a> LibraryIndex<'a> {
         ensures { result.now ≡ self.now }
     {
         self.lists
+    }
+
+    /// The numbers of the method rows whose result is an object that the library has, ascending.
+    pub fn handed_rows(&self) -> &[u32]
+        ensures { result.now ≡ handed_rows self.now }
+    {
+        self.handed.as_slice()
     }
 
     /// What a library call of the method on the class does: the first row of that name, descriptor

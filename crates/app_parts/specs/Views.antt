@@ -24,6 +24,7 @@ call_result (gives.Same i) = result.Same i
 call_result (gives.Taken i) = result.Taken i
 call_result (gives.Joined from) = result.Joined
 call_result (gives.Shared g) = result.Shared g
+call_result gives.Handed = result.Handed
 
 -- whether the result is joined from the position
 abbrev pub joined_from : Gives → ℕ → Bool

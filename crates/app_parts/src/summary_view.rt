@@ -31,6 +31,8 @@ pub enum CallResult {
     Joined,
     /// The shared object of that number.
     Shared(u32),
+    /// An object that the library was handed, or a component that is there.
+    Handed,
 }
 
 /// What the result is, by the row or the default.
@@ -44,6 +46,7 @@ pub fn result_of(view: SummaryView) -> CallResult
             Gives::Taken(position) => CallResult::Taken(*position),
             Gives::Joined(_) => CallResult::Joined,
             Gives::Shared(number) => CallResult::Shared(*number),
+            Gives::Handed => CallResult::Handed,
         },
         SummaryView::Default(FallbackWord::Blank) => CallResult::Blank,
         SummaryView::Default(FallbackWord::Joined | FallbackWord::Mixed) => CallResult::Joined,

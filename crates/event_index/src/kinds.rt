@@ -1,4 +1,5 @@
-//! The types that are asked for: those of which objects are called back, and those of events' parameters.
+//! The types that are asked for: those of which objects are called back, those of events' parameters, and those
+//! of results that the library gives back.
 ghost use Rattle.std.specs.Prelude.{◌≡◌, OnOk, IfOk, length};
 ghost use Rattle.app_machine.specs.Names.{same_name};
 ghost use Rattle.app_model.specs.Above.{is_among};
@@ -7,7 +8,7 @@ ghost use Rattle.event_index.specs.Kinds.{Adds, AreKinds, HasKinds, IsColumn, no
 use crate::bits::Bits;
 use crate::keys::NameKey;
 use crate::names::object_name;
-use app_machine::Lists;
+use app_machine::{Gives, Lists, Summary};
 use std::alloc::Global;
 use std::collections::HashMap;
 use vet_base::{Memory, Name};
@@ -42,8 +43,9 @@ pub enum Column {
 }
 
 impl<'a> Kinds<'a> {
-    /// The types of the lists' callbacks, and of the events in the life of components. Those of which
-    /// objects are called back have their numbers first, since each class of the app is asked for them.
+    /// The types of the lists' callbacks, of the events in the life of components, and of handed results.
+    /// Those of which objects are called back have their numbers first, since each class of the app is
+    /// asked for them.
     pub fn of(alloc: Global, lists: &'a Lists) -> Result<Kinds<'a>, Memory>
         ensures { IfOk result (λ kinds. AreKinds kinds) }
     {
@@ -56,6 +58,9 @@ impl<'a> Kinds<'a> {
         }
         for called in lists.callbacks.as_slice() {
             kinds.note_each(called.proto.params.as_slice())?;
+        }
+        for method in lists.methods.as_slice() {
+            kinds.note_result(method)?;
         }
         Ok(kinds)
     }
@@ -94,6 +99,17 @@ impl<'a> Kinds<'a> {
             self.note(name.as_bytes())?;
         }
         Ok(())
+    }
+
+    /// The type of the method's result, where the library gives back what it has.
+    fn note_result(&mut self, method: &'a Summary) -> Result<(), Memory>
+        requires { AreKinds self.now }
+        ensures { OnOk result (AreKinds self.new) }
+    {
+        match &method.gives {
+            Gives::Handed => self.note(method.proto.ret.as_bytes()),
+            _ => Ok(()),
+        }
     }
 
     /// How the type is asked for.

@@ -116,7 +116,9 @@ fn give<F: Facts, S: Sink>(
             label_source(call, call.source(), out)
         }
         CallResult::Shared(number) => share(app, facts, call, number, out),
-        CallResult::Blank | CallResult::Same(_) | CallResult::Taken(_) => Ok(()),
+        CallResult::Blank | CallResult::Same(_) | CallResult::Taken(_) | CallResult::Handed => Ok(
+            (),
+        ),
     }
 }
 

@@ -203,7 +203,7 @@ fn give<F: Facts, S: Sink>(
                 Ok(())
             }
         }
-        CallResult::Blank | CallResult::Shared(_) => Ok(()),
+        CallResult::Blank | CallResult::Shared(_) | CallResult::Handed => Ok(()),
     }
 }
 

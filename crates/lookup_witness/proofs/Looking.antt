@@ -6,6 +6,7 @@ use Rattle.app_machine.specs.Library.{positions}
 use Rattle.app_machine.specs.Lookups.{target, find_body, up, method_of, class_named, lists_bare, all_above, body_named, method_with, initialisers, class_initialised, initialisers_from, initialiser_of}
 use Rattle.app_machine.specs.Names.{descriptor_of, click_descriptor, initialiser_name, initialiser_proto, is_array, is_reference, array_types, is_wide, object_class}
 use Rattle.app_machine.specs.Summaries.{library_key, row_walk, library_classes, listed_above, listed_class, listed_static, row_of, default_of, static_source}
+use Rattle.app_index.specs.Handed.{handed_rows}
 use Rattle.app_model.specs.Above.{is_below, is_class_below, is_array_below, is_among, is_listed_below, any_listed_below, has_below}
 use Rattle.app_model.specs.EventBodies.{click, component_callback, handed_callback}
 use Rattle.lookup_witness.specs.Shapes.{shapes}
@@ -35,8 +36,8 @@ app_is_looked_up = (
 )
 
 pub lists_are_looked_up : ListsAreLookedUp
-unfolding shapes row_lists class_named library_key row_walk library_classes listed_above listed_class row_of default_of is_array object_class
-lists_are_looked_up = record { sound = sound_lists; row_first = refl; default_next = refl; nothing_else = refl; of_array = refl }
+unfolding shapes row_lists class_named library_key row_walk library_classes listed_above listed_class row_of default_of is_array object_class handed_rows
+lists_are_looked_up = record { sound = sound_lists; row_first = refl; default_next = refl; nothing_else = refl; of_array = refl; both_handed = refl }
 
 pub statics_are_looked_up : StaticsAreLookedUp
 unfolding shapes static_source listed_static

@@ -17,7 +17,7 @@ use Rattle.app_machine.specs.SoundLists.{NamedPosition, SoundCallback, SoundStat
 use Rattle.app_machine.specs.Summaries.{position_count}
 use Rattle.lookup_witness.specs.Shapes.{activity_class, base_class, body, child_class, does, going, initialiser, int, object, on_given, only_ends, outer_interface, screen_class, service_class, shapes, tap, worker_class}
 use Rattle.lookup_witness.specs.AppFacts.{event_lists}
-use Rattle.lookup_witness.specs.IndexFacts.{clone, plain, row_lists, row_of_method, sealed}
+use Rattle.lookup_witness.specs.IndexFacts.{back_row, clone, owner, plain, row_lists, row_of_method, sealed}
 
 -- How high a class stands: each class below those directly above it, so that none is above itself.
 height : Name → ℕ
@@ -205,9 +205,19 @@ sound_row at is_static = record {
   sink = tt;
 }
 
+sound_back : SoundSummary 1 0 back_row
+sound_back = record {
+  result = tt;
+  puts = none (TwoPositions (position_count false owner.proto));
+  stores = none (NamedPosition (position_count false owner.proto) 0);
+  copies = none (TwoPositions (position_count false owner.proto));
+  source = tt;
+  sink = tt;
+}
+
 methods : AllByRecursion (SoundSummary 1 0) row_lists.methods
 unfolding row_lists
-methods = (sound_row clone false, (sound_row sealed true, (sound_row plain true, tt)))
+methods = (sound_row clone false, (sound_row sealed true, (sound_back, (sound_row plain true, (sound_back, tt)))))
 
 pub sound_lists : SoundLists row_lists
 unfolding row_lists

@@ -11,6 +11,7 @@ use Rattle.app_machine.specs.declared.summary.Summary.{Summary}
 use Rattle.app_machine.specs.Names.{Name}
 use Rattle.app_machine.specs.SoundLists.{SoundLists}
 use Rattle.app_machine.specs.Summaries.{library_key, static_source}
+use Rattle.app_index.specs.Handed.{handed_rows}
 use Rattle.app_index.specs.Readers.{readers_of}
 use Rattle.lookup_witness.specs.Shapes.{base_class, object, int, ref, shapes}
 
@@ -33,6 +34,13 @@ plain = ref plain_class (codes "plain") [] int
 abbrev pub row_of_method : MethodRef → Bool → Summary
 row_of_method at is_static = record { class = at.class; name = at.name; proto = at.proto; is_static = is_static; gives = gives.Blank; puts = []; stores = []; copies = []; source = None; sink = None; reflective = false }
 
+-- one that gives back what the library has
+abbrev pub owner : MethodRef
+owner = ref object (codes "owner") [] object
+
+abbrev pub back_row : Summary
+back_row = record (row_of_method owner false) { gives = gives.Handed }
+
 unfoldable pub row_lists : Lists
 row_lists = record {
   rows = 1000;
@@ -43,7 +51,7 @@ row_lists = record {
       ∷ record { name = object; above = object ∷ []; fallback = None }
       ∷ [];
   shared = [];
-  methods = row_of_method clone false ∷ row_of_method sealed true ∷ row_of_method plain true ∷ [];
+  methods = row_of_method clone false ∷ row_of_method sealed true ∷ back_row ∷ row_of_method plain true ∷ back_row ∷ [];
   callbacks = [];
   statics = [];
 }
@@ -59,10 +67,12 @@ pub record FindsRows : Type 0 where
   pub row_first : key_of box_class sealed true ≡ Some (Row 1)
   -- the other static word has no row, and the default serves it; by one word for all it gives Row 1
   pub default_next : key_of box_class sealed false ≡ Some (Fallback 0)
-  -- where there is no default either there is nothing; by one word for all it gives Row 2
+  -- where there is no default either there is nothing; by one word for all it gives Row 3
   pub nothing_else : key_of plain_class plain false ≡ None
   -- an array has the rows of `Object`; by its own name it gives None
   pub of_array : key_of (codes "[I") clone false ≡ Some (Row 0)
+  -- both rows that give back what the library has are told; by the first alone the second is lost
+  pub both_handed : handed_rows row_lists ≡ 2 ∷ 4 ∷ []
 
 abbrev pub ListsAreLookedUp : Type 0
 ListsAreLookedUp = FindsRows

@@ -1,6 +1,7 @@
 pub mod CallFacts
 pub mod Deriving
 pub mod EventFacts
+pub mod HandedFacts
 pub mod LibraryFacts
 pub mod RowFacts
 pub mod Smallest

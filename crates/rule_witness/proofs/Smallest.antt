@@ -14,12 +14,13 @@ use Rattle.fact_rows.specs.declared.row.Row.{Row}
 use Rattle.fact_rows.specs.declared.row.Row.TheVariants as row
 use Rattle.fact_rows.specs.InApp.{InApp, NodeIn, ParameterIn, at_step, of_method}
 use Rattle.fact_rows.specs.Contexts.{event_types}
-use Rattle.flow_rules.specs.Rules.{Follows, by_local, by_effect, by_call, by_library, by_event, Starts, the_application, a_component, Each}
+use Rattle.flow_rules.specs.Rules.{Follows, by_local, by_effect, by_call, by_library, by_event, by_handed, Starts, the_application, a_component, Each}
 use Rattle.flow_rules.specs.Nodes.{activation_in, entry, ArgumentRegister}
 use Rattle.flow_rules.specs.LocalRules.{LocalRule, reach_next, reach_caught, keep_points, keep_taint, keep_points_caught, keep_taint_caught, move_points, move_taint, result_points, result_taint, exception_points, exception_taint, join_taint, new_points, new_taint, fill_points, fill_cell, fill_taint, get_points, get_taint, put_cell, put_effect, get_static_points, get_static_taint, get_static_source, put_static_points, put_static_taint, throw_points, throw_taint, throw_exit_points, throw_exit_taint, return_points, return_taint, cell_back}
 use Rattle.flow_rules.specs.EffectRules.{EffectRule, lift_effect, effect_next, effect_caught, method_effect, caller_effect, effect_static, effect_handed, effect_own, effect_other}
 use Rattle.flow_rules.specs.CallRules.{CallRule, enter_direct, enter_class, enter_receiver, pass_points, pass_taint, returned_points, returned_taint, caught_points, caught_taint, unwound_points, unwound_taint, use_by_name, use_by_class, enter_initialiser, initialiser_taint}
 use Rattle.flow_rules.specs.LibraryRules.{LibraryRule, hand_points, hand_taint, sink_arrives, same_points, same_taint, taken_points, taken_taint, joined_points, joined_taint, joined_element, source_taint, source_element, shared_static_points, shared_points, shared_taint, row_put_cell, row_put_effect, store_static, store_cell, store_effect, copy_cell, copy_effect}
+use Rattle.flow_rules.specs.HandedRules.{HandedRule, handed_points, handed_taint, live_points, live_taint}
 use Rattle.flow_rules.specs.EventRules.{EventRule, life_live, life_begins, life_receiver, life_taint, life_receiver_taint, live_begins, live_receiver, live_receiver_taint, handed_begins, handed_receiver, handed_receiver_taint, initialiser_begins, handed_parameter, handed_parameter_taint, exit_handed, exit_handed_taint, application_live, Begins, begin_reached, begin_points, begin_taint, begin_element, begin_receiver_element, begin_native}
 use Rattle.rule_witness.specs.Smallest.{main_class, smallest_app, no_lists, on_create_node, smallest_table, SmallestTableIsGood}
 use Rattle.rule_witness.proofs.SmallestApp.{never_goes, never_caught, only_returns, none_initialises, the_activity, is_the_activity, no_application, to_below, the_event, at_event, the_method, is_the_method, first_parameter, register_of, none_comes, no_initialiser}
@@ -190,6 +191,13 @@ closed_library (store_effect _ _ _ _ _) h = elim h.0 [ ]
 closed_library (copy_cell _ _ _ _ _ _) h = elim h.0 [ ]
 closed_library (copy_effect _ _ _ _ _ _ _) h = elim h.0 [ ]
 
+-- Rule 48: nothing is given back, as nothing of the library is used.
+closed_handed : {rule : ℕ} {premises : List Row} {r : Row} → HandedRule smallest_app no_lists rule premises r → Each Listed premises → Listed r
+closed_handed (handed_points _ _) h = elim h.0 [ ]
+closed_handed (handed_taint _ _) h = elim h.0 [ ]
+closed_handed (live_points _ _ _) h = elim h.0 [ ]
+closed_handed (live_taint _ _ _) h = elim h.0 [ ]
+
 -- Rules 40 to 47: only the life of the activity.
 closed_event : {rule : ℕ} {premises : List Row} {r : Row} → EventRule smallest_app no_lists rule premises r → Each Listed premises → Listed r
 closed_event (life_live at) h = live_to at
@@ -216,6 +224,7 @@ closed_under (by_effect rule) h = closed_effect rule h
 closed_under (by_call rule) h = closed_call rule h
 closed_under (by_library rule) h = closed_library rule h
 closed_under (by_event rule) h = closed_event rule h
+closed_under (by_handed rule) h = closed_handed rule h
 
 each_listed : (rows : List Row) → Each (λ r. In r smallest_table) rows → Each Listed rows
 each_listed [] h = tt

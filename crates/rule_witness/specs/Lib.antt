@@ -1,5 +1,6 @@
 pub mod CallFacts
 pub mod EventFacts
+pub mod HandedFacts
 pub mod LibraryFacts
 pub mod RowFacts
 pub mod Smallest

@@ -4,6 +4,7 @@
 
 ghost use Rattle.rule_witness.specs.CallFacts.{CallRulesHold};
 ghost use Rattle.rule_witness.specs.EventFacts.{EventRulesHold};
+ghost use Rattle.rule_witness.specs.HandedFacts.{HandedRulesHold, HandedRulesWithhold};
 ghost use Rattle.rule_witness.specs.LibraryFacts.{LibraryRulesHold};
 ghost use Rattle.fact_rows.specs.declared.context.Ctx.{Ctx};
 ghost use Rattle.rule_witness.specs.RowFacts.{NodesTell, RowsTell};
@@ -39,6 +40,16 @@ pub fn the_rules_of_the_library_hold()
 /// Rules 40 to 47, of events, each give their rows.
 pub fn the_rules_of_events_hold()
     ensures { EventRulesHold }
+{}
+
+/// Rule 48, of handed results, gives its rows, of what was handed and of components that are there.
+pub fn the_rules_of_handed_results_hold()
+    ensures { HandedRulesHold }
+{}
+
+/// It gives back no component that is not there, and nothing of another class.
+pub fn the_rules_of_handed_results_withhold()
+    ensures { HandedRulesWithhold }
 {}
 
 /// The rules of calls pass no initialiser the arguments of the call before which it runs, and no body

@@ -9,3 +9,6 @@ invariant-loop-callback l = AreKinds l.kinds
 
 abbrev pub invariant-loop-called : goal.invariant-loop-called
 invariant-loop-called l = AreKinds l.kinds
+
+abbrev pub invariant-loop-method : goal.invariant-loop-method
+invariant-loop-method l = AreKinds l.kinds

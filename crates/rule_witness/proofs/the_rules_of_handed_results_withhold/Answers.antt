@@ -1,0 +1,5 @@
+use Rattle.rule_witness.proofs.HandedFacts.{handed_rules_withhold}
+use Rattle.rule_witness.proofs.the_rules_of_handed_results_withhold.Goals as goal
+
+pub returns : goal.returns
+returns c = handed_rules_withhold
