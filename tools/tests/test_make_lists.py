@@ -12,7 +12,6 @@ from pathlib import Path
 from unittest import mock
 
 from vet_tools import lists_lint, make_lists
-from vet_tools.device_keys import READS_GIVEN_BACK
 from vet_tools.lists_javap import NoJavap, Shape, shapes, shapes_in
 from vet_tools.lists_lookup import Lookup
 from vet_tools.lists_model import Effects, TableFault, Tables
@@ -327,6 +326,7 @@ reflective = true
 class = "La/Up;"
 name = "app"
 proto = "()La/Up;"
+result = "handed"
 
 # what was typed
 [[callback]]
@@ -364,12 +364,8 @@ class Writing(Case):
             statics='[a.Up]\njava.lang.String ID  source id -- a number\nObject NONE\n')
 
     def test_the_form_of_small_tables(self) -> None:
-        self.assertEqual(tomllib.loads(lists_text(self.small(), False)), tomllib.loads(WRITTEN))
-        self.assertEqual(lists_text(self.small(), False).split('\n', 2)[2], WRITTEN)
-
-    def test_a_handed_result_is_left_out_until_it_is_read(self) -> None:
-        form = tomllib.loads(lists_text(self.small(), True))
-        self.assertEqual([row.get('result') for row in form['method'] if row['name'] == 'app'], ['handed'])
+        self.assertEqual(tomllib.loads(lists_text(self.small())), tomllib.loads(WRITTEN))
+        self.assertEqual(lists_text(self.small()).split('\n', 2)[2], WRITTEN)
 
 
 KEYS = {'class': {'name', 'parents', 'default'}, 'shared': {'name', 'class'},
@@ -558,15 +554,6 @@ class Command(unittest.TestCase):
         self.assertEqual((status, out), (0, ''))
         self.assertIn('there is no javap', err)
         self.assertEqual(tomllib.loads((made / 'android.toml').read_text())['categories'], ['id', 'net'])
-
-    @unittest.skipIf(READS_GIVEN_BACK, 'the program reads these words')
-    def test_it_tells_what_the_form_cannot_carry_yet(self) -> None:
-        made = self.small(head='+strict\nplatform La/\n', statics='[a.Net]\nString ID  source id -- a number\n',
-                          methods='+a.Box by()  handed\n')
-        err = self.run_tool('--tables', str(made), '-o', str(made / 'x.toml'))[2]
-        self.assertIn('1 results that were handed', err)
-        self.assertEqual(set(tomllib.loads((made / 'x.toml').read_text())),
-                         {'rows', 'categories', 'strict', 'platform', 'static', *KEYS})
 
     def test_a_fault_leaves_the_made_file(self) -> None:
         made = self.small(methods='+static String id2()  source id\n')

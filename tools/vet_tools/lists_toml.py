@@ -4,7 +4,6 @@ from __future__ import annotations
 import json
 from collections.abc import Iterable, Iterator
 
-from vet_tools.device_keys import READS_GIVEN_BACK
 from vet_tools.lists_model import CallbackRow, Effects, LibraryClass, MethodRow, Result, StaticRow, Tables
 
 TITLE = """\
@@ -48,10 +47,8 @@ def class_lines(entry: LibraryClass) -> Iterator[str]:
         yield f"default = {text(entry.default.value)}"
 
 
-def result_lines(effects: Effects, given_back: bool) -> Iterator[str]:
-    """The result's keys; a joined result of a source needs no word, and without `given_back` neither has `handed`."""
-    if effects.result is Result.HANDED and not given_back:
-        return
+def result_lines(effects: Effects) -> Iterator[str]:
+    """The result's keys; a joined result of a source needs no word."""
     if effects.result is not Result.BLANK and not (effects.source and not effects.positions):
         yield f"result = {text(effects.result.value)}"
     if effects.positions:
@@ -60,7 +57,7 @@ def result_lines(effects: Effects, given_back: bool) -> Iterator[str]:
         yield f"shared = {text(effects.shared)}"
 
 
-def method_lines(row: MethodRow, given_back: bool) -> Iterator[str]:
+def method_lines(row: MethodRow) -> Iterator[str]:
     """The lines of a row of a method, with its reason in front."""
     effects = row.effects
     if row.reason:
@@ -71,7 +68,7 @@ def method_lines(row: MethodRow, given_back: bool) -> Iterator[str]:
     yield f"proto = {text(row.proto)}"
     if row.static:
         yield "static = true"
-    yield from result_lines(effects, given_back)
+    yield from result_lines(effects)
     for key, values in (("puts", effects.puts), ("stores", effects.stores), ("copies", effects.copies)):
         if values:
             yield f"{key} = {pairs(values)}"
@@ -121,22 +118,13 @@ def head_lines(tables: Tables) -> Iterator[str]:
         yield f"bundled = {json.dumps(head.bundled)}"
 
 
-def lists_text(tables: Tables, given_back: bool = READS_GIVEN_BACK) -> str:
-    """The whole form. Without `given_back` no result is `handed`."""
+def lists_text(tables: Tables) -> str:
+    """The whole form."""
     blocks = [head_lines(tables)]
     blocks += [class_lines(entry) for entry in upward(tables.classes)]
     blocks += [iter(["[[shared]]", f"name = {text(name)}", f"class = {text(owner)}"])
                for name, owner in tables.head.shared.items()]
-    blocks += [method_lines(row, given_back) for row in tables.methods]
+    blocks += [method_lines(row) for row in tables.methods]
     blocks += [callback_lines(row) for row in tables.callbacks]
     blocks += [static_lines(row) for row in tables.statics]
     return TITLE + "\n".join("\n".join(block) + "\n" for block in blocks)
-
-
-def not_carried(tables: Tables) -> list[str]:
-    """What the tables say and the form can't carry while results are not `handed`."""
-    if READS_GIVEN_BACK:
-        return []
-    handed = sum(row.effects.result is Result.HANDED for row in tables.methods)
-    told = [(handed, f"{handed} results that were handed (they are blank)")]
-    return [words for count, words in told if count]

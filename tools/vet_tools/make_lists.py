@@ -13,7 +13,7 @@ from vet_tools.lists_lint import Fault
 from vet_tools.lists_model import TableFault, Tables
 from vet_tools.lists_shapes import declared_by, known_shapes, shape_faults
 from vet_tools.lists_tables import read_tables
-from vet_tools.lists_toml import lists_text, not_carried
+from vet_tools.lists_toml import lists_text
 from vet_tools.progress import tell
 from vet_tools.whole_file import write_whole
 
@@ -74,8 +74,6 @@ def run(words: argparse.Namespace) -> int:
         print(f"make-lists: the form would have more than {LONGEST_FILE} bytes", file=sys.stderr)
         return 1
     write_whole(words.output or words.tables / "android.toml", text)
-    for what in not_carried(tables):
-        print(f"make-lists: not written, since the program does not read it yet: {what}", file=sys.stderr)
     return 0
 
 

@@ -22,8 +22,8 @@ use Rattle.made_apps.specs.Forms.{manifest_text}
 use Rattle.made_apps.specs.Lists.{lists_text}
 use Rattle.made_apps.specs.Made.{main_method, main_listed, method_listed, field_listed, work_listed, made}
 use Rattle.made_apps.specs.Names.{main_class, work_class, activity_class, bundle_class, object_class, string_class, device_class, net_class, void, on_create, id, post, static_field, method_name}
-use Rattle.method_fields.specs.Gives.{default_word, result_at, from_fits, shared_fits, shared_at, gives_at}
-use Rattle.method_fields.specs.Positions.{has_key, items_at, position_rows, positions_at}
+use Rattle.method_fields.specs.Gives.{default_word, gives_word, source_allows, type_allows, is_allowed, result_at, from_fits, shared_fits, shared_at, gives_of, gives_at}
+use Rattle.method_fields.specs.Positions.{has_key, items_at, position_rows, positions_at, listed_at}
 use Rattle.form_witness.specs.Codes.{CodesTell}
 use Rattle.form_witness.specs.Fields.{FieldsTell, RowsTell}
 use Rattle.form_witness.specs.Listed.{ListingsTell}
@@ -34,8 +34,8 @@ unfolding all_have has_shape is_named_pair items_in number_and_texts is_number a
 fields_tell = record { pair = refl; no_longer_pair = refl; shortest_token = refl; no_shorter_token = refl; least_key = refl }
 
 pub rows_tell : RowsTell
-unfolding gives_at result_at word_at at_key text_of has_key default_word positions_at items_at items_in all_have position_rows walk from_fits shared_at shared_fits
-rows_tell = record { shared_is_text = refl; blank_has_none = refl; with_receiver = refl }
+unfolding gives_at result_at word_at at_key text_of has_key default_word positions_at items_at items_in all_have position_rows walk from_fits shared_at shared_fits gives_word source_allows type_allows is_allowed gives_of listed_at
+rows_tell = record { shared_is_text = refl; blank_has_none = refl; handed_back = refl; no_number_handed = refl; no_source_handed = refl; handed_from_none = refl; with_receiver = refl }
 
 pub listings_tell : ListingsTell
 unfolding gathering all_classes dex_classes class_row each named with_name string_of type_of

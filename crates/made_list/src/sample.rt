@@ -139,5 +139,6 @@ fn result_of(alloc: Global, gives: &Gives) -> Result<String, AllocError> {
             format!(in alloc; "joined {positions:?}")
         }
         Gives::Shared(number) => format!(in alloc; "shared {number}"),
+        Gives::Handed => format!(in alloc; "handed"),
     }
 }

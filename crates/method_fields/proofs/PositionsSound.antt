@@ -14,7 +14,7 @@ use Rattle.form_fields.specs.declared.words.Key.{Key}
 use Rattle.form_fields.specs.declared.words.Key.TheVariants as key
 use Rattle.form_fields.specs.declared.shape.Shape.TheVariants as shape
 use Rattle.method_fields.specs.declared.gives.GivesWord.{GivesWord}
-use Rattle.method_fields.specs.declared.gives.GivesWord.TheVariants.{Blank, Same, Taken, Joined, Shared}
+use Rattle.method_fields.specs.declared.gives.GivesWord.TheVariants.{Blank, Same, Taken, Joined, Shared, Handed}
 use Rattle.form_fields.specs.Tree.{items_in}
 use Rattle.form_fields.specs.Places.{place_of}
 use Rattle.form_fields.specs.Fields.{at_key, word_at}
@@ -165,6 +165,7 @@ IfShared Blank p = Unit {0}
 IfShared Same p = Unit {0}
 IfShared Taken p = Unit {0}
 IfShared Joined p = Unit {0}
+IfShared Handed p = Unit {0}
 IfShared Shared p = p
 
 shared_in : (word : GivesWord) (names : List Name) (o : Option Data)
@@ -174,6 +175,7 @@ shared_in Blank names o = record { at = λ n e. tt }
 shared_in Same names o = record { at = λ n e. tt }
 shared_in Taken names o = record { at = λ n e. tt }
 shared_in Joined names o = record { at = λ n e. tt }
+shared_in Handed names o = record { at = λ n e. tt }
 shared_in Shared names None = yields_never _ (Range section.Method key.Shared) _
 shared_in Shared names (Some d) =
     yields_past _ (test true (Range section.Method key.Shared)) _
@@ -195,12 +197,13 @@ of_within Blank there from number count size all fits shared = tt
 of_within Same there from number count size all fits shared = first_within count from all fits
 of_within Taken there from number count size all fits shared = first_within count from all fits
 of_within Joined there from number count size all fits shared = all
+of_within Handed there from number count size all fits shared = tt
 of_within Shared there from number count size all fits shared = shared
 
-pub gives_within : (names : List Name) (count : ℕ) (t : Members) → Yields (SoundGives count (length names)) (gives_at names count t)
+pub gives_within : (names : List Name) (count : ℕ) (reference : Bool) (t : Members) → Yields (SoundGives count (length names)) (gives_at names count reference t)
 unfolding gives_at
-gives_within names count t =
-    yields_past _ (result_at t) _
+gives_within names count reference t =
+    yields_past _ (result_at reference t) _
     (λ word. yields_then (All (λ n. n < count)) _ (positions_at section.Method key.From count t) _ (positions_within section.Method key.From count t)
     (λ from all. yields_then (λ _. IsTrue (from_fits word (has_key key.From t) from)) _ (test (from_fits word (has_key key.From t) from) (Range section.Method key.From)) _
     (yields_test (from_fits word (has_key key.From t) from) (Range section.Method key.From))

@@ -1,6 +1,7 @@
 //! The result of a method row.
 ghost use Rattle.std.specs.Prelude.{◌≡◌, ◌≤◌, length, slice_index};
-ghost use Rattle.method_fields.specs.Gives.{gives_word, source_allows, default_word, result_at};
+ghost use Rattle.method_fields.specs.Gives.{gives_word, source_allows, type_allows, is_allowed};
+ghost use Rattle.method_fields.specs.Gives.{default_word, result_at};
 ghost use Rattle.method_fields.specs.Gives.{from_fits, shared_fits, shared_at, gives_of, gives_at};
 ghost use Rattle.toml.specs.View.{table_view};
 ghost use Rattle.vet_base.specs.Script.{Gives as GivesBack};
@@ -20,11 +21,12 @@ pub enum GivesWord {
     Taken,
     Joined,
     Shared,
+    Handed,
 }
 
-/// Reads `result`, `from` and `shared` of a method with so many arguments. `Wrong` is a result that is no word,
-/// a `from` that is no list of numbers, and a `shared` that is no text; `Range` a result that a source does not
-/// allow, a `from` or `shared` that does not go with the result, a position that is no argument's, and a name
+/// Reads `result`, `from` and `shared` of a method with so many arguments, and a result of a reference type or none.
+/// `Wrong` is a result that is no word, a `from` that is no list of numbers, and a `shared` that is no text; `Range`
+/// a result that a source or the type does not allow, a `from` or `shared` that does not go with the result, a position that is no argument's, and a name
 /// that is none of the shared objects.
 #[tactic(auto, unfolding(crate::specs::Gives::gives_at), using(vet_base::proofs::Scripts::run_bind))]
 pub fn gives_at(
@@ -32,11 +34,12 @@ pub fn gives_at(
     table: &Table,
     shared: &Index<Name>,
     count: usize,
+    gives_reference: bool,
 ) -> Result<Gives, Stop<Fault>>
     requires { length shared.now ≤ 65536 }
-    ensures { GivesBack (λ g. g) result (gives_at shared.now count (table_view table.now)) }
+    ensures { GivesBack (λ g. g) result (gives_at shared.now count gives_reference (table_view table.now)) }
 {
-    let word = result_at(table)?;
+    let word = result_at(table, gives_reference)?;
     let from = positions_at(alloc, table, Section::Method, Key::From, count)?;
     if !from_fits(word, has_key(table, Key::From), &from) {
         return Err(Stop::Fault(Fault::Range(Section::Method, Key::From)));
@@ -45,10 +48,11 @@ pub fn gives_at(
     Ok(gives_of(word, from, number))
 }
 
-/// The word of the result. A source allows a joined result alone.
+/// The word of the result. A source allows a joined result alone, and what the library has is a result of a reference
+/// type alone.
 #[tactic(auto, unfolding(crate::specs::Gives::result_at), using(vet_base::proofs::Scripts::run_bind))]
-fn result_at(table: &Table) -> Result<GivesWord, Stop<Fault>>
-    ensures { GivesBack (λ w. w) result (result_at (table_view table.now)) }
+fn result_at(table: &Table, gives_reference: bool) -> Result<GivesWord, Stop<Fault>>
+    ensures { GivesBack (λ w. w) result (result_at gives_reference (table_view table.now)) }
 {
     let text = word_at(table, Section::Method, Key::Result)?;
     let has_source = has_key(table, Key::Source);
@@ -58,7 +62,7 @@ fn result_at(table: &Table) -> Result<GivesWord, Stop<Fault>>
     let Some(word) = gives_word(text) else {
         return Err(Stop::Fault(Fault::Wrong(Section::Method, Key::Result)));
     };
-    if !source_allows(has_source, word) {
+    if !is_allowed(has_source, gives_reference, word) {
         return Err(Stop::Fault(Fault::Range(Section::Method, Key::Result)));
     }
     Ok(word)
@@ -85,6 +89,7 @@ fn gives_word(word: &str) -> Option<GivesWord>
         "taken" => Some(GivesWord::Taken),
         "joined" => Some(GivesWord::Joined),
         "shared" => Some(GivesWord::Shared),
+        "handed" => Some(GivesWord::Handed),
         _ => None,
     }
 }
@@ -95,8 +100,35 @@ fn source_allows(has_source: bool, word: GivesWord) -> bool
 {
     match word {
         GivesWord::Joined => true,
-        GivesWord::Blank | GivesWord::Same | GivesWord::Taken | GivesWord::Shared => !has_source,
+        GivesWord::Blank
+        | GivesWord::Same
+        | GivesWord::Taken
+        | GivesWord::Shared
+        | GivesWord::Handed => !has_source,
     }
+}
+
+/// Whether a method of such a result may have the word.
+#[tactic(auto, unfolding(crate::specs::Gives::type_allows))]
+fn type_allows(gives_reference: bool, word: GivesWord) -> bool
+    ensures { result ≡ type_allows gives_reference word }
+{
+    match word {
+        GivesWord::Handed => gives_reference,
+        GivesWord::Blank
+        | GivesWord::Same
+        | GivesWord::Taken
+        | GivesWord::Joined
+        | GivesWord::Shared => true,
+    }
+}
+
+/// Whether a method with such a source and result may have the word.
+#[tactic(auto, unfolding(crate::specs::Gives::is_allowed))]
+fn is_allowed(has_source: bool, gives_reference: bool, word: GivesWord) -> bool
+    ensures { result ≡ is_allowed has_source gives_reference word }
+{
+    source_allows(has_source, word) && type_allows(gives_reference, word)
 }
 
 /// One position for `same` and `taken`, any number for `joined`; otherwise the key is not there.
@@ -107,7 +139,7 @@ fn from_fits(word: GivesWord, there: bool, from: &[u32]) -> bool
     match word {
         GivesWord::Same | GivesWord::Taken => from.len() == 1,
         GivesWord::Joined => true,
-        GivesWord::Blank | GivesWord::Shared => !there,
+        GivesWord::Blank | GivesWord::Shared | GivesWord::Handed => !there,
     }
 }
 
@@ -139,7 +171,11 @@ fn shared_fits(word: GivesWord, there: bool) -> bool
 {
     match word {
         GivesWord::Shared => there,
-        GivesWord::Blank | GivesWord::Same | GivesWord::Taken | GivesWord::Joined => !there,
+        GivesWord::Blank
+        | GivesWord::Same
+        | GivesWord::Taken
+        | GivesWord::Joined
+        | GivesWord::Handed => !there,
     }
 }
 
@@ -153,6 +189,7 @@ fn gives_of(word: GivesWord, from: Vec<u32>, number: u32) -> Gives
         GivesWord::Taken => Gives::Taken(first_of(&from)),
         GivesWord::Joined => Gives::Joined(Seq::from_vec(from)),
         GivesWord::Shared => Gives::Shared(number),
+        GivesWord::Handed => Gives::Handed,
     }
 }
 

@@ -12,4 +12,6 @@ pub use gives::{GivesWord, gives_at};
 pub use positions::{
     flag_at, has_key, items_at, listed_at, named_at, named_row, pairs_at, positions_at,
 };
-pub use signature::{MethodKey, Signature, keys_once, position_count, proto_at, type_at};
+pub use signature::{
+    MethodKey, Signature, gives_reference, keys_once, position_count, proto_at, type_at,
+};

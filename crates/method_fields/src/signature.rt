@@ -3,6 +3,7 @@ ghost use Rattle.std.specs.Prelude.{◌≡◌, ◌+◌, length, IfOk};
 ghost use Rattle.std.proofs.Common.{rules};
 ghost use Rattle.std.specs.Cmp.Rules.{comparing};
 ghost use Rattle.method_fields.specs.Signature.{same_key, key_once, keys_once, proto_at, type_at, key_of};
+ghost use Rattle.app_machine.specs.Names.{is_reference};
 ghost use Rattle.app_machine.specs.Summaries.{position_count};
 ghost use Rattle.toml.specs.View.{table_view};
 ghost use Rattle.vet_base.specs.Script.{Gives};
@@ -112,6 +113,17 @@ pub fn position_count(is_static: bool, proto: &Proto) -> usize
 {
     let params = proto.params.as_slice().len();
     if is_static { params } else { params + 1 }
+}
+
+/// Whether the result of a method is of a class or an array.
+#[tactic(auto, unfolding(app_machine::specs::Names::is_reference))]
+pub fn gives_reference(proto: &Proto) -> bool
+    ensures { result ≡ is_reference proto.now.ret }
+{
+    match proto.ret.as_bytes().first() {
+        Some(byte) => *byte == b'L' || *byte == b'[',
+        None => false,
+    }
 }
 
 /// The keys, of which none may stand twice: the name of the first that does is `Fault::Twice`.

@@ -6,7 +6,7 @@ use Rattle.std.proofs.lemmas.Bool.{leb-true, eqb-true, and_parts}
 use Rattle.std.proofs.lemmas.List.Elements.{All-nil, All-push}
 use Rattle.toml.specs.Data.{Data, Members}
 use Rattle.vet_base.specs.Script.{run, test}
-use Rattle.app_machine.specs.Names.{Name}
+use Rattle.app_machine.specs.Names.{Name, is_reference}
 use Rattle.app_machine.specs.SoundLists.{SoundLists}
 use Rattle.app_machine.specs.declared.lists.LibClass.{LibClass}
 use Rattle.app_machine.specs.declared.summary.Summary.{Summary}
@@ -132,7 +132,7 @@ summary_sound : (listed : Listed) (at : Signature) (t : Members) → Yields (Sou
 unfolding summary_of
 summary_sound listed at t =
     let count : ℕ = position_count at.is_static at.proto in
-    yields_then (SoundGives count (length listed.shared)) _ (gives_at listed.shared count t) _ (gives_within listed.shared count t)
+    yields_then (SoundGives count (length listed.shared)) _ (gives_at listed.shared count (is_reference at.proto.ret) t) _ (gives_within listed.shared count (is_reference at.proto.ret) t)
     (λ result r. yields_then (All (TwoPositions count)) _ (pairs_at section.Method key.Puts count t) _ (pairs_within section.Method key.Puts count t)
     (λ puts p. yields_then (All (NamedPosition count (length listed.shared))) _ (named_at section.Method key.Stores count listed.shared t) _ (named_are_within section.Method key.Stores count listed.shared t)
     (λ stores s. yields_then (All (TwoPositions count)) _ (pairs_at section.Method key.Copies count t) _ (pairs_within section.Method key.Copies count t)

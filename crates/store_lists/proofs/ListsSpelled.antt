@@ -5,7 +5,7 @@ use Rattle.std.specs.List.{All}
 use Rattle.std.proofs.lemmas.List.Elements.{All-nil, All-cons, All-push, All-head, All-tail}
 use Rattle.toml.specs.Data.{Data, Members}
 use Rattle.vet_base.specs.Script.{run, test}
-use Rattle.app_machine.specs.Names.{Name, same_name}
+use Rattle.app_machine.specs.Names.{Name, same_name, is_reference}
 use Rattle.app_machine.specs.Summaries.{position_count}
 use Rattle.app_machine.specs.declared.lists.LibClass.{LibClass}
 use Rattle.app_machine.specs.declared.lists.Callback.{Callback}
@@ -139,7 +139,7 @@ summary_spelled : (listed : Listed) (at : Signature) (t : Members) → Signed at
 unfolding summary_of
 summary_spelled listed at t spelled =
     let count : ℕ = position_count at.is_static at.proto in
-    yields_past _ (gives_at listed.shared count t) _
+    yields_past _ (gives_at listed.shared count (is_reference at.proto.ret) t) _
     (λ result. yields_past _ (pairs_at section.Method key.Puts count t) _
     (λ puts. yields_past _ (named_at section.Method key.Stores count listed.shared t) _
     (λ stores. yields_past _ (pairs_at section.Method key.Copies count t) _

@@ -2,7 +2,7 @@
 use Rattle.std.specs.Prelude.{ℕ, not, Bool, List, [], ◌∷◌, ◌++◌, Option, Some, None, is_some}
 use Rattle.toml.specs.Data.{Data, Members}
 use Rattle.vet_base.specs.Script.{Script, Value, ◌>>=◌, test, each}
-use Rattle.app_machine.specs.Names.{Name, same_name}
+use Rattle.app_machine.specs.Names.{Name, same_name, is_reference}
 use Rattle.app_machine.specs.Summaries.{position_count}
 use Rattle.app_machine.specs.declared.summary.Summary.{Summary}
 use Rattle.form_fields.specs.declared.fault.Fault.{Fault}
@@ -65,7 +65,7 @@ sink_at categories count t = do
 -- what a row says beside its signature
 unfoldable pub summary_of : Listed → Signature → Members → Script Fault Summary
 summary_of listed at t = do
-  result ← gives_at listed.shared (position_count at.is_static at.proto) t
+  result ← gives_at listed.shared (position_count at.is_static at.proto) (is_reference at.proto.ret) t
   puts ← pairs_at section.Method key.Puts (position_count at.is_static at.proto) t
   stores ← named_at section.Method key.Stores (position_count at.is_static at.proto) listed.shared t
   copies ← pairs_at section.Method key.Copies (position_count at.is_static at.proto) t

@@ -9,8 +9,8 @@ ghost use Rattle.vet_base.specs.Script.{Gives};
 use app_machine::Summary;
 use form_fields::{Fault, Index, Key, Section, Shape, Spelling, known, table_in, text_at};
 use method_fields::{
-    MethodKey, Signature, flag_at, gives_at, has_key, items_at, listed_at, named_at, pairs_at,
-    position_count, positions_at, proto_at,
+    MethodKey, Signature, flag_at, gives_at, gives_reference, has_key, items_at, listed_at,
+    named_at, pairs_at, position_count, positions_at, proto_at,
 };
 use std::alloc::Global;
 use toml::{Table, Value};
@@ -135,7 +135,8 @@ fn summary_of(
     ensures { Gives (λ x. x) result (summary_of listed.now at (table_view table.now)) }
 {
     let count = position_count(at.is_static, &at.proto);
-    let gives = gives_at(alloc, table, &listed.shared, count)?;
+    let reference = gives_reference(&at.proto);
+    let gives = gives_at(alloc, table, &listed.shared, count, reference)?;
     let puts = pairs_at(alloc, table, Section::Method, Key::Puts, count)?;
     let stores = named_at(
         alloc,
