@@ -3,11 +3,13 @@
 
 usage: bench/killed_desk.py PROGRAM [KILLS [SEED]]
 
-PROGRAM is the built program, as crates/vet/out/vet. The desk is started in a copy of examples/office on a free port. A
-developer submits apps and appeals, reviewers decide and rule, one request after the other, until the desk is killed
-(SIGKILL) at most 150 milliseconds after it listens. Then it is started anew and asked for the developer's cases. Every case
-has to be in the state that was last told, or, for the last request alone, which had no reply, in the state that it asked
-for. At the end `sqlite3` has to find the database whole. Ends with status 1 at the first case that is not as it is to be.
+PROGRAM is the built program, as crates/vet/out/vet. The desk is started in a copy of examples/office on a free port, first
+over a database and then over a journal. A developer submits apps and appeals, reviewers decide and rule, one request after
+the other, until the desk is killed (SIGKILL) at most 150 milliseconds after it listens. Then it is started anew and asked
+for the developer's cases. Every case has to be in the state that was last told, or, for the last request alone, which had
+no reply, in the state that it asked for. At the end `sqlite3` has to find the database whole, and a reading of the journal
+by its format has to find all changes, and nothing behind them. Ends with status 1 at the first case that is not as it is to
+be.
 """
 
 import base64
@@ -157,10 +159,42 @@ def office_in(folder, port):
     return tomllib.loads("".join(lines))["party"]
 
 
-def main():
-    program = os.path.abspath(sys.argv[1])
-    kills, seed = (int(n) for n in sys.argv[2:] + ["200", "1"][len(sys.argv) - 2 :])
+def whole_database(folder, states):
+    said = subprocess.run(
+        ["sqlite3", f"{folder}/desk.sqlite", "PRAGMA integrity_check"], capture_output=True, text=True, check=True
+    ).stdout.strip()
+    assert said == "ok", said
+
+
+def text_at(payload, at):
+    """The text at an offset, and the offset behind it."""
+    end = at + 8 + int.from_bytes(payload[at : at + 8], "little")
+    assert end <= len(payload)
+    return payload[at + 8 : end], end
+
+
+def whole_journal(folder, states):
+    """Reads the journal by docs/FORMATS.md: each case has as many changes as its state tells."""
+    with open(f"{folder}/desk.journal", "rb") as f:
+        journal = f.read()
+    assert journal[:8] == b"VETJRNL1", journal[:8]
+    at, made = 8, {}
+    while journal[at] == 1:
+        payload, end = text_at(journal, at + 1)
+        _, behind = text_at(payload, 1)
+        reference, _ = text_at(payload, behind)
+        made.setdefault(reference.decode(), []).append(payload[0])
+        at = end
+    assert journal[at:] == b"\0", journal[at : at + 9]
+    changes = {"queued": [0], "decided": [0, 1], "appealed": [0, 1, 2], "ruled": [0, 1, 2, 3]}
+    assert made == {r: changes[s] for r, s in states.items()}, "the journal has other changes"
+    assert not os.path.exists(f"{folder}/desk.sqlite"), "a database was made beside the journal"
+
+
+def killed(program, kills, seed, keeper):
     rng, port, folder = random.Random(seed), free_port(), tempfile.mkdtemp()
+    if keeper == "journal":
+        open(f"{folder}/desk.journal", "wb").close()
     desk = Desk(program, folder, port)
     office = Office(desk, office_in(folder, port), rng)
     more = 0
@@ -175,15 +209,22 @@ def main():
             desk.start()
             more += office.look(last)
             desk.kill()
-        said = subprocess.run(
-            ["sqlite3", f"{folder}/desk.sqlite", "PRAGMA integrity_check"], capture_output=True, text=True, check=True
-        ).stdout.strip()
-        assert said == "ok", said
-        print(f"{kills} kills, {len(office.states)} cases: all that was told as kept was there, {more} times one change more")
+        {"database": whole_database, "journal": whole_journal}[keeper](folder, office.states)
+        print(
+            f"{keeper}: {kills} kills, {len(office.states)} cases: all that was told as kept was there, "
+            f"{more} times one change more"
+        )
     finally:
         if desk.process and desk.process.poll() is None:
             desk.kill()
         shutil.rmtree(folder)
+
+
+def main():
+    program = os.path.abspath(sys.argv[1])
+    kills, seed = (int(n) for n in sys.argv[2:] + ["100", "1"][len(sys.argv) - 2 :])
+    for keeper in ("database", "journal"):
+        killed(program, kills, seed, keeper)
 
 
 if __name__ == "__main__":

@@ -10,12 +10,14 @@ ghost use Rattle.desk_service.specs.Saying.{status};
 ghost use Rattle.desk_service.specs.Serving.{seen, Answers};
 ghost use Rattle.desk_words.specs.Serve.{parse};
 
+mod files;
 mod keepers;
 
 use case_keeper::Keeper;
 use desk_host::{HostClock, TcpDoor};
 use desk_links::{Clock, Door};
-use desk_service::{Outside, Status, database_path, serve};
+use desk_service::{Outside, Status, serve};
+pub use files::{CaseFiles, case_files};
 pub use keepers::Keepers;
 use std::alloc::Global;
 use std::env::Env;
@@ -75,22 +77,22 @@ where
     Some(ExitCode::from(status))
 }
 
-/// Serves over the system's files, output and clock, a port of this machine, and the keeper of the cases in
-/// `desk.sqlite` in the folder of the office; `None` where the words ask for no desk.
+/// Serves over the system's files, output and clock, a port of this machine, and the keeper of the cases in the folder
+/// of the office; `None` where the words ask for no desk.
 fn served_here<R, K>(rt: R, keepers: &K, words: &[String], seed: u64) -> Option<ExitCode>
 where
     R: SystemFiles + Print + Net + SystemClock + AllocGlobal + Threads + Wait + Sync + Copy + Drop,
     K: Keepers,
 {
     let alloc = rt.alloc();
-    let path = match database_path(alloc, words) {
-        Ok(path) => path?,
+    let files = match case_files(alloc, words) {
+        Ok(files) => files?,
         Err(Memory) => return Some(ExitCode::from(7)),
     };
     let mut outside = Outside {
         files: HostFiles::new(rt),
         out: StandardSink::new(rt),
-        keeper: keepers.keeper_at(path),
+        keeper: keepers.keeper_at(files),
         door: TcpDoor::new(rt),
         clock: HostClock::new(rt),
     };
@@ -98,8 +100,8 @@ where
 }
 
 /// Runs the words that the system gives over its files, prints the answer to the standard output, and gives the status
-/// of the top call as the exit status. Where the words ask for a desk, its cases are with the keeper of `desk.sqlite`
-/// in the folder of the office.
+/// of the top call as the exit status. Where the words ask for a desk, its cases are with the keeper that `keepers`
+/// finds in the folder of the office.
 pub fn run<R, K>(rt: R, keepers: &K) -> ExitCode
 where
     R: SystemFiles

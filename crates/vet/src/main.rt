@@ -1,12 +1,12 @@
 //! `vet`: the command line of the vetting desk.
 #![tactic(auto)]
 
-mod databases;
+mod cases;
 
-use databases::Databases;
+use cases::KeptHere;
 use desk_program::run;
 use std::process::ExitCode;
 
 fn main(rt: HostRuntime) -> ExitCode {
-    run(rt, &Databases(rt))
+    run(rt, &KeptHere(rt))
 }
