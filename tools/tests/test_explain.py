@@ -8,7 +8,8 @@ import unittest
 from tests.support import DATA, EXAMPLES, ROOT, ToolCase, as_reported, dexdump, expected
 from vet_tools.dex_code import Instruction, MethodRef
 from vet_tools.explain import text
-from vet_tools.explanation import explain, java_method, java_type, split_types
+from vet_tools.explanation import explain
+from vet_tools.java_names import java_method, java_type, split_types
 from vet_tools.list_rows import rows
 from vet_tools.report import parse
 

@@ -13,9 +13,10 @@ from html.parser import HTMLParser
 from pathlib import Path
 
 from tests.support import EXAMPLES, ROOT, ToolCase, certificate, expected
-from vet_tools.explanation import Explanation, Step, explain
+from vet_tools.explanation import Explanation, explain
 from vet_tools.page import Subject, html
 from vet_tools.report import Place, parse
+from vet_tools.way import Step
 
 TAGS = set("html head meta title style body a header h1 h2 h3 h4 span div strong p nav ul li main section article "
            "table caption thead tbody tr th td dl dt dd pre mark details summary progress small ol br code".split())

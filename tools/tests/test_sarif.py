@@ -17,9 +17,10 @@ import jsonschema
 import sarif_om
 
 from tests.support import DATA, EXAMPLES, ROOT, ToolCase, expected
-from vet_tools.explanation import Explanation, Step, explain
+from vet_tools.explanation import Explanation, explain
 from vet_tools.report import Place, parse
 from vet_tools.sarif import document, message
+from vet_tools.way import Step
 
 SUBSET = json.loads((DATA / "sarif_subset.json").read_text())
 

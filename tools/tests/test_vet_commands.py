@@ -22,7 +22,7 @@ REFUSED = (3, "refused lists.toml: missing rows\n")
 # Lines of words that are no command, each word behind a space; `_` is an empty one.
 NO_COMMANDS = ("", "check D", "check D 1 1", "_ D 1", "Check D 1", "check D 0", "check D 01", "check D 17",
                "check D 1\t", "check D +1", "check D _", "check _ 1", "certify D", "certify D _", "certify _ C",
-               "certify D C 1", "recheck D", "recheck D _", "recheck _ C", "make 1 1", "make 1 0 1", "make 1 2001 1",
+               "certify D C 1", "recheck D", "recheck D _", "recheck _ C", "story", "story _", "story D 1", "make 1 1", "make 1 0 1", "make 1 2001 1",
                "make 2147483648 1 1", "make 1 1 0", "make 1 1 17", "make 01 1 1", "make 1 1 1 1")
 
 

@@ -215,7 +215,27 @@ class Certificate:
             raise CertificateFault(f"rest at {reader.at}")
 
 
+def row_of(data: bytes) -> Flat:
+    """The one row that these bytes are, as its kind and the numbers of its fields. Raises `CertificateFault`."""
+    reader = _Reader(data)
+    try:
+        row = reader.row()
+    except _Bad:
+        raise CertificateFault("bad at 0") from None
+    except (IndexError, struct.error):
+        raise CertificateFault("cut at 0") from None
+    if reader.at != len(data):
+        raise CertificateFault(f"rest at {reader.at}")
+    return row
+
+
 def node_of(fields: Flat) -> tuple[Node, Flat]:
     """The node with which these fields begin, and the fields behind it."""
     end = 5 if fields[0] == ContextKind.TWO_CALLS else 3
     return Node(fields[:end], fields[end], fields[end + 1]), fields[end + 2:]
+
+
+def activation_of(fields: Flat) -> tuple[Node, Flat]:
+    """The activation with which these fields begin, as the node with which it does, and the fields behind it."""
+    end = 5 if fields[0] == ContextKind.TWO_CALLS else 3
+    return Node(fields[:end], fields[end], 0), fields[end + 1:]

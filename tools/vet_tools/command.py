@@ -8,9 +8,10 @@ import sys
 from pathlib import Path
 from typing import Callable, NoReturn
 
-from vet_tools import forms, report
+from vet_tools import forms, report, story
 from vet_tools.report import NO_ANSWER, NoReport, Report, ReportFault
 from vet_tools.shown import in_quotes
+from vet_tools.story import Story
 from vet_tools.whole_file import write_whole
 
 
@@ -43,6 +44,22 @@ def add_folder(parser: argparse.ArgumentParser) -> None:
                         "of running vet")
     parser.add_argument("--workers", type=workers, default=min(16, os.cpu_count() or 1), metavar="N",
                         help="threads of vet, 1 to 16; no answer depends on it")
+
+
+def add_ways(parser: argparse.ArgumentParser) -> None:
+    """The word by which page and sarif tell the ways of findings."""
+    parser.add_argument("--ways", action="store_true", help="tell how each finding follows, by vet story, which works "
+                        "longer than vet check")
+
+
+def ways_of(folder: Path, one: Report) -> list[Story]:
+    """The stories of this report. Raises `ReportFault`, also where vet now says another report, and `NoReport`."""
+    if not one.findings:
+        return []
+    said, stories = story.told(folder)
+    if said != one:
+        raise ReportFault("What vet story says now is not the report; hand in the report of these very files.")
+    return stories
 
 
 def report_of(words: argparse.Namespace) -> tuple[Report, Path]:

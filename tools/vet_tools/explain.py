@@ -6,7 +6,8 @@ import textwrap
 
 from vet_tools import advice
 from vet_tools.command import STATUSES, Words, add_folder, refuse, report_of
-from vet_tools.explanation import Explained, Explanation, MissingClass, explain, java_method, java_place
+from vet_tools.explanation import Explained, Explanation, MissingClass, explain
+from vet_tools.java_names import java_method, java_place
 from vet_tools.list_rows import rows
 from vet_tools.report import CauseKind, NoReport, Outcome, Report, ReportFault
 from vet_tools.shown import counted

@@ -7,25 +7,18 @@ from __future__ import annotations
 
 from dataclasses import dataclass, field, replace
 from pathlib import Path
+from typing import Sequence
 
 from vet_tools import forms
 from vet_tools.dex_code import DexCode, DexFault, Instruction, Method, MethodRef, SourceLine
 from vet_tools.forms import FormFault, Lists
+from vet_tools.java_names import java_method
 from vet_tools.report import Cause, CauseKind, Finding, Outcome, Place, Report
 from vet_tools.shown import printed
+from vet_tools.story import Story
+from vet_tools.way import Step, way_of
 
 OBJECT = "Ljava/lang/Object;"
-PRIMITIVES = {"V": "void", "Z": "boolean", "B": "byte", "S": "short", "C": "char", "I": "int", "J": "long",
-              "F": "float", "D": "double"}
-
-
-@dataclass(frozen=True)
-class Step:
-    """One step of a way from source to sink: what happens there, and the code. A way may have none yet."""
-    place: Place
-    says: str
-    instruction: Instruction | None = None
-    source_line: SourceLine | None = None
 
 
 @dataclass(frozen=True)
@@ -94,46 +87,9 @@ class Explanation:
         return [one for one in self.of_kind(CauseKind.NO_SUMMARY) if id(one) not in grouped]
 
 
-def java_type(descriptor: str) -> str:
-    """A type as Java writes it: `[Ljava/lang/String;` is `java.lang.String[]`."""
-    name = descriptor.lstrip("[")
-    depth = len(descriptor) - len(name)
-    if name.startswith("L") and name.endswith(";"):
-        name = name[1:-1].replace("/", ".")
-    return PRIMITIVES.get(name, name) + "[]" * depth
-
-
-def java_method(ref: MethodRef, with_result: bool = True) -> str:
-    """A method as Java writes it: `void vendor.Net.post(java.lang.Object)`."""
-    arguments = ", ".join(java_type(one) for one in ref.parameters)
-    result = f"{java_type(ref.result)} " if with_result else ""
-    return f"{result}{java_type(ref.class_name)}.{ref.name}({arguments})"
-
-
-def split_types(descriptor: str) -> tuple[tuple[str, ...], str]:
-    """The parameters and the result of a method's descriptor."""
-    inner, _, result = descriptor[1:].rpartition(")")
-    found, at = [], 0
-    while at < len(inner):
-        end = at
-        while end < len(inner) - 1 and inner[end] == "[":
-            end += 1
-        if inner[end] == "L":
-            end = inner.find(";", end)
-            end = len(inner) - 1 if end < 0 else end
-        found.append(inner[at:end + 1])
-        at = end + 1
-    return tuple(found), result
-
-
-def java_place(method: Method) -> str:
-    """The method of a place as Java writes it, without its result."""
-    parameters, result = split_types(method.descriptor)
-    return java_method(MethodRef(method.class_name, method.name, parameters, result, method.static), False)
-
-
-def explain(report: Report, folder: Path) -> Explanation:
-    """Puts behind each line of the report what the app's files have there."""
+def explain(report: Report, folder: Path, stories: Sequence[Story] = ()) -> Explanation:
+    """Puts behind each line of the report what the app's files have there, and behind each finding the way that its
+    story tells, where there are stories."""
     found = Explanation(report)
     if report.outcome in (Outcome.CLEAR, Outcome.REFUSED):
         return found
@@ -141,8 +97,10 @@ def explain(report: Report, folder: Path) -> Explanation:
     code = _code(folder, found.faults) if placed else None
     lists = _lists(folder, found.faults) if placed else None
     found.object_listed = lists is None or OBJECT in lists.parents
-    for finding in report.findings:
-        found.findings.append(_explained(finding, code, lists, ()))
+    for number, finding in enumerate(report.findings):
+        one = _explained(finding, code, lists, ())
+        told = code is not None and number < len(stories)
+        found.findings.append(replace(one, way=way_of(stories[number], finding, code)) if told else one)
     for cause in report.causes:
         found.causes.append(_explained(cause, code, lists, _where(cause, folder)))
     if code is not None:

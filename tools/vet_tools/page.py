@@ -17,12 +17,13 @@ from pathlib import Path
 from vet_tools import advice, forms, report
 from vet_tools.advice import Advice
 from vet_tools.certificate import Certificate, CertificateFault, NoCertificate
-from vet_tools.command import STATUSES, Words, add_folder, refuse, report_of, write
+from vet_tools.command import STATUSES, Words, add_folder, add_ways, refuse, report_of, ways_of, write
 from vet_tools.coverage import CAUSES, Coverage, CoverageFault, Places, coverage, percent
 from vet_tools.dex_code import DexFault
 from vet_tools.explain import HEADS, KEPT, missing_title, summary_title
-from vet_tools.explanation import Explained, Explanation, explain, java_method, java_place
+from vet_tools.explanation import Explained, Explanation, explain
 from vet_tools.forms import FormFault
+from vet_tools.java_names import java_method, java_place
 from vet_tools.list_rows import rows
 from vet_tools.report import CauseKind, NoReport, Outcome, Report, ReportFault
 from vet_tools.shown import counted, in_quotes
@@ -266,7 +267,7 @@ def subject_of(words: argparse.Namespace) -> Subject:
     else:
         folder = report.app_folder(words.folder)
         one, reached, why = _certified(folder, words.workers)
-    found = explain(one, folder)
+    found = explain(one, folder, ways_of(folder, one) if words.ways else [])
     try:
         manifest = forms.manifest_of(folder)
         package, digest = manifest.package, forms.digest_of(folder, manifest.dex_files).hex()
@@ -307,6 +308,7 @@ def main(arguments: list[str] | None = None) -> int:
         "finding and cause with its code, and rows for lists.toml. The page needs nothing else and asks for nothing.",
         epilog=f"Example: tools/page examples/device_id_posted -o app.html. {STATUSES}")
     add_folder(parser)
+    add_ways(parser)
     parser.add_argument("-o", "--output", metavar="FILE", required=True, help="the page")
     parser.add_argument("--certificate", metavar="CERT", help="count what was reached by this certificate; without it "
                         "and without --report vet makes one")

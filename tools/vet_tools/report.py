@@ -14,6 +14,7 @@ import time
 from dataclasses import dataclass
 from enum import Enum
 from pathlib import Path
+from typing import Callable, TypeVar
 
 from vet_tools.shown import in_quotes
 
@@ -21,6 +22,7 @@ ROOT = Path(__file__).resolve().parents[2]
 # The exit status of a tool that could not give what it was asked for: none of those of vet's answers, the one with
 # which ./vet says that nothing is said of the app, and EX_SOFTWARE of sysexits.h.
 NO_ANSWER = 70
+Found = TypeVar("Found")
 
 
 class ReportFault(Exception):
@@ -201,14 +203,19 @@ def _lines(outcome: Outcome, count: int, lines: list[str]) -> Report:
     return Report(outcome, tuple(causes), tuple(findings))
 
 
-def read_file(path: str) -> Report:
-    """A report from a file, or from the standard input where the path is `-`."""
+def text_of(path: str) -> str:
+    """The text of a file, or of the standard input where the path is `-`. Raises `ReportFault`."""
     try:
         data = sys.stdin.buffer.read() if path == "-" else Path(path).read_bytes()
     except OSError as fault:
         raise ReportFault(f"The report {in_quotes(path)} could not be read ({fault.strerror}); "
                           "name a file that can.") from None
-    return parse(data.decode("utf-8", "surrogateescape"))
+    return data.decode("utf-8", "surrogateescape")
+
+
+def read_file(path: str) -> Report:
+    """A report from a file, or from the standard input where the path is `-`."""
+    return parse(text_of(path))
 
 
 def app_folder(path: str) -> Path:
@@ -261,7 +268,8 @@ def _tell_time(what: str, ended: threading.Event) -> None:
         sys.stderr.write("\r\033[K")
 
 
-def _of(words: list[str]) -> Report:
+def answer_of(words: list[str], reads: Callable[[str], Found], report_in: Callable[[Found], Report]) -> Found:
+    """What the program prints for these words, as it is read; its report goes with its status. Raises `NoReport`."""
     status, text = run(words)
     if status < 0:
         raise NoReport(NO_ANSWER, f"vet was ended by the signal {-status} and gave no report; run it again when the "
@@ -270,11 +278,16 @@ def _of(words: list[str]) -> Report:
         said = text.splitlines()[0] if text.strip() else "nothing"
         raise NoReport(status, f"vet gave no report (status {status}); it said {in_quotes(said)}. "
                                "docs/FORMATS.md says what to do (\"Other printed lines\").")
-    report = parse(text)
+    found = reads(text)
+    report = report_in(found)
     if report.outcome.status != status:
         raise ReportFault(f"vet ended with the status {status} and printed {in_quotes(report.first_line)}; "
                           "these do not go together, so look at which program VET names.")
-    return report
+    return found
+
+
+def _of(words: list[str]) -> Report:
+    return answer_of(words, parse, lambda found: found)
 
 
 def check(folder: Path, workers: int) -> Report:

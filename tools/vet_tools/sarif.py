@@ -14,8 +14,9 @@ from urllib.parse import quote
 
 from vet_tools import advice
 from vet_tools.advice import Advice
-from vet_tools.command import STATUSES, Words, add_folder, refuse, report_of, write
-from vet_tools.explanation import Explained, Explanation, explain, java_method
+from vet_tools.command import STATUSES, Words, add_folder, add_ways, refuse, report_of, ways_of, write
+from vet_tools.explanation import Explained, Explanation, explain
+from vet_tools.java_names import java_method
 from vet_tools.report import Cause, CauseKind, Finding, NoReport, Outcome, Place, ReportFault
 
 SCHEMA = "https://docs.oasis-open.org/sarif/sarif/v2.1.0/errata01/os/schemas/sarif-schema-2.1.0.json"
@@ -154,11 +155,13 @@ def main(arguments: list[str] | None = None) -> int:
         "with the kind fail, causes with the kind open.",
         epilog=f"Example: tools/sarif examples/device_id_posted -o report.sarif. {STATUSES}")
     add_folder(parser)
+    add_ways(parser)
     parser.add_argument("-o", "--output", metavar="FILE", help="the file; without it the standard output")
     words = parser.parse_args(arguments)
     try:
         one, folder = report_of(words)
-        text = json.dumps(document(explain(one, folder)), indent=2) + "\n"
+        stories = ways_of(folder, one) if words.ways else []
+        text = json.dumps(document(explain(one, folder, stories)), indent=2) + "\n"
         if words.output:
             write(Path(words.output), text, folder, (words.report,))
         else:

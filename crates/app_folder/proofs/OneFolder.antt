@@ -34,7 +34,8 @@ module _ (forms : OneFormOrFault) (held : Held) (dir : List ℕ) where
   same_others : (text seen : List ℕ) (m n : AppManifest) → text ≡ seen → m ≡ n → run (parts_at held dir text m.manifest.dex_files) ≡ run (parts_at held dir seen n.manifest.dex_files)
   same_others text seen m n same one = ap (λ (t : List ℕ). run (parts_at held dir t m.manifest.dex_files)) same ∙ ap (λ (k : AppManifest). run (parts_at held dir seen k.manifest.dex_files)) one
 
-  one_gathered : (a b : Result Parts Refusal) → Gathers held dir a → Gathers held dir b → a ≡ b
+  -- a folder gives one thing
+  pub one_gathered : (a b : Result Parts Refusal) → Gathers held dir a → Gathers held dir b → a ≡ b
   one_gathered _ _ (no_manifest r first) (no_manifest s second) = ap (λ (x : Refusal). Err x) (one_err (run (part_at held dir manifest_part)) r s first second)
   one_gathered _ _ (no_manifest r first) (bad_manifest seen f second fails) = absurd (no_text r seen first second)
   one_gathered _ b (no_manifest r first) (others seen n _ second is rest) = absurd (no_text r seen first second)

@@ -6,4 +6,4 @@ mod reporting;
 mod spelled;
 
 pub use refusal::CertRefusal;
-pub use reporting::report_refusal;
+pub use reporting::{put_row_text, report_refusal};

@@ -61,9 +61,9 @@ fn put_digests(
     put_hex(alloc, text, wanted.as_slice())
 }
 
-/// Adds a word, and a row as a certificate spells it.
+/// Adds a word, and the bytes of a row as a certificate spells it, in small hexadecimal letters.
 #[tactic(auto, unfolding(crate::specs::Refusal::row_text))]
-fn put_row_text(alloc: Global, text: &mut Text, word: &[u8], row: &Row) -> Result<(), Memory>
+pub fn put_row_text(alloc: Global, text: &mut Text, word: &[u8], row: &Row) -> Result<(), Memory>
     ensures { OnOk result (text.new.items ≡ text.old.items ++ row_text word.now row.now) }
 {
     put(text, word)?;

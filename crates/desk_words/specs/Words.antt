@@ -7,11 +7,12 @@ use Rattle.desk_words.specs.declared.vetting.Vetting.TheVariants as borrowed
 use Rattle.desk_words.specs.Numbers.{number, positive}
 
 -- What is asked for: the folder, and the number of workers; the folder, and the file that the certificate goes to; the folder, and the
--- file of the certificate; the seed, the size and the number of workers.
+-- file of the certificate; the folder; the seed, the size and the number of workers.
 pub data Words : Type 0 where
   Check : List ℕ → ℕ → Words
   Certify : List ℕ → List ℕ → Words
   Recheck : List ℕ → List ℕ → Words
+  Story : List ℕ → Words
   Make : ℕ → ℕ → ℕ → Words
 
 unfoldable pub is_check : List ℕ → Bool
@@ -22,6 +23,9 @@ is_certify word = pointwise nat_eq word (codes "certify")
 
 unfoldable pub is_recheck : List ℕ → Bool
 is_recheck word = pointwise nat_eq word (codes "recheck")
+
+unfoldable pub is_story : List ℕ → Bool
+is_story word = pointwise nat_eq word (codes "story")
 
 unfoldable pub is_make : List ℕ → Bool
 is_make word = pointwise nat_eq word (codes "make")
@@ -53,6 +57,10 @@ folder_words command dir last =
     else if is_recheck command then recheck_words dir last
     else None
 
+-- `story DIR`
+abbrev pub story_words : List ℕ → List ℕ → Option Words
+story_words command dir = if is_story command && is_file_name dir then Some (Story dir) else None
+
 abbrev pub made_of : Option ℕ → Option ℕ → Option ℕ → Option Words
 made_of None size count = None
 made_of (Some seed) None count = None
@@ -74,6 +82,7 @@ making_words command seed size count = if is_make command then make_words seed s
 
 -- the vetting that is asked for, where the words ask for one
 abbrev pub parse : List (List ℕ) → Option Words
+parse (command ∷ dir ∷ []) = story_words command dir
 parse (command ∷ dir ∷ last ∷ []) = folder_words command dir last
 parse (command ∷ seed ∷ size ∷ count ∷ []) = making_words command seed size count
 parse words = None
@@ -82,6 +91,7 @@ abbrev pub vetting_words : Vetting → Words
 vetting_words (borrowed.Check dir n) = Check dir.now n
 vetting_words (borrowed.Certify dir cert) = Certify dir.now cert.now
 vetting_words (borrowed.Recheck dir cert) = Recheck dir.now cert.now
+vetting_words (borrowed.Story dir) = Story dir.now
 vetting_words (borrowed.Make seed size n) = Make seed size n
 
 -- a seed below 2^31, and 1 to 2,000 methods
@@ -89,4 +99,5 @@ abbrev pub IsWithin : Vetting → Type 0
 IsWithin (borrowed.Check dir n) = Unit {0}
 IsWithin (borrowed.Certify dir cert) = Unit {0}
 IsWithin (borrowed.Recheck dir cert) = Unit {0}
+IsWithin (borrowed.Story dir) = Unit {0}
 IsWithin (borrowed.Make seed size n) = (seed < 2147483648) × (1 ≤ size) × (size ≤ 2000)

@@ -3,16 +3,26 @@ ghost use Rattle.std.specs.Prelude.{◌≡◌, ◌↔◌, None, map, string_byte
 ghost use Rattle.std.specs.Option.{option_map};
 ghost use Rattle.desk_words.specs.Commands.{vetting_of, serving_of, IsUsage, IsWithinCommand};
 ghost use Rattle.desk_words.specs.Serve.{asked_words, serve_words, parse as parse_serve};
-ghost use Rattle.desk_words.specs.Words.{folder_words, making_words, parse, vetting_words, IsWithin};
+ghost use Rattle.desk_words.specs.Words.{folder_words, making_words, parse, story_words, vetting_words, IsWithin};
 
 use crate::serving::{Serving, is_serve_word, serve_words};
-use crate::vetting::{Vetting, folder_words, is_make_word, make_words};
+use crate::vetting::{Vetting, folder_words, is_make_word, make_words, story_words};
 
 /// What the words of the command line ask for.
 #[derive(Clone, Copy)]
 pub enum Command<'a> {
     Vetting(Vetting<'a>),
     Serving(Serving<'a>),
+}
+
+/// What two words ask for.
+fn two_words<'a>(command: &str, dir: &'a str) -> Option<Command<'a>>
+    ensures vetting { vetting_of result ≡ story_words command.now dir.now }
+    ensures serving { serving_of result ≡ None }
+    ensures within { IsWithinCommand result }
+{
+    let vetting = story_words(command, dir)?;
+    Some(Command::Vetting(vetting))
 }
 
 /// What three words ask for.
@@ -55,6 +65,7 @@ pub fn command_in(words: &[String]) -> Option<Command<'_>>
     ensures within { IsWithinCommand result }
 {
     match words {
+        [command, dir] => two_words(command.as_str(), dir.as_str()),
         [command, first, last] => three_words(command.as_str(), first.as_str(), last.as_str()),
         [command, seed, size, workers] => four_words(
             command.as_str(),

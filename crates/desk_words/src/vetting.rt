@@ -1,9 +1,9 @@
 //! The words that ask for a vetting.
 ghost use Rattle.std.specs.Prelude.{◌≡◌, ◌<◌, ◌≤◌, IfSome};
 ghost use Rattle.std.specs.Option.{option_map};
-ghost use Rattle.desk_words.specs.Words.{is_check, is_certify, is_recheck, is_make, is_file_name, workers};
+ghost use Rattle.desk_words.specs.Words.{is_check, is_certify, is_recheck, is_story, is_make, is_file_name, workers};
 ghost use Rattle.desk_words.specs.Words.{seed_of, size_of, check_words, certify_words, recheck_words};
-ghost use Rattle.desk_words.specs.Words.{folder_words, make_words, vetting_words, IsWithin};
+ghost use Rattle.desk_words.specs.Words.{folder_words, story_words, make_words, vetting_words, IsWithin};
 
 use crate::number::{number_in, positive_in};
 
@@ -16,6 +16,8 @@ pub enum Vetting<'a> {
     Certify(&'a str, &'a str),
     /// The folder, and the file of the certificate.
     Recheck(&'a str, &'a str),
+    /// The folder.
+    Story(&'a str),
     /// The seed below 2^31, the size from 1 to 2,000, and the number of workers from 1 to 16.
     Make(u32, u32, u8),
 }
@@ -39,6 +41,13 @@ fn is_recheck_word(word: &str) -> bool
     ensures { result ≡ is_recheck word.now }
 {
     word == "recheck"
+}
+
+#[tactic(auto, unfolding(crate::specs::Words::is_story))]
+fn is_story_word(word: &str) -> bool
+    ensures { result ≡ is_story word.now }
+{
+    word == "story"
 }
 
 #[tactic(auto, unfolding(crate::specs::Words::is_make))]
@@ -125,6 +134,18 @@ pub fn folder_words<'a>(command: &str, dir: &'a str, last: &'a str) -> Option<Ve
         certify_words(dir, last)
     } else if is_recheck_word(command) {
         recheck_words(dir, last)
+    } else {
+        None
+    }
+}
+
+/// What two words ask of a vetting.
+pub fn story_words<'a>(command: &str, dir: &'a str) -> Option<Vetting<'a>>
+    ensures parsed { option_map vetting_words result ≡ story_words command.now dir.now }
+    ensures within { IfSome result IsWithin }
+{
+    if is_story_word(command) && is_name(dir) {
+        Some(Vetting::Story(dir))
     } else {
         None
     }

@@ -17,10 +17,10 @@ use std::collections::BTreeSet;
 use vet_base::{Memory, Name};
 
 /// The names of a source category and of a sink category.
-type Pair = (Name, Name);
+pub type Pair = (Name, Name);
 
 /// A pair, and the method and the address at which it was found.
-type Found = (Pair, (u32, u32));
+pub type Found = (Pair, (u32, u32));
 
 /// The name of a category.
 #[tactic(auto, unfolding(crate::specs::Findings::category))]
@@ -33,7 +33,8 @@ fn category_of(alloc: Global, lists: &Lists, i: u8) -> Result<Name, Memory>
     }
 }
 
-fn pairs_in(alloc: Global, declaration: &Declaration) -> Result<Vec<Pair>, Memory>
+/// The names of the declared pairs.
+pub fn pairs_in(alloc: Global, declaration: &Declaration) -> Result<Vec<Pair>, Memory>
     ensures { IfOk result (λ v. v.items ≡ declaration.now.pairs) }
 {
     let mut pairs = Vec::new(alloc);
@@ -80,7 +81,7 @@ fn undeclared_pair(
 }
 
 /// What arrives, where the declaration does not name the pair.
-fn undeclared_at(
+pub fn undeclared_at(
     alloc: Global,
     lists: &Lists,
     declared: &BTreeSet<Pair>,

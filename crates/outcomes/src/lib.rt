@@ -13,7 +13,7 @@ mod places;
 
 pub use ascending::{ascending_of, set_of};
 pub use causes::{causes_of, causes_too_large, class_names};
-pub use findings::findings_of;
+pub use findings::{Found, Pair, findings_of, pairs_in, undeclared_at};
 pub use names::copied;
 pub use outcome::{Cause, Finding, MethodName, Place};
 pub use places::place_in;

@@ -12,7 +12,7 @@ mod rejudging;
 
 pub use app_flow::{FlowRows, RowDefect, TableDefect};
 pub use judging::{judge, judge_linked};
-pub use laws::a_clear_verdict_is_of_a_safe_app;
+pub use laws::{a_clear_verdict_is_of_a_safe_app, lower_laws};
 pub use linking::{Linked, linked_parts};
 pub use outcome::{Judged, Outcome, Part, Reason, Rechecked, status_for};
 pub use outcomes::{Cause, Finding, MethodName, Place};

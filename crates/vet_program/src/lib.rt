@@ -77,7 +77,7 @@ pub fn vetted<F: Files, O: Sink, T: Threads + Wait + Sync>(
         (outside (F.told files.new) (F.fault_count files.new) (O.taken out.new) (O.fault_count out.new))
         (exit_status result) }
 
-    // Nothing else is due, where the files tell what they hold.
+    // Nothing else is due, where the files tell what they hold, but that a finding may have several right stories.
     ensures only { EndsAsOnlyDue (parse (map string_bytes words.now))
         (outside (F.told files.old) (F.fault_count files.old) (O.taken out.old) (O.fault_count out.old))
         (outside (F.told files.new) (F.fault_count files.new) (O.taken out.new) (O.fault_count out.new))

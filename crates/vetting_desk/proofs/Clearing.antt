@@ -3,7 +3,7 @@ use Rattle.std.proofs.Common.{◌≡◌, ℕ, suc, zero, ◌<◌, List, [], ◌�
 use Rattle.std.specs.Option.{option_map}
 use Rattle.std.proofs.lemmas.Option.{same_Some}
 use Rattle.vet_base.specs.Outside.{Told}
-use Rattle.desk_words.specs.Words.{Words, Check, Certify, Recheck, Make}
+use Rattle.desk_words.specs.Words.{Words, Check, Certify, Recheck, Story, Make}
 use Rattle.cert_report.specs.declared.refusal.CertRefusal.{CertRefusal}
 use Rattle.cert_report.specs.Refusal.{refusal_text}
 use Rattle.verdict.specs.declared.outcome.Outcome.{Outcome}
@@ -18,9 +18,10 @@ use Rattle.app_folder.specs.Due.{Due}
 use Rattle.app_folder.specs.FolderDue.{FolderDue, Checks}
 use Rattle.app_folder.specs.Outside.{Tells, Outside}
 use Rattle.vetting_desk.specs.Answer.{Answers, SaysClear, TellsClear, IsSafe}
-use Rattle.vetting_desk.specs.Due.{read_fault_text, absent_text, too_long_text}
+use Rattle.vetting_desk.specs.Due.{read_fault_text, absent_text, storied_text, too_long_text}
 use Rattle.vetting_desk.specs.Found.{TheDue}
-use Rattle.vetting_desk.specs.PartsDue.{Certifies, Rechecks, RechecksBy}
+use Rattle.vetting_desk.specs.PartsDue.{Certifies, Rechecks, RechecksBy, Retells}
+use Rattle.flow_story.specs.declared.line.StoryLine.{StoryLine}
 use Rattle.vetting_desk.specs.Top.{ComesToSay, Ends, TakesClear}
 
 -- The third byte of `clear` is an `e`, which is that of no other text.
@@ -45,6 +46,7 @@ tells_third None text tells = absurd tells
 tells_third (Some (Check dir n)) text tells = begun tells.0 text tells.1
 tells_third (Some (Certify dir path)) text tells = begun tells.0 text tells.1
 tells_third (Some (Recheck dir path)) text tells = begun tells.0 text tells.1
+tells_third (Some (Story dir)) text tells = begun tells.0 text tells.1
 tells_third (Some (Make seed size n)) text tells = absurd tells
 
 clear_outcome : (outcome : Outcome) → third (report_text outcome) ≡ 101 → status_of outcome ≡ 0
@@ -89,6 +91,18 @@ clear_rechecked path told parts _ (Rechecks.absent holds) same = absurd (no_abse
 clear_rechecked path told parts _ (Rechecks.too_long holds) same = absurd (no_length path same)
 clear_rechecked path told parts _ (Rechecks.read bytes due holds short by) same = clear_by bytes parts due by same
 
+-- the report stands first where stories stand behind it
+clear_storied_text : (outcome : Outcome) (stories : Option (List (List StoryLine))) → third (storied_text outcome stories) ≡ 101 → status_of outcome ≡ 0
+unfolding flagged_text undecided_text refused_text counted_line
+clear_storied_text outcome None same = clear_outcome outcome same
+clear_storied_text Clear (Some stories) same = refl
+clear_storied_text (Flagged findings) (Some stories) same = absurd (below 97 101 (lit< tt) same)
+clear_storied_text (Undecided causes findings) (Some stories) same = absurd (below 100 101 (lit< tt) same)
+clear_storied_text (Refused part reason) (Some stories) same = absurd (above 102 101 (lit< tt) same)
+
+clear_storied : (parts : Parts) (due : Due) → Retells parts due → third due.text ≡ 101 → due.status ≡ 0
+clear_storied parts _ (Retells.stories outcome stories tells) same = clear_storied_text outcome stories same
+
 clear_folder : (PartsDue : Parts → Due → Type 0) (dir : List ℕ) (told : Option Told) (due : Due)
     → ((parts : Parts) (d : Due) → PartsDue parts d → third d.text ≡ 101 → d.status ≡ 0)
     → FolderDue PartsDue dir told due → third due.text ≡ 101 → due.status ≡ 0
@@ -106,6 +120,8 @@ clear_due words tells _ text (Answers.certify dir path due e is) told same =
     subst (λ (w : Option Words). SaysClear w due.status) (sym e) (clear_folder (Certifies path) dir tells.files due (clear_certified path) is same)
 clear_due words tells _ text (Answers.recheck dir path due e is) told same =
     subst (λ (w : Option Words). SaysClear w due.status) (sym e) (clear_folder (Rechecks path tells.files) dir tells.files due (clear_rechecked path tells.files) is same)
+clear_due words tells _ text (Answers.story dir due e is) told same =
+    subst (λ (w : Option Words). SaysClear w due.status) (sym e) (clear_folder Retells dir tells.files due clear_storied is same)
 clear_due words tells _ text (Answers.make seed size n judged e is) told same =
     absurd (subst (λ (w : Option Words). TellsClear w text) e told)
 

@@ -1,5 +1,5 @@
 -- From what is found of a folder to what is due to the words.
-use Rattle.std.proofs.Common.{◌≡◌, ◌≤◌, ◌⊎◌, inl, inr, ℕ, List, Option, Some, None, Result, Ok, Err, refl, sym, subst, arith}
+use Rattle.std.proofs.Common.{◌≡◌, ◌≤◌, ◌⊎◌, inl, inr, ℕ, List, [], Option, Some, None, Result, Ok, Err, append-nil, refl, sym, subst, arith}
 use Rattle.std.specs.Prelude.{IfOk, IsTrue, is_some, string_bytes}
 use Rattle.vet_base.specs.Outside.{Told, held_by}
 use Rattle.vet_base.specs.declared.memory.Memory.{Memory as NoMemory}
@@ -13,18 +13,20 @@ use Rattle.vetting_desk.specs.declared.finding.Found.{Found}
 use Rattle.vetting_desk.specs.declared.finding.Found.TheVariants.{Said, ReadFault, Memory}
 use Rattle.app_folder.specs.declared.folder.Halt.{Halt}
 use Rattle.app_folder.specs.declared.folder.Halt.TheVariants as halts
-use Rattle.desk_words.specs.Words.{Words, Check, Certify, Recheck}
+use Rattle.desk_words.specs.Words.{Words, Check, Certify, Recheck, Story}
 use Rattle.app_folder.specs.Folder.{IsFileIn}
-use Rattle.vetting_desk.specs.Answer.{Answers, HasSafeApp, SaysClear, IsSafe, HasFullReport, SaysFound, IsFullReport, IsFileOf}
+use Rattle.vetting_desk.specs.Answer.{Answers, Alike, HasSafeApp, SaysClear, IsSafe, HasFullReport, SaysFound, IsFullReport, IsFileOf}
 use Rattle.app_folder.specs.Due.{Due, reported}
-use Rattle.vetting_desk.specs.Due.{usage, due_of}
+use Rattle.vetting_desk.specs.Due.{SameButStories, usage, due_of}
 use Rattle.app_folder.specs.FolderDue.{FolderDue, Checks}
-use Rattle.vetting_desk.specs.PartsDue.{Certifies, Rechecks}
-use Rattle.vetting_desk.specs.Found.{FindsOfParts, FindsDue, IsFound, FindsByFile, said, halted}
+use Rattle.vetting_desk.specs.PartsDue.{Certifies, Rechecks, Retells}
+use Rattle.vetting_desk.specs.Found.{FindsOfParts, FindsStories, FindsDue, IsFound, FindsByFile, said, halted}
 use Rattle.app_folder.specs.Outside.{Tells}
 use Rattle.app_folder.specs.Reading.{GathersTold, GathersAs, Leaves, FailsAt}
 use Rattle.app_folder.proofs.Holding.{holds_parts}
-use Rattle.app_folder.proofs.OneFolder.{only_of_parts, only_of_refusal}
+use Rattle.app_folder.proofs.OneFolder.{one_gathered, only_of_parts, only_of_refusal}
+use Rattle.verdict_report.specs.Report.{report_text}
+use Rattle.vet_base.proofs.Results.{one_ok, ok_or_err}
 
 abbrev tells_of : Option Told → Option (List ℕ) → Tells
 tells_of told printed = record { files = told; printed = printed }
@@ -34,6 +36,7 @@ tells_of told printed = record { files = told; printed = printed }
 pub record AsksOf (words : Option Words) (dir : List ℕ) (told : Option Told) (PartsDue : Parts → Due → Type 0) : Type 0 where
   pub answers : (printed : Option (List ℕ)) (due : Due) → FolderDue PartsDue dir told due → Answers words (tells_of told printed) due
   pub only : (printed : Option (List ℕ)) (due : Due) → Answers words (tells_of told printed) due → FolderDue PartsDue dir told due
+  pub alike : (printed : Option (List ℕ)) (due other : Due) → FolderDue PartsDue dir told due → other ≡ due → Alike words (tells_of told printed) due other
   pub clear : (status : ℕ) → SaysClear words status → status ≡ 0
   pub safe : (printed : Option (List ℕ)) → HasSafeApp dir told → IsSafe words (tells_of told printed)
   pub found : (status : ℕ) → SaysFound words status → (status ≡ 1) ⊎ (status ≡ 2)
@@ -45,6 +48,7 @@ only_check dir n told printed _ (Answers.no_command e) = absurd cc
 only_check dir n told printed _ (Answers.check other k due e is) = let same : dir ≡ other = cc in subst (λ (d : List ℕ). FolderDue Checks d told due) (sym same) is
 only_check dir n told printed _ (Answers.certify other path due e is) = absurd cc
 only_check dir n told printed _ (Answers.recheck other path due e is) = absurd cc
+only_check dir n told printed _ (Answers.story other due e is) = absurd cc
 only_check dir n told printed _ (Answers.make seed size workers judged e is) = absurd cc
 
 only_certify : (dir path : List ℕ) (told : Option Told) (printed : Option (List ℕ)) (due : Due) → Answers (Some (Certify dir path)) (tells_of told printed) due → FolderDue (Certifies path) dir told due
@@ -55,6 +59,7 @@ only_certify dir path told printed _ (Answers.certify other path2 due e is) =
     let same_path : path ≡ path2 = cc in
     subst (λ (d : List ℕ). FolderDue (Certifies path) d told due) (sym same) (subst (λ (p : List ℕ). FolderDue (Certifies p) other told due) (sym same_path) is)
 only_certify dir path told printed _ (Answers.recheck other path2 due e is) = absurd cc
+only_certify dir path told printed _ (Answers.story other due e is) = absurd cc
 only_certify dir path told printed _ (Answers.make seed size workers judged e is) = absurd cc
 
 only_recheck : (dir path : List ℕ) (told : Option Told) (printed : Option (List ℕ)) (due : Due) → Answers (Some (Recheck dir path)) (tells_of told printed) due → FolderDue (Rechecks path told) dir told due
@@ -65,12 +70,29 @@ only_recheck dir path told printed _ (Answers.recheck other path2 due e is) =
     let same : dir ≡ other = cc in
     let same_path : path ≡ path2 = cc in
     subst (λ (d : List ℕ). FolderDue (Rechecks path told) d told due) (sym same) (subst (λ (p : List ℕ). FolderDue (Rechecks p told) other told due) (sym same_path) is)
+only_recheck dir path told printed _ (Answers.story other due e is) = absurd cc
 only_recheck dir path told printed _ (Answers.make seed size workers judged e is) = absurd cc
+
+only_story : (dir : List ℕ) (told : Option Told) (printed : Option (List ℕ)) (due : Due) → Answers (Some (Story dir)) (tells_of told printed) due → FolderDue Retells dir told due
+only_story dir told printed _ (Answers.no_command e) = absurd cc
+only_story dir told printed _ (Answers.check other n due e is) = absurd cc
+only_story dir told printed _ (Answers.certify other path due e is) = absurd cc
+only_story dir told printed _ (Answers.recheck other path due e is) = absurd cc
+only_story dir told printed _ (Answers.story other due e is) = let same : dir ≡ other = cc in subst (λ (d : List ℕ). FolderDue Retells d told due) (sym same) is
+only_story dir told printed _ (Answers.make seed size workers judged e is) = absurd cc
+
+-- what is due where stories are asked for is like itself
+like_itself : (dir : List ℕ) (told : Option Told) (due other : Due) → FolderDue Retells dir told due → other ≡ due → SameButStories due other
+like_itself dir told _ other (FolderDue.refused refusal is) same =
+    record { outcome = outcomes.Refused refusal.0 refusal.1; first = None; second = None; one_is = refl; other_is = same; as_many = refl }
+like_itself dir told _ other (FolderDue.given parts _ gathers (Retells.stories outcome stories tells)) same =
+    record { outcome = outcome; first = stories; second = stories; one_is = refl; other_is = same; as_many = refl }
 
 pub check_asks : (dir : List ℕ) (n : ℕ) (told : Option Told) → AsksOf (Some (Check dir n)) dir told Checks
 check_asks dir n told = record {
   answers = λ printed due is. Answers.check dir n due refl is;
   only = only_check dir n told;
+  alike = λ printed due other is same. sym same;
   clear = λ status zero. zero;
   safe = λ printed has. has;
   found = λ status is. is;
@@ -82,6 +104,7 @@ pub certify_asks : (dir path : List ℕ) (told : Option Told) → AsksOf (Some (
 certify_asks dir path told = record {
   answers = λ printed due is. Answers.certify dir path due refl is;
   only = only_certify dir path told;
+  alike = λ printed due other is same. sym same;
   clear = λ status zero. zero;
   safe = λ printed has. has;
   found = λ status is. is;
@@ -93,6 +116,7 @@ pub recheck_asks : (dir path : List ℕ) (told : Option Told) → AsksOf (Some (
 recheck_asks dir path told = record {
   answers = λ printed due is. Answers.recheck dir path due refl is;
   only = only_recheck dir path told;
+  alike = λ printed due other is same. sym same;
   clear = λ status zero. zero;
   safe = λ printed has. has;
   found = λ status is. is;
@@ -100,12 +124,26 @@ recheck_asks dir path told = record {
   file = λ name is. inl is;
 }
 
+pub story_asks : (dir : List ℕ) (told : Option Told) → AsksOf (Some (Story dir)) dir told Retells
+story_asks dir told = record {
+  answers = λ printed due is. Answers.story dir due refl is;
+  only = only_story dir told;
+  alike = λ printed due other is same. (is, like_itself dir told due other is same);
+  clear = λ status zero. zero;
+  safe = λ printed has. has;
+  found = λ status is. is;
+  full = λ printed status text has. record { report = text; rest = []; text = sym (append-nil text); full = has };
+  file = λ name is. is;
+}
+
 -- what is found of the parts that the folder gives is due
 finds_due : (forms : OneFormOrFault) (words : Option Words) (dir : List ℕ) (told : Option Told) (PartsDue : Parts → Due → Type 0) → AsksOf words dir told PartsDue
     → (Sure : Type 0) → (IsTrue (is_some told) → Sure) → (parts : Parts) (due : Due) → GathersTold told dir (Ok parts) → FindsOfParts Sure PartsDue parts due → FindsDue words told due
 finds_due forms words dir told PartsDue asks Sure sure parts due gathers finds = λ printed. record {
   answers = asks.answers printed due (FolderDue.given parts due gathers finds.is);
-  only = λ tells other is. only_of_parts forms dir told PartsDue parts due gathers tells (finds.only (sure tells)) other (asks.only printed other is);
+  only = λ tells other is.
+      asks.alike printed due other (FolderDue.given parts due gathers finds.is)
+      (only_of_parts forms dir told PartsDue parts due gathers tells (finds.only (sure tells)) other (asks.only printed other is));
   safe = λ clear. asks.safe printed (record { parts = parts; holds = λ tells. holds_parts (held_by told) dir parts (gathers tells); safe = finds.safe (asks.clear due.status clear) });
   full = λ found.
       let all = finds.full (asks.found due.status found) in
@@ -122,7 +160,9 @@ finds_refusal : (forms : OneFormOrFault) (words : Option Words) (dir : List ℕ)
     → (part : Part) (reason : Reason) → GathersTold told dir (Err (part, reason)) → FindsDue words told (reported (outcomes.Refused part reason))
 finds_refusal forms words dir told PartsDue asks part reason gathers = λ printed. record {
   answers = asks.answers printed (reported (outcomes.Refused part reason)) (FolderDue.refused (part, reason) gathers);
-  only = λ tells other is. only_of_refusal forms dir told PartsDue (part, reason) gathers tells other (asks.only printed other is);
+  only = λ tells other is.
+      asks.alike printed (reported (outcomes.Refused part reason)) other (FolderDue.refused (part, reason) gathers)
+      (only_of_refusal forms dir told PartsDue (part, reason) gathers tells other (asks.only printed other is));
   safe = λ clear. let zero : 3 ≡ 0 = asks.clear 3 clear in absurd (omega (arith, zero));
   full = λ found. absurd (no_finding 3 (omega arith) (asks.found 3 found));
 }
@@ -133,10 +173,11 @@ only_usage tells _ (Answers.no_command e) = refl
 only_usage tells _ (Answers.check dir n due e is) = absurd cc
 only_usage tells _ (Answers.certify dir path due e is) = absurd cc
 only_usage tells _ (Answers.recheck dir path due e is) = absurd cc
+only_usage tells _ (Answers.story dir due e is) = absurd cc
 only_usage tells _ (Answers.make seed size workers judged e is) = absurd cc
 
 pub finds_usage : (told : Option Told) → FindsDue None told usage
-finds_usage told = λ printed. record { answers = Answers.no_command refl; only = λ tells other is. only_usage (tells_of told printed) other is; safe = λ clear. clear; full = λ found. found }
+finds_usage told = λ printed. record { answers = Answers.no_command refl; only = λ tells other is. sym (only_usage (tells_of told printed) other is); safe = λ clear. clear; full = λ found. found }
 
 -- what was found of the parts
 pub found_said : (forms : OneFormOrFault) (words : Option Words) (dir : List ℕ) (told : Option Told) (PartsDue : Parts → Due → Type 0) → AsksOf words dir told PartsDue
@@ -146,6 +187,39 @@ pub found_said : (forms : OneFormOrFault) (words : Option Words) (dir : List ℕ
 found_said forms words dir told PartsDue asks parts new before after (Ok answer) gathers finds same count =
     (finds_due forms words dir told PartsDue asks (Unit {0}) (λ tells. tt) parts (due_of answer) gathers finds, same, count)
 found_said forms words dir told PartsDue asks parts new before after (Err e) gathers finds same count = (same, count)
+
+-- what is due to a folder where stories are asked for is so of the parts that it gives
+of_parts : (forms : OneFormOrFault) (dir : List ℕ) (told : Option Told) (parts : Parts) (due : Due)
+    → GathersTold told dir (Ok parts) → IsTrue (is_some told) → ((other : Due) → Retells parts other → SameButStories due other)
+    → (other : Due) → FolderDue Retells dir told other → SameButStories due other
+of_parts forms dir told parts due gathers tells only _ (FolderDue.refused refusal is) =
+    absurd (ok_or_err (Ok parts) parts refusal refl (one_gathered forms (held_by told) dir (Ok parts) (Err refusal) (gathers tells) (is tells)))
+of_parts forms dir told parts due gathers tells only _ (FolderDue.given parts2 due2 is has) =
+    let same : parts ≡ parts2 = one_ok (Ok parts) parts parts2 refl (one_gathered forms (held_by told) dir (Ok parts) (Ok parts2) (gathers tells) (is tells)) in
+    only due2 (subst (λ (p : Parts). Retells p due2) (sym same) has)
+
+-- the stories of the parts that the folder gives are due
+finds_story : (forms : OneFormOrFault) (dir : List ℕ) (told : Option Told) (parts : Parts) (due : Due) → GathersTold told dir (Ok parts) → FindsStories parts due → FindsDue (Some (Story dir)) told due
+finds_story forms dir told parts due gathers finds = λ printed. record {
+  answers = Answers.story dir due refl (FolderDue.given parts due gathers finds.is);
+  only = λ tells other is. (FolderDue.given parts due gathers finds.is, of_parts forms dir told parts due gathers tells finds.only other (only_story dir told printed other is));
+  safe = λ clear. record { parts = parts; holds = λ tells. holds_parts (held_by told) dir parts (gathers tells); safe = finds.safe clear };
+  full = λ found.
+      let all = finds.full found in
+      record {
+        report = report_text all.outcome;
+        rest = all.rest;
+        text = all.text;
+        full = record { parts = parts; holds = λ tells. holds_parts (held_by told) dir parts (gathers tells); outcome = all.outcome; status = all.status; text = refl; tells = all.tells };
+      };
+}
+
+-- what stories were found of the parts
+pub found_stories : (forms : OneFormOrFault) (dir : List ℕ) (told : Option Told) (parts : Parts) (new : Option Told) (before after : ℕ) (answer : Result Answer NoMemory)
+    → GathersTold told dir (Ok parts) → IfOk answer (λ a. FindsStories parts (due_of a)) → new ≡ told → after ≡ before
+    → IsFound (Some (Story dir)) told new before after (said answer)
+found_stories forms dir told parts new before after (Ok answer) gathers finds same count = (finds_story forms dir told parts (due_of answer) gathers finds, same, count)
+found_stories forms dir told parts new before after (Err e) gathers finds same count = (same, count)
 
 -- the parts could not be had
 pub found_halted : (forms : OneFormOrFault) (words : Option Words) (dir : List ℕ) (told : Option Told) (PartsDue : Parts → Due → Type 0) → AsksOf words dir told PartsDue

@@ -7,7 +7,7 @@ use Rattle.vetting_desk.specs.declared.answer.Status.{Status}
 use Rattle.vetting_desk.specs.declared.answer.Answer.{Answer}
 use Rattle.vetting_desk.specs.declared.finding.Found.{Found}
 use Rattle.vetting_desk.specs.declared.finding.Found.TheVariants.{Said, ReadFault, Memory}
-use Rattle.desk_words.specs.Words.{Words, Check, Certify, Recheck, Make}
+use Rattle.desk_words.specs.Words.{Words, Check, Certify, Recheck, Story, Make}
 use Rattle.vetting_desk.specs.Answer.{SaysClear, IsSafe, SaysFound, IsFullReport}
 use Rattle.app_folder.specs.Due.{Due, NewFile}
 use Rattle.vetting_desk.specs.Due.{due_of, read_fault_text}
@@ -164,7 +164,7 @@ pub ends_as_due : (words : Option Words) (old new : Outside) (n : ℕ) → Ends 
 ends_as_due words old new n ends = ends_as words old new n (λ due is. is.answers) ends
 
 pub ends_as_only_due : (words : Option Words) (old new : Outside) (n : ℕ) → Ends (TheDue words old.tells) words old new n → EndsAsOnlyDue words old new n
-ends_as_only_due words old new n ends told other answers = ends_as words old new n (λ due is. sym (is.only told other answers)) ends
+ends_as_only_due words old new n ends told other answers = ends_as words old new n (λ due is. is.only told other answers) ends
 
 -- the status of a fault never says clear, nor that something was found
 fault_or_clear : (words : Option Words) (n : ℕ) → 5 ≤ n → SaysClear words n → ⊥
@@ -172,6 +172,7 @@ fault_or_clear None n fault clear = clear
 fault_or_clear (Some (Check dir workers)) n fault zero = omega (arith, fault, zero)
 fault_or_clear (Some (Certify dir path)) n fault zero = omega (arith, fault, zero)
 fault_or_clear (Some (Recheck dir path)) n fault zero = omega (arith, fault, zero)
+fault_or_clear (Some (Story dir)) n fault zero = omega (arith, fault, zero)
 fault_or_clear (Some (Make seed size workers)) n fault zero = omega (arith, fault, zero)
 
 one_or_two : (n : ℕ) → 5 ≤ n → (n ≡ 1) ⊎ (n ≡ 2) → ⊥
@@ -183,6 +184,7 @@ fault_or_found None n fault found = found
 fault_or_found (Some (Check dir workers)) n fault found = one_or_two n fault found
 fault_or_found (Some (Certify dir path)) n fault found = one_or_two n fault found
 fault_or_found (Some (Recheck dir path)) n fault found = one_or_two n fault found
+fault_or_found (Some (Story dir)) n fault found = one_or_two n fault found
 fault_or_found (Some (Make seed size workers)) n fault found = found
 
 comes_to_safe : (words : Option Words) (old new : Outside) (n : ℕ) (text : List ℕ) → ComesToSay (TheDue words old.tells) words old new n text → SaysClear words n → IsSafe words old.tells

@@ -34,6 +34,7 @@ only_made seed size n judged tells one _ (Answers.no_command e) = absurd cc
 only_made seed size n judged tells one _ (Answers.check dir k due e is) = absurd cc
 only_made seed size n judged tells one _ (Answers.certify dir path due e is) = absurd cc
 only_made seed size n judged tells one _ (Answers.recheck dir path due e is) = absurd cc
+only_made seed size n judged tells one _ (Answers.story dir due e is) = absurd cc
 only_made seed size n judged tells one _ (Answers.make seed2 size2 n2 judged2 e is) =
     let same_seed : seed ≡ seed2 = cc in
     let same_size : size ≡ size2 = cc in
@@ -64,7 +65,7 @@ finds_made {E} seed size n parts judged due told same is safe one says =
     let At : Due → Type 0 = λ d. FindsDue (Some (Make seed size n)) told d in
     subst At (sym says) (λ printed. record {
       answers = Answers.make seed size n judged refl (subst AtParts same is);
-      only = λ tells other answers. only_made seed size n judged (record { files = told; printed = printed }) one_here other answers;
+      only = λ tells other answers. sym (only_made seed size n judged (record { files = told; printed = printed }) one_here other answers);
       safe = λ clear. subst SafeParts same (safe (made_clear size (rows_in judged) judged.outcome clear));
       full = λ found. absurd found;
     })

@@ -1,8 +1,9 @@
-pub mod PartsDue
 pub mod ByFile
 pub mod Clearing
 pub mod Commands
 pub mod Ending
 pub mod Generated
+pub mod PartsDue
+pub mod Stories
 pub mod Writes
 pub mod Writing

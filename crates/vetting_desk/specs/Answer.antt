@@ -1,5 +1,5 @@
--- What is due to the words; when that says clear, and what clear says; and which files a command reads.
-use Rattle.std.specs.Prelude.{◌≡◌, ◌⊎◌, ℕ, List, ◌++◌, length, Option, Some, None, IsTrue, is_some, codes}
+-- What is due to the words, and how far that is one thing; when it says clear, and what clear says; and which files a command reads.
+use Rattle.std.specs.Prelude.{◌≡◌, ◌⊎◌, ◌++◌, ℕ, List, length, Option, Some, None, IsTrue, is_some, codes}
 use Rattle.std.specs.Option.{option_map}
 use Rattle.vet_base.specs.Outside.{Told, held_by}
 use Rattle.verdict.specs.declared.outcome.Judged.{Judged}
@@ -10,12 +10,12 @@ use Rattle.verdict.specs.Outcome.{status_of}
 use Rattle.verdict_report.specs.Report.{report_text}
 use Rattle.verdict.specs.Tells.{IsFollowed, TellsOfApp}
 use Rattle.verdict.specs.Verdict.{Judgement, IsSafeApp}
-use Rattle.desk_words.specs.Words.{Words, Check, Certify, Recheck, Make}
+use Rattle.desk_words.specs.Words.{Words, Check, Certify, Recheck, Story, Make}
 use Rattle.app_folder.specs.Due.{Due, reported}
-use Rattle.vetting_desk.specs.Due.{usage, summarised}
+use Rattle.vetting_desk.specs.Due.{SameButStories, summarised, usage}
 use Rattle.app_folder.specs.Folder.{Holds, IsFileIn}
 use Rattle.app_folder.specs.FolderDue.{FolderDue, Checks}
-use Rattle.vetting_desk.specs.PartsDue.{Certifies, Rechecks}
+use Rattle.vetting_desk.specs.PartsDue.{Certifies, Rechecks, Retells}
 use Rattle.vetting_desk.specs.Made.{made_parts}
 use Rattle.app_folder.specs.Outside.{Tells}
 
@@ -33,7 +33,18 @@ pub data Answers (words : Option Words) (tells : Tells) : Due → Type 0 where
   check : (dir : List ℕ) (n : ℕ) (due : Due) → words ≡ Some (Check dir n) → FolderDue Checks dir tells.files due → Answers words tells due
   certify : (dir cert : List ℕ) (due : Due) → words ≡ Some (Certify dir cert) → FolderDue (Certifies cert) dir tells.files due → Answers words tells due
   recheck : (dir cert : List ℕ) (due : Due) → words ≡ Some (Recheck dir cert) → FolderDue (Rechecks cert tells.files) dir tells.files due → Answers words tells due
+  story : (dir : List ℕ) (due : Due) → words ≡ Some (Story dir) → FolderDue Retells dir tells.files due → Answers words tells due
   make : (seed size n : ℕ) (judged : Judged) → words ≡ Some (Make seed size n) → Judgement (made_parts seed size) judged → Answers words tells (due_to_made size (option_map (λ rows. length rows) judged.table) judged.outcome)
+
+-- Of two that are due to the words the one is the other; where stories are asked for, the one has right stories, and but for them is
+-- the other.
+abbrev pub Alike : Option Words → Tells → Due → Due → Type 0
+Alike None tells one other = one ≡ other
+Alike (Some (Check dir n)) tells one other = one ≡ other
+Alike (Some (Certify dir cert)) tells one other = one ≡ other
+Alike (Some (Recheck dir cert)) tells one other = one ≡ other
+Alike (Some (Story dir)) tells one other = FolderDue Retells dir tells.files one × SameButStories one other
+Alike (Some (Make seed size n)) tells one other = one ≡ other
 
 -- The soundness of `clear`: these parts make a safe app. Where the files of the folder are told, they hold these parts.
 pub record HasSafeApp (dir : List ℕ) (told : Option Told) : Type 0 where
@@ -51,6 +62,7 @@ SaysClear None status = ⊥
 SaysClear (Some (Check dir n)) status = status ≡ 0
 SaysClear (Some (Certify dir cert)) status = status ≡ 0
 SaysClear (Some (Recheck dir cert)) status = status ≡ 0
+SaysClear (Some (Story dir)) status = status ≡ 0
 SaysClear (Some (Make seed size n)) status = status ≡ 0
 
 -- the text begins with the word `clear`, be it cut off behind it; `make` prints a summary, and no such text
@@ -59,6 +71,7 @@ TellsClear None text = ⊥
 TellsClear (Some (Check dir n)) text = BeginsWith (codes "clear") text
 TellsClear (Some (Certify dir cert)) text = BeginsWith (codes "clear") text
 TellsClear (Some (Recheck dir cert)) text = BeginsWith (codes "clear") text
+TellsClear (Some (Story dir)) text = BeginsWith (codes "clear") text
 TellsClear (Some (Make seed size n)) text = ⊥
 
 -- the words name a safe app
@@ -67,6 +80,7 @@ IsSafe None tells = ⊥
 IsSafe (Some (Check dir n)) tells = HasSafeApp dir tells.files
 IsSafe (Some (Certify dir cert)) tells = HasSafeApp dir tells.files
 IsSafe (Some (Recheck dir cert)) tells = HasSafeApp dir tells.files
+IsSafe (Some (Story dir)) tells = HasSafeApp dir tells.files
 IsSafe (Some (Make seed size n)) tells = IsSafeApp (made_parts seed size)
 
 -- The text is the report of an outcome of these parts, which leaves out nothing that a run of their app does, unless the app is
@@ -79,12 +93,20 @@ pub record HasFullReport (dir : List ℕ) (told : Option Told) (n : ℕ) (printe
   pub text : printed ≡ report_text outcome
   pub tells : IsFollowed outcome → TellsOfApp parts outcome
 
+-- the text begins with such a report
+pub record BeginsWithFullReport (dir : List ℕ) (told : Option Told) (n : ℕ) (printed : List ℕ) : Type 0 where
+  pub report : List ℕ
+  pub rest : List ℕ
+  pub text : printed ≡ report ++ rest
+  pub full : HasFullReport dir told n report
+
 -- the status says that the app of the words is flagged or undecided, and a report is printed
 abbrev pub SaysFound : Option Words → ℕ → Type 0
 SaysFound None status = ⊥
 SaysFound (Some (Check dir n)) status = (status ≡ 1) ⊎ (status ≡ 2)
 SaysFound (Some (Certify dir cert)) status = (status ≡ 1) ⊎ (status ≡ 2)
 SaysFound (Some (Recheck dir cert)) status = (status ≡ 1) ⊎ (status ≡ 2)
+SaysFound (Some (Story dir)) status = (status ≡ 1) ⊎ (status ≡ 2)
 SaysFound (Some (Make seed size n)) status = ⊥
 
 -- the text leaves out nothing of the app that the words name
@@ -93,6 +115,7 @@ IsFullReport None tells status text = ⊥
 IsFullReport (Some (Check dir n)) tells status text = HasFullReport dir tells.files status text
 IsFullReport (Some (Certify dir cert)) tells status text = HasFullReport dir tells.files status text
 IsFullReport (Some (Recheck dir cert)) tells status text = HasFullReport dir tells.files status text
+IsFullReport (Some (Story dir)) tells status text = BeginsWithFullReport dir tells.files status text
 IsFullReport (Some (Make seed size n)) tells status text = ⊥
 
 -- the command reads the file of this name
@@ -101,4 +124,5 @@ IsFileOf None name = ⊥
 IsFileOf (Some (Check dir n)) name = IsFileIn dir name
 IsFileOf (Some (Certify dir cert)) name = IsFileIn dir name
 IsFileOf (Some (Recheck dir cert)) name = IsFileIn dir name ⊎ (name ≡ cert)
+IsFileOf (Some (Story dir)) name = IsFileIn dir name
 IsFileOf (Some (Make seed size n)) name = ⊥

@@ -1,5 +1,5 @@
 -- What is found of the words and the files before anything is written or printed.
-use Rattle.std.specs.Prelude.{◌≡◌, ◌⊎◌, ℕ, List, Option, Some, None, Result, Ok, Err, String, string_bytes, IsTrue, is_some}
+use Rattle.std.specs.Prelude.{◌≡◌, ◌⊎◌, ◌++◌, ℕ, List, Option, Some, None, Result, Ok, Err, String, string_bytes, IsTrue, is_some}
 use Rattle.std.specs.declared.alloc.Global.{Global}
 use Rattle.vet_base.specs.Outside.{HasRisen, Told}
 use Rattle.vet_base.specs.declared.outside.FileFault.{FileFault}
@@ -25,10 +25,10 @@ use Rattle.vetting_desk.specs.declared.finding.Found.TheVariants.{Said, ReadFaul
 use Rattle.app_folder.specs.declared.folder.Halt.{Halt}
 use Rattle.app_folder.specs.declared.folder.Halt.TheVariants as halts
 use Rattle.desk_words.specs.Words.{Words}
-use Rattle.vetting_desk.specs.Answer.{Answers, SaysClear, IsSafe, SaysFound, IsFullReport, IsFileOf}
+use Rattle.vetting_desk.specs.Answer.{Answers, Alike, SaysClear, IsSafe, SaysFound, IsFullReport, IsFileOf}
 use Rattle.app_folder.specs.Due.{Due, NewFile, reported}
-use Rattle.vetting_desk.specs.Due.{certified, due_of, read_fault_text}
-use Rattle.vetting_desk.specs.PartsDue.{digest_of, Rechecks}
+use Rattle.vetting_desk.specs.Due.{SameButStories, certified, due_of, read_fault_text}
+use Rattle.vetting_desk.specs.PartsDue.{digest_of, Rechecks, Retells}
 use Rattle.app_folder.specs.Outside.{Tells, TellsInput}
 use Rattle.app_folder.specs.Reading.{TellsRead, SameFiles}
 
@@ -47,15 +47,31 @@ pub record FindsOfParts (Sure : Type 0) (PartsDue : Parts → Due → Type 0) (p
   pub safe : due.status ≡ 0 → IsSafeApp parts
   pub full : (due.status ≡ 1) ⊎ (due.status ≡ 2) → ReportsAll parts due
 
+-- the text begins with such a report
+pub record BeginsReportingAll (parts : Parts) (due : Due) : Type 0 where
+  pub outcome : Outcome
+  pub rest : List ℕ
+  pub status : due.status ≡ status_of outcome
+  pub text : due.text ≡ report_text outcome ++ rest
+  pub tells : IsFollowed outcome → TellsOfApp parts outcome
+
+-- What is found of parts of which stories are asked for: what is due, and that nothing else is but other stories; that clear is sound, and
+-- that flagged and undecided leave out nothing.
+pub record FindsStories (parts : Parts) (due : Due) : Type 0 where
+  pub is : Retells parts due
+  pub only : (other : Due) → Retells parts other → SameButStories due other
+  pub safe : due.status ≡ 0 → IsSafeApp parts
+  pub full : (due.status ≡ 1) ⊎ (due.status ≡ 2) → BeginsReportingAll parts due
+
 -- the report, with the certificate of the table where there is one
 abbrev pub CertifiedAs : List ℕ → Parts → Outcome → Option (List Row) → Due → Type 0
 CertifiedAs path parts outcome None due = due ≡ reported outcome
 CertifiedAs path parts outcome (Some rows) due = (bytes : List ℕ) × IsCert bytes (digest_of parts) rows × (due ≡ certified outcome path bytes)
 
--- the due to the words, with that there is one, and with what it says of the app
+-- the due to the words, with that each is alike, and with what it says of the app
 pub record TheDue (words : Option Words) (tells : Tells) (due : Due) : Type 0 where
   pub answers : Answers words tells due
-  pub only : TellsInput tells → (other : Due) → Answers words tells other → other ≡ due
+  pub only : TellsInput tells → (other : Due) → Answers words tells other → Alike words tells due other
   pub safe : SaysClear words due.status → IsSafe words tells
   pub full : SaysFound words due.status → IsFullReport words tells due.status due.text
 

@@ -1,4 +1,4 @@
--- What is due to parts that are certified, and to parts that are checked by a certificate.
+-- What is due to parts that are certified, to parts that are checked by a certificate, and to parts of which stories are told.
 use Rattle.std.specs.Prelude.{◌≡◌, ◌≢◌, ◌≤◌, ◌<◌, ℕ, List, ◌∷◌, length, Option, Some, None, IsSomeAnd, IsTrue, is_some}
 use Rattle.sha2.specs.Sha256.{sha256}
 use Rattle.vet_base.specs.Outside.{Told, held_by}
@@ -20,7 +20,8 @@ use Rattle.verdict.specs.declared.parts.Parts.{Parts}
 use Rattle.verdict.specs.Recheck.{Rejudgement}
 use Rattle.verdict.specs.Verdict.{Judgement}
 use Rattle.app_folder.specs.Due.{Due, reported}
-use Rattle.vetting_desk.specs.Due.{certified, no_certificate, long_certificate, uncertified}
+use Rattle.vetting_desk.specs.Due.{certified, no_certificate, long_certificate, storied, uncertified}
+use Rattle.app_stories.specs.Stories.{Story, Tells}
 
 -- the digest of the parts
 abbrev pub digest_of : Parts → List ℕ
@@ -58,3 +59,7 @@ pub data Rechecks (path : List ℕ) (told : Option Told) (parts : Parts) : Due �
   absent : FileTold told path (λ file. file ≡ None) → Rechecks path told parts (no_certificate path)
   too_long : FileTold told path (λ file. IsSomeAnd file (λ bytes. 536870912 < length bytes)) → Rechecks path told parts (long_certificate path)
   read : (bytes : List ℕ) (due : Due) → FileTold told path (λ file. file ≡ Some bytes) → length bytes ≤ 536870912 → RechecksBy bytes parts due → Rechecks path told parts due
+
+-- Parts of which stories are told: the report, and where there is a table a story of each finding.
+pub data Retells (parts : Parts) : Due → Type 0 where
+  stories : (outcome : Outcome) (stories : Option (List Story)) → Tells parts outcome stories → Retells parts (storied outcome stories)

@@ -6,7 +6,7 @@ use Rattle.vet_base.specs.declared.outside.FileFault.{FileFault}
 use Rattle.vet_base.specs.declared.outside.FileFault.TheVariants as faults
 use Rattle.vetting_desk.specs.declared.answer.Status.{Status}
 use Rattle.desk_words.specs.Words.{Words}
-use Rattle.vetting_desk.specs.Answer.{Answers, IsFullReport, TellsClear}
+use Rattle.vetting_desk.specs.Answer.{Alike, Answers, IsFullReport, TellsClear}
 use Rattle.app_folder.specs.Due.{Due, NewFile}
 use Rattle.vetting_desk.specs.Due.{read_fault_text}
 use Rattle.vetting_desk.specs.declared.finding.Found.{Found}
@@ -72,9 +72,9 @@ pub data Ends (IsDue : Due → Type 0) (words : Option Words) (old new : Outside
 abbrev pub EndsAsDue : Option Words → Outside → Outside → ℕ → Type 0
 EndsAsDue words old new n = Ends (Answers words old.tells) words old new n
 
--- Where what is read is told, it ends with each due: there is one.
+-- Where what is read is told, it ends with what is like each due: there is one, but that of a finding there may be several right stories.
 abbrev pub EndsAsOnlyDue : Option Words → Outside → Outside → ℕ → Type 0
-EndsAsOnlyDue words old new n = TellsInput old.tells → (due : Due) → Answers words old.tells due → Ends (λ d. d ≡ due) words old new n
+EndsAsOnlyDue words old new n = TellsInput old.tells → (due : Due) → Answers words old.tells due → Ends (λ d. Alike words old.tells d due) words old new n
 
 -- the text that was printed leaves out nothing
 pub record PrintsFullReport (words : Option Words) (old new : Outside) (status : ℕ) : Type 0 where

@@ -2,12 +2,14 @@
 
 ghost use Rattle.std.specs.Prelude.{◌≡◌, ◌++◌, codes, IfOk};
 ghost use Rattle.vetting_desk.specs.Due.{usage_text, read_fault_text, behind_slashes};
-ghost use Rattle.vetting_desk.specs.Due.{last_part, absent_text, too_long_text, due_of};
+ghost use Rattle.vetting_desk.specs.Due.{last_part, absent_text, too_long_text, storied_text, due_of};
 
 use crate::summary::summary;
 use cert_report::{CertRefusal, report_refusal};
+use flow_story::Story;
 use printed_text::{put, put_name};
 use std::alloc::Global;
+use story_report::put_stories;
 use verdict::{Outcome, status_for};
 use verdict_report::report;
 use vet_base::{Memory, Seq};
@@ -33,6 +35,8 @@ pub enum Answer {
     LongCertificate(String),
     /// The certificate is refused.
     Uncertified(CertRefusal),
+    /// What the folder comes to, and a story for each finding, where there is a table.
+    Storied(Outcome, Option<Seq<Story>>),
     /// What a generated app with so many drawn methods comes to, and how many rows follow, unless they are too many.
     Made(u32, Option<usize>, Outcome),
 }
@@ -48,6 +52,7 @@ pub fn status_saying(answer: &Answer) -> Status
         Answer::NoCertificate(_) => Status(3),
         Answer::LongCertificate(_) => Status(3),
         Answer::Uncertified(_) => Status(9),
+        Answer::Storied(outcome, _) => Status(status_for(outcome)),
         Answer::Made(_, _, outcome) => Status(status_for(outcome)),
     }
 }
@@ -98,6 +103,21 @@ fn too_long(alloc: Global, path: &str) -> Result<Vec<u8>, Memory>
     Ok(text)
 }
 
+/// The report, and the stories, if there are any to be told.
+fn storied(
+    alloc: Global,
+    outcome: &Outcome,
+    stories: &Option<Seq<Story>>,
+) -> Result<Vec<u8>, Memory>
+    ensures { IfOk result (λ text. text.items ≡ storied_text outcome.now stories.now) }
+{
+    let mut text = report(alloc, outcome)?;
+    if let Some(stories) = stories {
+        put_stories(alloc, &mut text, stories.as_slice())?;
+    }
+    Ok(text)
+}
+
 /// The text that says the answer. It ends with one line feed.
 pub fn text_saying(alloc: Global, answer: &Answer) -> Result<Vec<u8>, Memory>
     ensures { IfOk result (λ text. text.items ≡ (due_of answer.now).text) }
@@ -109,6 +129,7 @@ pub fn text_saying(alloc: Global, answer: &Answer) -> Result<Vec<u8>, Memory>
         Answer::NoCertificate(path) => absent(alloc, path.as_str()),
         Answer::LongCertificate(path) => too_long(alloc, path.as_str()),
         Answer::Uncertified(refusal) => report_refusal(alloc, refusal),
+        Answer::Storied(outcome, stories) => storied(alloc, outcome, stories),
         Answer::Made(size, rows, outcome) => summary(alloc, *size, *rows, outcome),
     }
 }

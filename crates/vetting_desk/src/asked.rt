@@ -6,11 +6,12 @@ ghost use Rattle.verdict.specs.Table.{IsTable};
 ghost use Rattle.vetting_desk.specs.Due.{due_of};
 ghost use Rattle.app_folder.specs.FolderDue.{Checks};
 ghost use Rattle.vetting_desk.specs.PartsDue.{Certifies, RechecksBy, digest_of, refusal_of, rechecked};
-ghost use Rattle.vetting_desk.specs.Found.{FindsOfParts, CertifiedAs, IsUnreadable};
+ghost use Rattle.vetting_desk.specs.Found.{FindsOfParts, FindsStories, CertifiedAs, IsUnreadable};
 ghost use Rattle.app_folder.specs.Reading.{AreShort};
 
 use crate::answer::Answer;
 use crate::certificates::{certificate_of, digest_of, same_digest};
+use app_stories::judge_with_stories;
 use cert_report::CertRefusal;
 use certificate::{Cert, CertFault, certificates_keep_their_laws, read_cert};
 use fact_rows::Row;
@@ -34,6 +35,18 @@ pub fn checked<T: Threads + Wait + Sync, L: Lookout>(
 {
     let judged = judge(alloc, parts, crew)?;
     Ok(Answer::Vetted(judged.outcome))
+}
+
+/// What parts come to, with a story for each finding.
+pub fn storied<T: Threads + Wait + Sync, L: Lookout>(
+    alloc: Global,
+    parts: &Parts,
+    crew: &Crew<'_, T, L>,
+) -> Result<Answer, Memory>
+    ensures { IfOk result (λ a. FindsStories parts.now (due_of a)) }
+{
+    let told = judge_with_stories(alloc, parts, crew)?;
+    Ok(Answer::Storied(told.outcome, told.stories))
 }
 
 /// The path of a certificate and its bytes.

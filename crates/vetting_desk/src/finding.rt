@@ -2,12 +2,12 @@
 
 ghost use Rattle.std.specs.Prelude.{◌≡◌, ◌<◌, ◌≤◌, ℕ, Option, Some, map, string_bytes};
 ghost use Rattle.vet_base.specs.Outside.{Told};
-ghost use Rattle.desk_words.specs.Words.{Check, Certify, Recheck, Make, parse};
+ghost use Rattle.desk_words.specs.Words.{Check, Certify, Recheck, Story, Make, parse};
 ghost use Rattle.vetting_desk.specs.Found.{IsFound, FindsByFile, said, halted, unread};
 ghost use Rattle.app_folder.specs.Reading.{AreShort};
 
 use crate::answer::Answer;
-use crate::asked::{certified, checked, rechecked};
+use crate::asked::{certified, checked, rechecked, storied};
 use crate::making::made;
 use app_folder::{Halt, parts_in};
 use desk_words::{Vetting, vetting_in};
@@ -139,6 +139,23 @@ fn found_by_recheck<F: Files>(
     }
 }
 
+/// What `story` finds in a folder.
+fn found_by_story<F: Files, T: Threads + Wait + Sync, L: Lookout>(
+    alloc: Global,
+    dir: &str,
+    files: &mut F,
+    crew: &Crew<'_, T, L>,
+) -> Found
+    ensures { IsFound (Some (Story dir.now)) (F.told files.old) (F.told files.new)
+        (F.fault_count files.old) (F.fault_count files.new) result }
+{
+    one_form_or_fault();
+    match parts_in(alloc, files, dir) {
+        Ok(parts) => said(storied(alloc, &parts, &crew.of(1))),
+        Err(halt) => halted(halt),
+    }
+}
+
 /// What `make` finds, whatever the files tell.
 fn found_by_make<T: Threads + Wait + Sync, L: Lookout>(
     alloc: Global,
@@ -171,6 +188,7 @@ pub fn found_in<F: Files, T: Threads + Wait + Sync, L: Lookout>(
         Some(Vetting::Check(dir, workers)) => found_by_check(alloc, dir, workers, files, crew),
         Some(Vetting::Certify(dir, path)) => found_by_certify(alloc, dir, path, files, crew),
         Some(Vetting::Recheck(dir, path)) => found_by_recheck(alloc, dir, path, files, crew.seed),
+        Some(Vetting::Story(dir)) => found_by_story(alloc, dir, files, crew),
         Some(Vetting::Make(app_seed, size, workers)) => {
             found_by_make(alloc, app_seed, size, workers, crew)
         }

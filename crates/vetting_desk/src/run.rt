@@ -69,6 +69,7 @@ fn write_due<F: Files>(alloc: Global, files: &mut F, answer: &Answer) -> Result<
         Answer::NoCertificate(_) => Ok(()),
         Answer::LongCertificate(_) => Ok(()),
         Answer::Uncertified(_) => Ok(()),
+        Answer::Storied(_, _) => Ok(()),
         Answer::Made(_, _, _) => Ok(()),
     }
 }
@@ -135,9 +136,10 @@ fn run<F: Files, O: Sink, T: Threads + Wait + Sync, L: Lookout>(
 ///
 /// The words are `check DIR WORKERS`, which judges the app in a folder; `certify DIR CERT`, which also writes the table
 /// of what follows in the app to a file, as a certificate, before it prints; `recheck DIR CERT`, which judges the app
-/// by the table of a certificate that anyone may have made; or `make SEED SIZE WORKERS`, which judges an app that is
-/// drawn from a seed, and prints a summary in place of the report: how many methods, rows and findings there are, and
-/// the outcome's word. Where an app is refused or too large no certificate is written.
+/// by the table of a certificate that anyone may have made; `story DIR`, which judges as `check` does with one worker,
+/// and prints a story of each finding behind the report; or `make SEED SIZE WORKERS`, which judges an app that is drawn
+/// from a seed, and prints a summary in place of the report: how many methods, rows and findings there are, and the
+/// outcome's word. Where an app is refused or too large no certificate is written, and no story is told.
 ///
 /// The status is:
 /// - 0, clear: the folder that the words name gives the parts of an app that is safe, that is, no run of the machine
@@ -157,8 +159,8 @@ fn run<F: Files, O: Sink, T: Threads + Wait + Sync, L: Lookout>(
 /// - 9: the certificate is refused: its bytes are none, or it is about other files, or its table is no table of the app
 ///   that holds all that follows. A line that says which is printed.
 ///
-/// The crew finds what follows in an app: `check` and `make` with WORKERS workers, from 1 to 16, `certify` with as many
-/// as it has. No answer depends on it, or on how its workers take turns.
+/// The crew finds what follows in an app: `check` and `make` with WORKERS workers, from 1 to 16, `story` with one, and
+/// `certify` with as many as it has. No answer depends on it, or on how its workers take turns.
 pub fn vet<F: Files, O: Sink, T: Threads + Wait + Sync, L: Lookout>(
     alloc: Global,
     words: &[String],
@@ -172,7 +174,7 @@ pub fn vet<F: Files, O: Sink, T: Threads + Wait + Sync, L: Lookout>(
         (outside (F.told files.old) (F.fault_count files.old) (O.taken out.old) (O.fault_count out.old))
         (outside (F.told files.new) (F.fault_count files.new) (O.taken out.new) (O.fault_count out.new)) result.0 }
 
-    // Nothing else is due, where the files tell what they hold.
+    // Nothing else is due, where the files tell what they hold, but that a finding may have several right stories.
     ensures only { EndsAsOnlyDue (parse (map string_bytes words.now))
         (outside (F.told files.old) (F.fault_count files.old) (O.taken out.old) (O.fault_count out.old))
         (outside (F.told files.new) (F.fault_count files.new) (O.taken out.new) (O.fault_count out.new)) result.0 }

@@ -1,0 +1,104 @@
+-- From the table of an app to what is told of its parts.
+use Rattle.std.proofs.Common.{◌≡◌, List, [], ◌∷◌, ◌++◌, Option, Some, None, refl, sym, ap, subst, ◌∙◌}
+use Rattle.std.proofs.lemmas.Option.{none-some, same_Some}
+use Rattle.app_flow.specs.declared.flow.Flow.{Flow}
+use Rattle.app_flow.specs.declared.flow.Flow.TheVariants.{Rows, TooLarge}
+use Rattle.app_flow.specs.Flow.{AreDerivable, IsFlow, all_rows, too_large}
+use Rattle.app_machine.specs.declared.app.App.{App}
+use Rattle.app_machine.specs.declared.lists.Lists.{Lists}
+use Rattle.app_machine.specs.declared.papers.Declaration.{Declaration}
+use Rattle.fact_rows.specs.declared.row.Row.{Row}
+use Rattle.outcomes.specs.declared.outcome.Cause.{Cause}
+use Rattle.outcomes.specs.declared.outcome.Finding.{Finding}
+use Rattle.outcomes.specs.Causes.{causes_of}
+use Rattle.outcomes.specs.Findings.{findings_of}
+use Rattle.verdict.specs.declared.linking.Linked.{Linked}
+use Rattle.verdict.specs.declared.outcome.Judged.{Judged}
+use Rattle.verdict.specs.declared.outcome.Outcome.{Outcome}
+use Rattle.verdict.specs.declared.outcome.Outcome.TheVariants.{Refused}
+use Rattle.verdict.specs.declared.papers.Refusal.{Refusal}
+use Rattle.verdict.specs.declared.parts.Parts.{Parts}
+use Rattle.verdict.specs.Linked.{IsLinked, causes_beside}
+use Rattle.verdict.specs.OneVerdict.{LowerLaws, OnlyJudgement, RefusesOnly}
+use Rattle.verdict.specs.Outcome.{findings_in, outcome_of}
+use Rattle.verdict.specs.Verdict.{ComesTo, judged_by, Judgement, refused, refusal}
+use Rattle.verdict.proofs.OneVerdict.{judged_only}
+use Rattle.verdict.proofs.Outcomes.{judgement_on}
+use Rattle.app_stories.specs.Stories.{Story, AreStoriesOf, Tells, alone, told, StoriesBy, HasStories, ComesToStories, OneJudgement}
+
+findings_told : (causes : List Cause) (items : List Finding) → findings_in (outcome_of causes items) ≡ items
+findings_told [] [] = refl
+findings_told [] (f ∷ fs) = refl
+findings_told (c ∷ cs) fs = refl
+
+-- the table has what is derivable, and the findings are those of its rows
+pub record IsOfTable (app : App) (lists : Lists) (declaration : Declaration) (outcome : Outcome) (rows : List Row) : Type 0 where
+  pub derivable : AreDerivable app lists rows
+  pub findings : findings_in outcome ≡ findings_of app lists declaration rows
+
+pub of_table : (app : App) (lists : Lists) (declaration : Declaration) (beside : List Cause) (judged : Judged) (rows : List Row) →
+    ComesTo app lists declaration beside judged → judged.table ≡ Some rows → IsOfTable app lists declaration judged.outcome rows
+of_table app lists declaration beside judged rows comes is = by_flow comes.flow comes.is_flow comes.same
+  where
+    by_flow : (flow : Flow) → IsFlow app lists flow → judged ≡ judged_by app lists declaration beside flow → IsOfTable app lists declaration judged.outcome rows
+    by_flow (Rows rs) (all_rows derivable few) same =
+        let there : Some rs ≡ Some rows = sym (ap (λ (j : Judged). j.table) same) ∙ is in
+        let e : rs ≡ rows = same_Some rs rows there in
+        record {
+          derivable = subst (AreDerivable app lists) e derivable;
+          findings =
+              ap (λ (j : Judged). findings_in j.outcome) same
+              ∙ findings_told (causes_of app rs ++ beside) (findings_of app lists declaration rs) ∙ ap (findings_of app lists declaration) e;
+        }
+    by_flow (TooLarge limit) f same =
+        let there : None ≡ Some rows = sym (ap (λ (j : Judged). j.table) same) ∙ is in
+        absurd (none-some rows there)
+
+-- stories of the findings of the rows are those of the outcome
+pub stories_with : (linked : Linked) (judged : Judged) (rows : List Row) (stories : List Story) → judged.table ≡ Some rows →
+    IsOfTable linked.app linked.papers.lists linked.papers.declaration judged.outcome rows →
+    AreStoriesOf linked.app linked.papers.lists linked.papers.declaration rows (findings_of linked.app linked.papers.lists linked.papers.declaration rows) stories →
+    HasStories linked judged (Some stories)
+stories_with linked judged rows stories is of are =
+    let P : List Finding → Type 0 = λ fs. AreStoriesOf linked.app linked.papers.lists linked.papers.declaration rows fs stories in
+    subst (λ (table : Option (List Row)). StoriesBy linked judged.outcome table (Some stories)) (sym is) (subst P (sym of.findings) are)
+
+pub stories_without : (linked : Linked) (judged : Judged) → judged.table ≡ None → HasStories linked judged None
+stories_without linked judged is = subst (λ (table : Option (List Row)). StoriesBy linked judged.outcome table None) (sym is) tt
+
+-- what an app comes to with stories
+pub comes_with : (linked : Linked) (judged : Judged) (outcome : Outcome) (stories : Option (List Story)) →
+    ComesTo linked.app linked.papers.lists linked.papers.declaration (causes_beside linked) judged → outcome ≡ judged.outcome → HasStories linked judged stories →
+    ComesToStories linked outcome stories
+comes_with linked judged outcome stories comes same has = record {
+  table = judged.table;
+  comes = subst (λ (o : Outcome). ComesTo linked.app linked.papers.lists linked.papers.declaration (causes_beside linked) (record { outcome = o; table = judged.table })) (sym same) comes;
+  told = subst (λ (o : Outcome). StoriesBy linked o judged.table stories) (sym same) has;
+}
+
+-- what is said of the app is said of the parts
+pub tells_parts : (parts : Parts) (linked : Linked) (outcome : Outcome) (stories : Option (List Story)) → IsLinked parts linked → ComesToStories linked outcome stories → Tells parts outcome stories
+tells_parts parts linked outcome stories is comes = by_table comes.table stories comes.comes comes.told
+  where
+    by_table : (table : Option (List Row)) (stories : Option (List Story)) →
+        ComesTo linked.app linked.papers.lists linked.papers.declaration (causes_beside linked) (record { outcome = outcome; table = table }) →
+        StoriesBy linked outcome table stories → Tells parts outcome stories
+    by_table None None comes by = alone outcome (judgement_on parts linked (record { outcome = outcome; table = None }) is comes)
+    by_table None (Some stories) comes by = absurd by
+    by_table (Some rows) None comes by = absurd by
+    by_table (Some rows) (Some stories) comes by = told outcome rows linked stories (judgement_on parts linked (record { outcome = outcome; table = Some rows }) is comes) is by
+
+pub one_of_only : (parts : Parts) (judged : Judged) → OnlyJudgement parts judged → OneJudgement parts
+one_of_only parts judged only one other is too = only one is ∙ sym (only other too)
+
+pub one_judgement : LowerLaws → (parts : Parts) (linked : Linked) (outcome : Outcome) (stories : Option (List Story)) → IsLinked parts linked → ComesToStories linked outcome stories → OneJudgement parts
+one_judgement laws parts linked outcome stories is comes =
+    let judged : Judged = record { outcome = outcome; table = comes.table } in
+    one_of_only parts judged (judged_only laws parts linked judged is (judgement_on parts linked judged is comes.comes))
+
+-- a refusal
+pub refused_with : (parts : Parts) (r : Refusal) → RefusesOnly parts r.part r.reason → Tells parts (Refused r.part r.reason) None
+refused_with parts r this = alone (Refused r.part r.reason) (refused r.part r.reason this.refuses)
+
+pub one_refusal : (parts : Parts) (r : Refusal) → RefusesOnly parts r.part r.reason → OneJudgement parts
+one_refusal parts r this = one_of_only parts (refusal r.part r.reason) this.only

@@ -1,0 +1,180 @@
+//! What the parts of an app come to, with a story for each finding.
+ghost use Rattle.std.specs.Prelude.{◌≡◌, IfErr, IfOk};
+ghost use Rattle.app_flow.specs.Flow.{AreDerivable};
+ghost use Rattle.app_machine.specs.Sound.{SoundApp};
+ghost use Rattle.app_machine.specs.SoundLists.{SoundLists};
+ghost use Rattle.outcomes.specs.Findings.{findings_of};
+ghost use Rattle.verdict.specs.Halts.{Halts};
+ghost use Rattle.verdict.specs.Linked.{IsLinked, causes_beside};
+ghost use Rattle.verdict.specs.OneVerdict.{RefusesOnly};
+ghost use Rattle.verdict.specs.Tells.{IsFollowed, TellsAll, TellsOfApp};
+ghost use Rattle.verdict.specs.Verdict.{ComesTo, IsSafeApp};
+ghost use Rattle.app_stories.specs.Stories.{AreStoriesOf, ComesToStories, HasStories, OneJudgement, Tells};
+
+use crate::stories::stories_of;
+use fact_rows::Row;
+use finding_rows::first_arrivals;
+use flow_proof::rules_stay_in_app;
+use flow_story::Story;
+use rule_sets::app_rules_are_a_rule_set;
+use std::alloc::Global;
+use std::marker::Sync;
+use std::sync::Wait;
+use std::thread::Threads;
+use verdict::{
+    FlowRows, Halt, Judged, Linked, Outcome, Parts, judge_linked, linked_parts, lower_laws,
+};
+use vet_base::{Memory, Seq, Stop};
+use worker_pool::{Crew, Lookout};
+
+/// What the parts of an app come to, and a story for each finding, in their order. There are no stories where there is
+/// no table: where the parts are refused, or the app is too large.
+#[derive(Drop)]
+pub struct Told {
+    pub outcome: Outcome,
+    pub stories: Option<Seq<Story>>,
+}
+
+/// Gives back the memory of an app and of its papers. Where that stands beside what is known of them, it is dear to
+/// prove.
+fn give_back(_linked: Linked) {}
+
+/// The stories of the findings that the rows tell.
+#[tactic(auto, using(crate::proofs::Gathered::rows_are_within, crate::proofs::Gathered::goals_there))]
+fn stories_by_rows(
+    alloc: Global,
+    linked: &Linked,
+    rows: &[Row],
+    seed: u64,
+) -> Result<Seq<Story>, Memory>
+    requires sound { SoundApp linked.now.app }
+    requires lists { SoundLists linked.now.papers.lists }
+    requires derivable { AreDerivable linked.now.app linked.now.papers.lists rows.now }
+    ensures { IfOk result (λ stories. AreStoriesOf linked.now.app linked.now.papers.lists
+        linked.now.papers.declaration rows.now (findings_of linked.now.app linked.now.papers.lists
+        linked.now.papers.declaration rows.now) stories) }
+{
+    rules_stay_in_app();
+    app_rules_are_a_rule_set();
+    let papers = &linked.papers;
+    let goals = first_arrivals(alloc, &linked.app, &papers.lists, &papers.declaration, rows)?;
+    let stories = stories_of(alloc, &linked.app, &papers.lists, rows, &goals, seed)?;
+    Ok(Seq::from_vec(stories))
+}
+
+/// The same by the table.
+fn stories_by_table(
+    alloc: Global,
+    linked: &Linked,
+    table: FlowRows,
+    seed: u64,
+) -> Result<Seq<Story>, Memory>
+    requires sound { SoundApp linked.now.app }
+    requires lists { SoundLists linked.now.papers.lists }
+    requires derivable { AreDerivable linked.now.app linked.now.papers.lists table }
+    ensures { IfOk result (λ stories. AreStoriesOf linked.now.app linked.now.papers.lists
+        linked.now.papers.declaration table (findings_of linked.now.app linked.now.papers.lists
+        linked.now.papers.declaration table) stories) }
+{
+    let rows = table.into_ascending(alloc)?;
+    stories_by_rows(alloc, linked, rows.as_slice(), seed)
+}
+
+/// What an app comes to, with its stories where there is a table.
+#[tactic(auto, using(crate::proofs::Coming::of_table, crate::proofs::Coming::stories_with, crate::proofs::Coming::stories_without))]
+fn with_stories(alloc: Global, linked: &Linked, judged: Judged, seed: u64) -> Result<Told, Memory>
+    requires sound { SoundApp linked.now.app }
+    requires lists { SoundLists linked.now.papers.lists }
+    requires comes { ComesTo linked.now.app linked.now.papers.lists linked.now.papers.declaration
+        (causes_beside linked.now) judged }
+    ensures outcome { IfOk result (λ t. t.outcome ≡ judged.outcome) }
+    ensures stories { IfOk result (λ t. HasStories linked.now judged t.stories) }
+{
+    let Judged { outcome, table } = judged;
+    let stories = match table {
+        None => None,
+        Some(rows) => Some(stories_by_table(alloc, linked, rows, seed)?),
+    };
+    Ok(Told { outcome, stories })
+}
+
+/// What a linked app comes to, with its stories.
+#[tactic(auto, using(crate::proofs::Coming::comes_with))]
+fn told_of<T: Threads + Wait + Sync, L: Lookout>(
+    alloc: Global,
+    linked: &Linked,
+    crew: &Crew<'_, T, L>,
+) -> Result<Told, Memory>
+    requires sound { SoundApp linked.now.app }
+    requires lists { SoundLists linked.now.papers.lists }
+    ensures value { IfOk result (λ t. ComesToStories linked.now t.outcome t.stories) }
+    ensures told { IfOk result (λ t. IsFollowed t.outcome → TellsAll linked.now.app linked.now.papers.lists
+        linked.now.papers.declaration t.outcome) }
+{
+    let judged = judge_linked(alloc, linked, crew)?;
+    with_stories(alloc, linked, judged, crew.seed)
+}
+
+/// The same of an app that nothing else is asked about.
+fn told_once<T: Threads + Wait + Sync, L: Lookout>(
+    alloc: Global,
+    linked: Linked,
+    crew: &Crew<'_, T, L>,
+) -> Result<Told, Memory>
+    requires sound { SoundApp linked.app }
+    requires lists { SoundLists linked.papers.lists }
+    ensures value { IfOk result (λ t. ComesToStories linked t.outcome t.stories) }
+    ensures told { IfOk result (λ t. IsFollowed t.outcome → TellsAll linked.app linked.papers.lists
+        linked.papers.declaration t.outcome) }
+{
+    let told = told_of(alloc, &linked, crew);
+    give_back(linked);
+    told
+}
+
+#[tactic(auto, using(verdict::proofs::Outcomes::tells_of_parts, crate::proofs::Coming::tells_parts, crate::proofs::Coming::one_judgement))]
+fn told_parts<T: Threads + Wait + Sync, L: Lookout>(
+    alloc: Global,
+    parts: &Parts,
+    crew: &Crew<'_, T, L>,
+) -> Result<Told, Halt>
+    ensures value { IfOk result (λ t. Tells parts.now t.outcome t.stories) }
+    ensures one { IfOk result (λ t. OneJudgement parts.now) }
+    ensures told { IfOk result (λ t. IsFollowed t.outcome → TellsOfApp parts.now t.outcome) }
+    ensures err { IfErr result (λ h. Halts (RefusesOnly parts.now) h) }
+{
+    lower_laws();
+    let linked = linked_parts(alloc, parts)?;
+    match told_once(alloc, linked, crew) {
+        Ok(told) => Ok(told),
+        Err(Memory) => Err(Stop::Memory),
+    }
+}
+
+/// What the parts of an app come to, as `judge` of `verdict` says it, and for each finding the story of the first row
+/// of the table that tells it: lines of which each is a start or follows from lines before it, by the rules of the app,
+/// with no line too many.
+#[tactic(auto, using(verdict::proofs::Outcomes::no_followed_refusal, verdict::proofs::Outcomes::clear_is_safe, crate::proofs::Coming::refused_with, crate::proofs::Coming::one_refusal))]
+pub fn judge_with_stories<T: Threads + Wait + Sync, L: Lookout>(
+    alloc: Global,
+    parts: &Parts,
+    crew: &Crew<'_, T, L>,
+) -> Result<Told, Memory>
+    ensures value { IfOk result (λ t. Tells parts.now t.outcome t.stories) }
+
+    // The parts come to nothing else.
+    ensures one { IfOk result (λ t. OneJudgement parts.now) }
+
+    // Unless the parts are refused or the app is too large, the outcome leaves out nothing that a run does.
+    ensures told { IfOk result (λ t. IsFollowed t.outcome → TellsOfApp parts.now t.outcome) }
+    ensures safe { IfOk result (λ t. t.outcome ≡ Outcome.Clear → IsSafeApp parts.now) }
+{
+    match told_parts(alloc, parts, crew) {
+        Ok(told) => Ok(told),
+        Err(Stop::Memory) => Err(Memory),
+        Err(Stop::Fault(refusal)) => Ok(Told {
+            outcome: Outcome::Refused(refusal.part, refusal.reason),
+            stories: None,
+        }),
+    }
+}

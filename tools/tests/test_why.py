@@ -1,0 +1,107 @@
+"""Stories as they are read, and as ways from source to sink: `tools/why`, and ways in pages and SARIF."""
+from __future__ import annotations
+
+import json
+import unittest
+
+from tests.support import EXAMPLES, ToolCase, expected
+from vet_tools.report import ReportFault
+from vet_tools.story import StoryLine, parse, parse_stories
+
+NAME = "device_id_posted"
+PLACE = "La/Main;->onCreate(Landroid/os/Bundle;)V"
+# The story of the example, by hand: event 1 of component 0 runs method 0, whose call at 0 uses row 12 of the lists and
+# whose call at 4 uses row 13; the device id is category 0, the network category 2, the register of results 65,536.
+NODE = "00000000000100000000000000{:02x}000000"
+STORY = "".join(f"{line}\n" for line in (
+    "story 10",
+    "1 start: 0e0000000000",
+    "2 rule 40 from 1: 0e0000000001",
+    f"3 rule 40 from 2: 01{NODE.format(0)}",
+    f"4 rule 1 from 3: 01{NODE.format(3)}",
+    f"5 rule 27 from 3: 14{NODE.format(0)}000c000000",
+    f"6 rule 1 from 4: 01{NODE.format(4)}",
+    f"7 rule 35 from 5: 03{NODE.format(3)}000001000000",
+    f"8 rule 27 from 6: 14{NODE.format(4)}000d000000",
+    f"9 rule 3 from 7: 03{NODE.format(4)}000000000000",
+    f"10 rule 31 from 8 9: 120002{NODE.format(4)}"))
+WAY = f"""device_id -> network at {PLACE} @4
+    what goes to network: argument 1 (v0)
+   1. device_id is taken
+        at   {PLACE} @0
+        0000 invoke-static {{}}, Lvendor/Device;->id()Ljava/lang/String;
+   2. it goes to network
+        at   {PLACE} @4
+        0004 invoke-static {{v0}}, Lvendor/Net;->post(Ljava/lang/Object;)V
+"""
+
+
+class Reading(unittest.TestCase):
+    def test_a_story_is_read_line_by_line(self) -> None:
+        story, = parse_stories(STORY)
+        self.assertEqual(StoryLine(0, (), (14, 0, 0)), story.line(1))
+        self.assertEqual(StoryLine(31, (8, 9), (18, 0, 2, 0, 0, 1, 0, 4)), story.line(10))
+
+    def test_a_report_stands_before_its_stories(self) -> None:
+        _, answer = expected()[NAME]
+        one, stories = parse(answer + STORY)
+        self.assertEqual((answer, 1), (str(one), len(stories)))
+        self.assertEqual([], parse("clear\n")[1])
+        with self.assertRaisesRegex(ReportFault, "1 findings and 2 stories"):
+            parse(answer + STORY + STORY)
+
+    def test_what_is_no_story_is_refused(self) -> None:
+        for old, new in (("story 10", "story 11"), ("story 10", "story 9"), ("story 10", "story 0"),
+                         ("2 rule 40 from 1", "2 rule 40 from 2"), ("2 rule 40 from 1", "2 rule 40 from 0"),
+                         ("10 rule 31 from 8 9", "10 rule 31 from 1 2 3 8 9"), ("4 rule", "5 rule"),
+                         ("1 start", "1 begin"), ("0e0000000000\n", "0e00000000\n"), ("0e0000000000\n", "ff\n"),
+                         ("0e0000000000\n", "0e000000000000\n"), ("from 8 9", "from 8  9"), ("from 8 9", "from 8 9 "),
+                         (": 12", ": 13")):
+            with self.subTest(old=old, new=new), self.assertRaises(ReportFault):
+                parse_stories(STORY.replace(old, new))
+
+
+class Ways(ToolCase):
+    def test_a_way_goes_from_where_the_value_is_taken_to_where_it_goes(self) -> None:
+        status, answer = expected()[NAME]
+        self.answer(NAME, status, answer + STORY)
+        for words in ([], ["--story", "-"]):
+            done = self.run_tool("why", str(EXAMPLES / NAME), *words, stdin=answer + STORY)
+            self.assertEqual((status, ""), (done.returncode, done.stderr))
+            self.assertTrue(done.stdout.startswith("flagged 1\nEach way is a derivation"), done.stdout)
+            self.assertTrue(done.stdout.endswith(f"\n\n{WAY}"), done.stdout)
+
+    def test_where_nothing_is_found_there_is_no_way(self) -> None:
+        self.answer("declared", 0, "clear\n")
+        done = self.spawn("why", str(EXAMPLES / "declared"))
+        self.assertEqual((0, "clear\n", ""), (done.returncode, done.stdout, done.stderr))
+
+    def test_methods_that_the_files_do_not_have_are_told_as_no_way(self) -> None:
+        status, answer = expected()[NAME]
+        foreign = STORY.replace(NODE.format(0)[:26], NODE.format(0)[:18] + "ff000000")
+        done = self.run_tool("why", str(EXAMPLES / NAME), "--story", "-", stdin=answer + foreign)
+        self.assertEqual(status, done.returncode)
+        self.assertIn("Its way could not be told", done.stdout)
+
+    def test_sarif_and_page_have_the_way(self) -> None:
+        status, answer = expected()[NAME]
+        self.answer(NAME, status, answer + STORY)
+        report = self.folder / "report.txt"
+        report.write_text(answer)
+        words = [str(EXAMPLES / NAME), "--ways", "--report", str(report)]
+        done = self.run_tool("sarif", *words)
+        self.assertEqual(status, done.returncode, done.stderr)
+        flow, = json.loads(done.stdout)["runs"][0]["results"][0]["codeFlows"]
+        steps = flow["threadFlows"][0]["locations"]
+        self.assertEqual(["device_id is taken", "it goes to network"],
+                         [step["location"]["message"]["text"] for step in steps])
+        page = self.folder / "app.html"
+        done = self.run_tool("page", *words, "-o", str(page))
+        self.assertEqual(status, done.returncode, done.stderr)
+        self.assertIn("device_id is taken", page.read_text())
+        report.write_text(answer.replace("@4", "@5"))
+        self.assertIn("is not the report", self.run_tool("sarif", *words).stderr)
+
+
+if __name__ == "__main__":
+    unittest.main()

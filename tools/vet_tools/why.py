@@ -1,0 +1,67 @@
+"""`tools/why`: how each finding follows, told as a way from source to sink."""
+from __future__ import annotations
+
+import sys
+import textwrap
+
+from vet_tools import report, story
+from vet_tools.command import STATUSES, Words, refuse
+from vet_tools.explain import WIDTH
+from vet_tools.explanation import Explained, Explanation, explain
+from vet_tools.report import NoReport, Outcome, ReportFault
+from vet_tools.way import Step
+
+HEAD = ("Each way is a derivation by the rules of the analysis (docs/RULES.md), and may be no run: the analysis mixes up "
+        "some things on purpose (docs/REPORT.md, \"A finding\"). Moves from register to register are left out.")
+
+
+def _step(number: int, step: Step) -> list[str]:
+    lines = [f"  {number:>2}. {step.says}", f"        at   {step.place}"]
+    if step.instruction is not None:
+        lines.append(f"        {step.instruction.pc:04x} {step.instruction.text}")
+    if step.source_line is not None:
+        lines.append(f"        line {step.source_line}")
+    return lines
+
+
+def finding_text(one: Explained) -> list[str]:
+    """A finding, and below it its way."""
+    lines = [str(one.line), *(f"    {note}" for note in one.notes)]
+    for number, step in enumerate(one.way, 1):
+        lines += _step(number, step)
+    if not one.way:
+        lines.append("    Its way could not be told over these files; vet story has it line by line.")
+    return [*lines, ""]
+
+
+def text(found: Explanation) -> str:
+    """All findings with their ways, in visible ASCII, ending with a line feed."""
+    lines = [found.report.first_line]
+    if found.findings:
+        lines += [*textwrap.wrap(HEAD, WIDTH), ""]
+    elif found.report.outcome is Outcome.UNDECIDED:
+        lines.append("Nothing was found, so there is no way to tell; tools/explain says what is undecided.")
+    lines += [f"Not shown: {fault}" for fault in found.faults]
+    for one in found.findings:
+        lines += finding_text(one)
+    return "\n".join(lines).rstrip("\n") + "\n"
+
+
+def main(arguments: list[str] | None = None) -> int:
+    """The command; the exit status is that of vet."""
+    parser = Words(
+        prog="tools/why", description="Runs vet story and tells of each finding how it follows: where the value is "
+        "taken, stored, read, passed on and sent, each step with its instruction and the source line where the DEX "
+        "file has one.",
+        epilog=f"Example: tools/why examples/alias. {STATUSES}")
+    parser.add_argument("folder", metavar="DIR", help="the folder of an unpacked app")
+    parser.add_argument("--story", metavar="FILE", help="read what vet story printed from FILE (- is the standard "
+                        "input) instead of running vet")
+    words = parser.parse_args(arguments)
+    try:
+        folder = report.app_folder(words.folder)
+        one, stories = story.read_file(words.story) if words.story else story.told(folder)
+    except (ReportFault, NoReport) as fault:
+        return refuse("tools/why", fault)
+    sys.stdout.write(text(explain(one, folder, stories)))
+    return one.outcome.status
