@@ -17,10 +17,10 @@ use Rattle.app_model.specs.EventBodies.{life_event, component_callback, click, h
 use Rattle.app_model.specs.Initialisers.{component_initialisers}
 use Rattle.played_machine.specs.Calling.{code_of}
 use Rattle.played_machine.specs.Coming as coming
-use Rattle.played_machine.specs.Coming.{Event, Receives, Initialiser, lets_begin, may_begin, lived, born, life_coming, callback_coming, click_coming, life_count, initialisations, component_events, handed_coming, handed_events, events, is_of_type, fresh_object, parameter_values, parameter, parameters, receiver, event_frame, begins_with, initialises_with, begun}
+use Rattle.played_machine.specs.Coming.{Event, Receives, Initialiser, lets_begin, may_begin, lived, born, life_coming, callback_coming, click_coming, life_count, initialisations, component_events, handed_coming, handed_events, events, fresh_object, parameter_values, parameter, parameters, receiver, event_frame, begins_with, initialises_with, begun}
 use Rattle.played_machine.specs.Drawing.{Drawing, give, ◌>>=◌, one_of}
 use Rattle.played_machine.specs.Local.{playing}
-use Rattle.played_machine.specs.Reading.{class_at, handed_places}
+use Rattle.played_machine.specs.Reading.{class_at, handed_places, is_of_type}
 use Rattle.played_alike.specs.Alike.{Pairwise, AlikeValue, AlikeObject, AlikeHeap, AlikeFrame, AlikeWorld, AlikePlaying}
 use Rattle.played_alike.proofs.Heaps.{alike_itself, alike_cond, same_class, alike_object, alike_more}
 use Rattle.played_alike.proofs.Local.{with_heap}

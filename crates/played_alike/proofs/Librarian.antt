@@ -1,28 +1,29 @@
 -- Library calls of alike worlds and frames.
-use Rattle.std.proofs.Common.{◌≡◌, ℕ, Bool, true, false, cond, List, [], ◌∷◌, ◌++◌, map, length, Option, Some, None, slice_get, refl, sym, ap, ◌∙◌, subst}
+use Rattle.std.proofs.Common.{◌≡◌, ℕ, Bool, true, false, cond, List, [], ◌∷◌, ◌++◌, map, length, Option, Some, None, slice_get, refl, sym, ap, ◌∙◌, subst, filter, filter_map}
 use Rattle.std.specs.Prelude.{option_to_list}
 use Rattle.vet_base.proofs.Members.{flat_map_agree}
 use Rattle.app_machine.specs.declared.app.App.{App}
 use Rattle.app_machine.specs.declared.lists.Lists.{Lists}
 use Rattle.app_machine.specs.declared.summary.Gives.{Gives}
-use Rattle.app_machine.specs.declared.summary.Gives.TheVariants.{Blank, Same, Taken, Joined, Shared}
+use Rattle.app_machine.specs.declared.summary.Gives.TheVariants.{Blank, Same, Taken, Joined, Shared, Handed}
 use Rattle.app_machine.specs.declared.summary.Summary.{Summary}
 use Rattle.app_machine.specs.Calls.{hand}
 use Rattle.app_machine.specs.Heap.{Value, Object, blank, labelled}
 use Rattle.app_machine.specs.Library.{value_at, shared_named, shared_class, joined_object}
 use Rattle.app_machine.specs.Lookups.{elem_key}
 use Rattle.app_machine.specs.Names.{Name, is_reference, is_void}
-use Rattle.app_machine.specs.State.{shared_static, Arrival, World, Frame, object_at, new_object}
-use Rattle.played_machine.specs.Drawing.{give}
-use Rattle.played_machine.specs.Librarian.{hand_all, arrivals_at, arrivals_of, shared_there, with_shared, joined_labels, joined_value, given_result, result, element_at, elements_at, added_by_puts, added_by_stores, copied, added_by_copies, added, after_call, library_call}
+use Rattle.app_machine.specs.State.{shared_static, Arrival, World, Frame, object_at, new_object, Component_state}
+use Rattle.app_machine.specs.Summaries.{numbers_from}
+use Rattle.played_machine.specs.Drawing.{give, one_of}
+use Rattle.played_machine.specs.Librarian.{hand_all, arrivals_at, arrivals_of, shared_there, with_shared, joined_labels, joined_value, given_result, result, element_at, elements_at, added_by_puts, added_by_stores, copied, added_by_copies, added, after_call, library_call, live_place, live_places, had, given_back}
 use Rattle.played_machine.specs.Local.{got}
 use Rattle.played_machine.specs.Ordered.{sorted, ascending}
-use Rattle.played_machine.specs.Reading.{handed_places, reached}
+use Rattle.played_machine.specs.Reading.{handed_places, reached, class_at, is_of_type}
 use Rattle.played_alike.specs.Alike.{Pairwise, AlikeValue, AlikeObject, AlikeHeap, AlikeValues, AlikeFrame, AlikeWorld}
-use Rattle.played_alike.proofs.Heaps.{alike_itself, alike_write, alike_values, same_reached, AlikeAdded, alike_add_all, alike_object, alike_more}
+use Rattle.played_alike.proofs.Heaps.{alike_itself, alike_write, alike_values, same_reached, AlikeAdded, alike_add_all, alike_object, alike_more, same_class}
 use Rattle.played_alike.proofs.Local.{alike_got}
 use Rattle.played_alike.proofs.Orders.{put_once, handed_next}
-use Rattle.played_alike.proofs.Pairs.{AlikeDrawings, pair_append, pair_length, pair_flat_map, pair_flat_two, alike_give, alike_if, alike_after}
+use Rattle.played_alike.proofs.Pairs.{AlikeDrawings, pair_append, pair_length, pair_flat_map, pair_flat_two, alike_give, alike_if, alike_after, pair_same, alike_one}
 
 -- what is handed
 pub handed_one : (o q : Option ℕ) → o ≡ q → (one other : List ℕ) → handed_places one ≡ handed_places other → handed_places (hand o one) ≡ handed_places (hand q other)
@@ -112,18 +113,34 @@ alike_joined ret heap heap' heaps labels others same = subst (λ ls. AlikeGiven 
     by_type true = (alike_more heap heap' (joined_object ret labels) (joined_object ret labels) heaps (alike_object (joined_object ret labels)), record { place = (new_place heap heap' heaps).place; labels = λ l. (λ h. h, λ h. h) })
     by_type false = (heaps, alike_itself (labelled labels))
 
-module _ (app : App) (before before' : List Object) (befores : AlikeHeap before before') (f g : Frame) (frames : AlikeFrame f g) (places : List ℕ) (source : Option ℕ) (ret : Name) (statics statics' : ℕ → Value) (values : AlikeValues statics statics') (heap heap' : List Object) (heaps : AlikeHeap heap heap') where
-  alike_given_result : (gives : Gives) → AlikeDrawings AlikeGiven (given_result app before f places source ret statics heap gives) (given_result app before' g places source ret statics' heap' gives)
+module _ (app : App) (lists : Lists) (w u : World) (alike : AlikeWorld w u) (handed handed' : List ℕ) (hands : handed_places handed ≡ handed_places handed') (f g : Frame) (frames : AlikeFrame f g) (places : List ℕ) (source : Option ℕ) (ret : Name) (statics statics' : ℕ → Value) (values : AlikeValues statics statics') (heap heap' : List Object) (heaps : AlikeHeap heap heap') where
+  same_live : live_places app w ≡ live_places app u
+  same_live = ap (λ (cs : ℕ → Component_state). filter_map (λ c. live_place (cs c)) (numbers_from 0 (length app.components))) alike.components
+
+  same_had : had app lists w handed ret ≡ had app lists u handed' ret
+  same_had =
+      let classes : class_at w.heap ≡ class_at u.heap = λ i p. same_class w.heap u.heap alike.heap p i in
+      ap (λ (cs : ℕ → Option Name). filter (λ p. is_of_type app lists ret (cs p)) (handed_places handed ++ live_places app w)) classes
+      ∙ (ap (λ ps. filter (λ p. is_of_type app lists ret (class_at u.heap p)) (ps ++ live_places app w)) hands
+      ∙ ap (λ ps. filter (λ p. is_of_type app lists ret (class_at u.heap p)) (handed_places handed' ++ ps)) same_live)
+
+  alike_back : Pairwise AlikeValue (given_back app lists w handed ret) (given_back app lists u handed' ret)
+  alike_back = subst (λ ps. Pairwise AlikeValue (given_back app lists w handed ret) (blank ∷ cond (is_reference ret) (map (λ p. object_at (Some p)) ps) [])) same_had (pair_same AlikeValue alike_itself (given_back app lists w handed ret))
+
+  alike_given_result : (gives : Gives) → AlikeDrawings AlikeGiven (given_result app lists w handed f places source ret statics heap gives) (given_result app lists u handed' g places source ret statics' heap' gives)
   alike_given_result Blank = alike_give AlikeGiven _ _ (heaps, alike_itself blank)
   alike_given_result (Same i) = alike_give AlikeGiven _ _ (heaps, alike_at f g frames places i)
   alike_given_result (Taken i) =
-      alike_after AlikeValue AlikeGiven (got before (value_at f places i) elem_key) (got before' (value_at g places i) elem_key) (λ v. give (heap, v)) (λ v. give (heap', v))
-      (alike_got before before' befores (value_at f places i) (value_at g places i) (alike_at f g frames places i) elem_key) (λ x y one. alike_give AlikeGiven (heap, x) (heap', y) (heaps, one))
+      alike_after AlikeValue AlikeGiven (got w.heap (value_at f places i) elem_key) (got u.heap (value_at g places i) elem_key) (λ v. give (heap, v)) (λ v. give (heap', v))
+      (alike_got w.heap before' befores (value_at f places i) (value_at g places i) (alike_at f g frames places i) elem_key) (λ x y one. alike_give AlikeGiven (heap, x) (heap', y) (heaps, one))
   alike_given_result (Shared i) = alike_give AlikeGiven _ _ (heaps, values (shared_static app i))
-  alike_given_result (Joined from) = alike_give AlikeGiven _ _ (alike_joined ret heap heap' heaps (joined_labels before f places from source) (joined_labels before' g places from source) (same_joined f g frames before before' befores places from source))
+  alike_given_result (Joined from) = alike_give AlikeGiven _ _ (alike_joined ret heap heap' heaps (joined_labels w.heap f places from source) (joined_labels u.heap g places from source) (same_joined f g frames w.heap u.heap alike.heap places from source))
+  alike_given_result Handed =
+      alike_after AlikeValue AlikeGiven (one_of (given_back app lists w handed ret)) (one_of (given_back app lists u handed' ret)) (λ v. give (heap, v)) (λ v. give (heap', v))
+      (alike_one AlikeValue (given_back app lists w handed ret) (given_back app lists u handed' ret) alike_back) (λ x y one. alike_give AlikeGiven (heap, x) (heap', y) (heaps, one))
 
-  alike_result : (gives : Gives) → AlikeDrawings AlikeGiven (result app before f places source ret statics heap gives) (result app before' g places source ret statics' heap' gives)
-  alike_result gives = alike_if AlikeGiven (is_void ret) (give (heap, blank)) (give (heap', blank)) (given_result app before f places source ret statics heap gives) (given_result app before' g places source ret statics' heap' gives)
+  alike_result : (gives : Gives) → AlikeDrawings AlikeGiven (result app lists w handed f places source ret statics heap gives) (result app lists u handed' g places source ret statics' heap' gives)
+  alike_result gives = alike_if AlikeGiven (is_void ret) (give (heap, blank)) (give (heap', blank)) (given_result app lists w handed f places source ret statics heap gives) (given_result app lists u handed' g places source ret statics' heap' gives)
       (alike_give AlikeGiven (heap, blank) (heap', blank) (heaps, alike_itself blank)) (alike_given_result gives)
 
 -- what is added
@@ -178,7 +195,7 @@ module _ (app : App) (lists : Lists) (w u : World) (alike : AlikeWorld w u) (f g
       let one : List Object × (ℕ → Value) = with_shared app lists (shared_named row ret) w.heap w.statics in
       let other : List Object × (ℕ → Value) = with_shared app lists (shared_named row ret) u.heap u.statics in
       let shared : AlikeShared one other = alike_shared app lists (shared_named row ret) w.heap u.heap w.statics u.statics alike.heap alike.statics in
-      alike_after AlikeGiven AlikeCalled (result app w.heap f places row.source ret one.1 one.0 row.gives) (result app u.heap g places row.source ret other.1 other.0 row.gives)
+      alike_after AlikeGiven AlikeCalled (result app lists w (hand_all f places w.handed) f places row.source ret one.1 one.0 row.gives) (result app lists u (hand_all g places u.handed) g places row.source ret other.1 other.0 row.gives)
       (λ (given : List Object × Value). give (after_call app w f places row one.1 given.0, given.1)) (λ (given : List Object × Value). give (after_call app u g places row other.1 given.0, given.1))
-      (alike_result app w.heap u.heap alike.heap f g frames places row.source ret one.1 other.1 shared.1 one.0 other.0 shared.0 row.gives)
+      (alike_result app lists w u alike (hand_all f places w.handed) (hand_all g places u.handed) (same_hands f g frames places w.handed u.handed alike.handed) f g frames places row.source ret one.1 other.1 shared.1 one.0 other.0 shared.0 row.gives)
       (λ x y given. alike_give AlikeCalled (after_call app w f places row one.1 x.0, x.1) (after_call app u g places row other.1 y.0, y.1) (alike_call row one.1 other.1 shared.1 x.0 y.0 given.0, given.1))

@@ -107,6 +107,7 @@ of_result count shared gives.Blank sound i h = absurd h
 of_result count shared (gives.Same j) sound i h = absurd h
 of_result count shared (gives.Taken j) sound i h = absurd h
 of_result count shared (gives.Joined from) sound i h = absurd h
+of_result count shared gives.Handed sound i h = absurd h
 of_result count shared (gives.Shared j) sound i (inl same) = subst (λ z. z < shared) (sym same) sound
 of_result count shared (gives.Shared j) sound i (inr h) = absurd h
 

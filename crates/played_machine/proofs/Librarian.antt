@@ -1,30 +1,32 @@
 -- A library call that is drawn is the machine's.
-use Rattle.std.proofs.Common.{◌≡◌, ◌⊎◌, inl, inr, ℕ, Bool, true, false, cond, List, [], ◌∷◌, ◌++◌, flat_map, length, Option, Some, None, slice_get, refl, sym, ap, ◌∙◌, subst}
+use Rattle.std.proofs.Common.{◌≡◌, ◌⊎◌, inl, inr, ℕ, Bool, true, false, cond, List, [], ◌∷◌, ◌++◌, flat_map, length, Option, Some, None, slice_get, refl, sym, ap, ◌∙◌, subst, filter, filter_map, eq-eqb}
 use Rattle.std.specs.Prelude.{◌↔◌, option_to_list}
 use Rattle.std.proofs.lemmas.Option.{none-some}
 use Rattle.vet_base.specs.Members.{In}
-use Rattle.vet_base.proofs.Members.{in_front, in_back, in_either, in_flat, from_flat, in_map, from_map, in_slice_get}
+use Rattle.vet_base.proofs.Members.{in_front, in_back, in_either, in_flat, from_flat, in_map, from_map, in_slice_get, from_filter_map}
 use Rattle.app_machine.specs.declared.app.App.{App}
 use Rattle.app_machine.specs.declared.lists.Lists.{Lists}
 use Rattle.app_machine.specs.declared.summary.Gives.{Gives}
-use Rattle.app_machine.specs.declared.summary.Gives.TheVariants.{Blank, Same, Taken, Joined, Shared}
+use Rattle.app_machine.specs.declared.summary.Gives.TheVariants.{Blank, Same, Taken, Joined, Shared, Handed}
 use Rattle.app_machine.specs.declared.summary.Summary.{Summary}
 use Rattle.app_machine.specs.Calls.{hand}
 use Rattle.app_machine.specs.Heap.{Value, Object, blank, labelled}
-use Rattle.app_machine.specs.Library.{value_at, AtSink, Hands, shared_named, shared_class, Makes_shared, all_there, is_there, is_made, Joins, AreJoined, joined_object, Results, of_void, as_blank, as_same, as_taken, as_shared, as_labels, as_object, Adds, by_put, by_store, by_copy, Library_call}
+use Rattle.app_machine.specs.Library.{value_at, AtSink, Hands, shared_named, shared_class, Makes_shared, all_there, is_there, is_made, Joins, AreJoined, joined_object, Results, of_void, as_blank, as_same, as_taken, as_shared, as_labels, as_object, Adds, by_put, by_store, by_copy, Library_call, Has_object, was_handed, is_live, as_nothing, as_given_back}
 use Rattle.app_machine.specs.Lookups.{elem_key}
 use Rattle.app_machine.specs.Names.{Name, is_reference, is_void}
 use Rattle.app_machine.specs.State.{write, shared_static, Arrival, World, Frame, object_at, new_object}
-use Rattle.played_machine.specs.Drawing.{give, Draws}
-use Rattle.played_machine.specs.Librarian.{hand_all, arrivals_at, arrivals_of, shared_there, with_shared, joined_labels, joined_value, given_result, result, element_at, copied, added, after_call, library_call}
+use Rattle.app_machine.specs.Summaries.{numbers_from}
+use Rattle.app_model.specs.EventLaws.{EventsAreExact}
+use Rattle.played_machine.specs.Drawing.{give, Draws, one_of}
+use Rattle.played_machine.specs.Librarian.{hand_all, arrivals_at, arrivals_of, shared_there, with_shared, joined_labels, joined_value, given_result, result, element_at, copied, added, after_call, library_call, live_place, live_places, had, given_back}
 use Rattle.played_machine.specs.Local.{got}
 use Rattle.played_machine.specs.Ordered.{sorted}
-use Rattle.played_machine.specs.Reading.{values_at, reached}
+use Rattle.played_machine.specs.Reading.{values_at, reached, class_at, handed_places, is_of_type}
 use Rattle.played_machine.proofs.Called.{Named}
-use Rattle.played_machine.proofs.Chosen.{gave, followed}
+use Rattle.played_machine.proofs.Chosen.{gave, followed, one_drawn}
 use Rattle.played_machine.proofs.Got.{gets_so}
-use Rattle.played_machine.proofs.Ordered.{in_sorted, from_sorted, in_ascending, from_ascending, index_of}
-use Rattle.played_machine.proofs.Reached.{value_there, value_read, reached_so, reached_all}
+use Rattle.played_machine.proofs.Ordered.{in_sorted, from_sorted, in_ascending, from_ascending, index_of, false_true, from_filter}
+use Rattle.played_machine.proofs.Reached.{was_handed as was_handed_place, value_there, value_read, reached_so, reached_all, class_there}
 
 -- the handed places
 module _ (f : Frame) (p : ℕ) where
@@ -140,53 +142,86 @@ module _ (app : App) (lists : Lists) where
       by_place None is None e later = let n = named i (inl refl) in absurd (none-some n.0 (sym e ∙ n.1))
 
 -- the result
-module _ (app : App) (before : List Object) (f : Frame) (places : List ℕ) (source : Option ℕ) (ret : Name) (statics : ℕ → Value) (heap : List Object) where
+module _ (app : App) (lists : Lists) (exact : EventsAreExact app lists) (w : World) (handed : List ℕ) (f : Frame) (places : List ℕ) (source : Option ℕ) (ret : Name) (statics : ℕ → Value) (heap : List Object) where
   of_source : (l : ℕ) (o : Option ℕ) → In l (option_to_list o) → o ≡ Some l
   of_source l None h = absurd h
   of_source l (Some k) (inl same) = ap (λ z. Some z) (sym same)
   of_source l (Some k) (inr h) = absurd h
 
   abbrev labels_of : ℕ → List ℕ
-  labels_of i = reached before (value_at f places i)
+  labels_of i = reached w.heap (value_at f places i)
 
-  joined_so : (from : List ℕ) → AreJoined before f places from source (joined_labels before f places from source)
+  joined_so : (from : List ℕ) → AreJoined w.heap f places from source (joined_labels w.heap f places from source)
   unfolding joined_labels
   joined_so from l = (λ h. forth (in_either l (option_to_list source) (flat_map labels_of from) (from_ascending (option_to_list source ++ flat_map labels_of from) l h)), λ h. in_ascending (option_to_list source ++ flat_map labels_of from) l (back h))
     where
-      forth : In l (option_to_list source) ⊎ In l (flat_map labels_of from) → Joins before f places from source l
+      forth : In l (option_to_list source) ⊎ In l (flat_map labels_of from) → Joins w.heap f places from source l
       forth (inl own) = inl (of_source l source own)
-      forth (inr more) = let found = from_flat labels_of from l more in let walk = reached_so before (value_at f places found.0) l found.2 in inr (found.0, found.1, walk)
+      forth (inr more) = let found = from_flat labels_of from l more in let walk = reached_so w.heap (value_at f places found.0) l found.2 in inr (found.0, found.1, walk)
 
-      back : Joins before f places from source l → In l (option_to_list source ++ flat_map labels_of from)
+      back : Joins w.heap f places from source l → In l (option_to_list source ++ flat_map labels_of from)
       back (inl is) = in_front l (option_to_list source) (flat_map labels_of from) (subst (λ o. In l (option_to_list o)) (sym is) (inl refl))
-      back (inr walk) = in_back l (option_to_list source) (flat_map labels_of from) (in_flat labels_of from walk.0 l walk.1 (reached_all before (value_at f places walk.0) l walk.2.0 walk.2.1))
+      back (inr walk) = in_back l (option_to_list source) (flat_map labels_of from) (in_flat labels_of from walk.0 l walk.1 (reached_all w.heap (value_at f places walk.0) l walk.2.0 walk.2.1))
 
   abbrev ResultIs : Gives → List Object × Value → Type 0
-  ResultIs gives given = Results app before f places source ret statics heap gives given.0 given.1
+  ResultIs gives given = Results app lists w handed f places source ret statics heap gives given.0 given.1
 
   as_given : (gives : Gives) (one given : List Object × Value) → ResultIs gives one → Draws (give one) given → ResultIs gives given
   as_given gives one given is d = subst (ResultIs gives) (sym (gave one given d)) is
 
-  joined_result : is_void ret ≡ false → (from : List ℕ) → ResultIs (Joined from) (joined_value ret heap (joined_labels before f places from source))
+  joined_result : is_void ret ≡ false → (from : List ℕ) → ResultIs (Joined from) (joined_value ret heap (joined_labels w.heap f places from source))
   joined_result some from = by_type (is_reference ret) refl
     where
-      by_type : (b : Bool) → is_reference ret ≡ b → ResultIs (Joined from) (cond b (heap ++ joined_object ret (joined_labels before f places from source) ∷ [], record { place = Some (length heap); labels = joined_labels before f places from source }) (heap, labelled (joined_labels before f places from source)))
+      by_type : (b : Bool) → is_reference ret ≡ b → ResultIs (Joined from) (cond b (heap ++ joined_object ret (joined_labels w.heap f places from source) ∷ [], record { place = Some (length heap); labels = joined_labels w.heap f places from source }) (heap, labelled (joined_labels w.heap f places from source)))
       by_type true is = as_object some is (joined_so from)
       by_type false is = as_labels some is (joined_so from)
 
-  given_so : is_void ret ≡ false → (gives : Gives) (given : List Object × Value) → Draws (given_result app before f places source ret statics heap gives) given → ResultIs gives given
+  -- an object that the library has
+  is_had : (p : ℕ) → In p (handed_places handed ++ live_places app w) → Has_object w handed p
+  is_had p h = elim (in_either p (handed_places handed) (live_places app w) h) [
+    | inl old ↦ was_handed (was_handed_place handed p old)
+    | inr live ↦ let found = from_filter_map (λ c. live_place (w.components c)) (numbers_from 0 (length app.components)) p live in by_state found.0 ((w.components found.0).state == 0) refl found.2
+  ]
+    where
+      by_state : (c : ℕ) (b : Bool) → ((w.components c).state == 0) ≡ b → cond b None (w.components c).place ≡ Some p → Has_object w handed p
+      by_state c true is gives = absurd (none-some p gives)
+      by_state c false is gives = is_live c (λ zero_state. false_true (sym is ∙ eq-eqb (w.components c).state 0 zero_state)) gives
+
+  of_place : is_void ret ≡ false → is_reference ret ≡ true → (p : ℕ) → In p (had app lists w handed ret) → ResultIs Handed (heap, object_at (Some p))
+  of_place some reference p h =
+      let kept = from_filter (λ p. is_of_type app lists ret (class_at w.heap p)) (handed_places handed ++ live_places app w) p h in
+      by_class (class_at w.heap p) refl kept.1 (is_had p kept.0)
+    where
+      by_class : (o : Option Name) → class_at w.heap p ≡ o → is_of_type app lists ret o ≡ true → Has_object w handed p → ResultIs Handed (heap, object_at (Some p))
+      by_class None is holds has = absurd (false_true holds)
+      by_class (Some class) is holds has = as_given_back some reference has (class_there w.heap p class is) ((exact.below class ret).0 holds)
+
+  back_so : is_void ret ≡ false → (v : Value) → In v (given_back app lists w handed ret) → ResultIs Handed (heap, v)
+  back_so some v (inl same) = subst (λ z. ResultIs Handed (heap, z)) (sym same) (as_nothing some)
+  back_so some v (inr h) = by_type (is_reference ret) refl h
+    where
+      by_type : (b : Bool) → is_reference ret ≡ b → In v (cond b (map (λ p. object_at (Some p)) (had app lists w handed ret)) []) → ResultIs Handed (heap, v)
+      by_type true reference h =
+          let found = from_map (λ (p : ℕ). object_at (Some p)) (had app lists w handed ret) v h in
+          subst (λ z. ResultIs Handed (heap, z)) (sym found.2) (of_place some reference found.0 found.1)
+      by_type false reference h = absurd h
+
+  given_so : is_void ret ≡ false → (gives : Gives) (given : List Object × Value) → Draws (given_result app lists w handed f places source ret statics heap gives) given → ResultIs gives given
   given_so some Blank given d = as_given Blank (heap, blank) given (as_blank some) d
   given_so some (Same i) given d = as_given (Same i) (heap, value_at f places i) given (as_same some) d
   given_so some (Taken i) given d =
-      let h = followed (got before (value_at f places i) elem_key) (λ v. give (heap, v)) given d in
-      as_given (Taken i) (heap, h.by) given (as_taken some (gets_so before (value_at f places i) elem_key h.by h.drawn)) h.after
+      let h = followed (got w.heap (value_at f places i) elem_key) (λ v. give (heap, v)) given d in
+      as_given (Taken i) (heap, h.by) given (as_taken some (gets_so w.heap (value_at f places i) elem_key h.by h.drawn)) h.after
   given_so some (Shared i) given d = as_given (Shared i) (heap, statics (shared_static app i)) given (as_shared some) d
-  given_so some (Joined from) given d = as_given (Joined from) (joined_value ret heap (joined_labels before f places from source)) given (joined_result some from) d
+  given_so some (Joined from) given d = as_given (Joined from) (joined_value ret heap (joined_labels w.heap f places from source)) given (joined_result some from) d
+  given_so some Handed given d =
+      let h = followed (one_of (given_back app lists w handed ret)) (λ v. give (heap, v)) given d in
+      as_given Handed (heap, h.by) given (back_so some h.by (one_drawn (given_back app lists w handed ret) h.by h.drawn)) h.after
 
-  pub result_so : (gives : Gives) (given : List Object × Value) → Draws (result app before f places source ret statics heap gives) given → ResultIs gives given
+  pub result_so : (gives : Gives) (given : List Object × Value) → Draws (result app lists w handed f places source ret statics heap gives) given → ResultIs gives given
   result_so gives given d = by_void (is_void ret) refl d
     where
-      by_void : (b : Bool) → is_void ret ≡ b → Draws (cond b (give (heap, blank)) (given_result app before f places source ret statics heap gives)) given → ResultIs gives given
+      by_void : (b : Bool) → is_void ret ≡ b → Draws (cond b (give (heap, blank)) (given_result app lists w handed f places source ret statics heap gives)) given → ResultIs gives given
       by_void true is d = as_given gives (heap, blank) given (of_void is) d
       by_void false is d = given_so is gives given d
 
@@ -259,12 +294,12 @@ module _ (app : App) (before : List Object) (f : Frame) (places : List ℕ) (sta
   added_so a = (added_from a, added_in a)
 
 -- the call
-pub library_so : (app : App) (lists : Lists) (w : World) (f : Frame) (places : List ℕ) (ret : Name) (row : Summary) → Named lists (shared_named row ret) →
+pub library_so : (app : App) (lists : Lists) → EventsAreExact app lists → (w : World) (f : Frame) (places : List ℕ) (ret : Name) (row : Summary) → Named lists (shared_named row ret) →
     (done : World × Value) → Draws (library_call app lists w f places ret row) done → Library_call app lists w f places ret row done.0 done.1
 unfolding library_call
-library_so app lists w f places ret row named done d =
+library_so app lists exact w f places ret row named done d =
     let shared : List Object × (ℕ → Value) = with_shared app lists (shared_named row ret) w.heap w.statics in
-    let h = followed (result app w.heap f places row.source ret shared.1 shared.0 row.gives) (λ (given : List Object × Value). give (after_call app w f places row shared.1 given.0, given.1)) done d in
+    let h = followed (result app lists w (hand_all f places w.handed) f places row.source ret shared.1 shared.0 row.gives) (λ (given : List Object × Value). give (after_call app w f places row shared.1 given.0, given.1)) done d in
     subst (λ (z : World × Value). Library_call app lists w f places ret row z.0 z.1) (sym (gave (after_call app w f places row shared.1 h.by.0, h.by.1) done h.after)) (record {
       with_shared = shared.0;
       with_result = h.by.0;
@@ -272,7 +307,7 @@ library_so app lists w f places ret row named done d =
       handed = λ p. handed_so f p places w.handed;
       arrivals = λ a. arrivals_so w.heap f places row a w.arrivals;
       shared = shared_so app lists (shared_named row ret) w.heap w.statics named;
-      results = result_so app w.heap f places row.source ret shared.1 shared.0 row.gives h.by h.drawn;
+      results = result_so app lists exact w (hand_all f places w.handed) f places row.source ret shared.1 shared.0 row.gives h.by h.drawn;
       adds = added_so app w.heap f places shared.1 row;
       heap = refl;
       components = refl;

@@ -25,10 +25,10 @@ use Rattle.app_model.specs.EventLaws.{EventsAreExact}
 use Rattle.app_model.specs.Initialisers.{component_initialisers}
 use Rattle.played_machine.specs.Calling.{code_of}
 use Rattle.played_machine.specs.Coming as coming
-use Rattle.played_machine.specs.Coming.{Event, Receives, Initialiser, is_application, lets_begin, may_begin, lived, born, life_coming, callback_coming, click_coming, life_count, initialisations, component_events, handed_coming, handed_events, events, is_of_type, fresh_object, parameter_values, parameter, parameters, receiver, event_frame, begins_with, initialises_with, begun}
+use Rattle.played_machine.specs.Coming.{Event, Receives, Initialiser, is_application, lets_begin, may_begin, lived, born, life_coming, callback_coming, click_coming, life_count, initialisations, component_events, handed_coming, handed_events, events, fresh_object, parameter_values, parameter, parameters, receiver, event_frame, begins_with, initialises_with, begun}
 use Rattle.played_machine.specs.Drawing.{Drawing, give, ◌>>=◌, one_of, Draws}
 use Rattle.played_machine.specs.Local.{Playing, playing}
-use Rattle.played_machine.specs.Reading.{class_at, handed_places}
+use Rattle.played_machine.specs.Reading.{class_at, handed_places, is_of_type}
 use Rattle.played_machine.proofs.Called.{has_code, no_code}
 use Rattle.played_machine.proofs.Chosen.{gave, followed, one_drawn}
 use Rattle.played_machine.proofs.Ordered.{false_true, from_filter}

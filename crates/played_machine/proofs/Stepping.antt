@@ -41,7 +41,7 @@ goes_there : (app : App) (method pc : ℕ) (o : Option Step) → step_at app met
 goes_there app method pc None there to h = absurd h
 goes_there app method pc (Some s) there to h = record { step = s; there = there; next = h }
 
-module _ (app : App) (lists : Lists) (sound : SoundLists lists) (w : World) (f : Frame) (fs : List Frame) where
+module _ (app : App) (lists : Lists) (exact : EventsAreExact app lists) (sound : SoundLists lists) (w : World) (f : Frame) (fs : List Frame) where
   abbrev StepsTo : Playing → Type 0
   StepsTo t = Steps app lists w (f ∷ fs) t.world t.frames
 
@@ -73,10 +73,10 @@ module _ (app : App) (lists : Lists) (sound : SoundLists lists) (w : World) (f :
         by_zero true d =
             let to = followed (one_of next) (λ pc. give (playing done.0 (moved f pc (write f.registers result_register done.1) ∷ fs))) t d in
             as_given (playing done.0 (moved f to.by (write f.registers result_register done.1) ∷ fs)) t
-            (calls_library is (there to.by (one_drawn next to.by to.drawn)) uses (library_so app lists w f (positions kind at args) at.proto.ret row named done call)) to.after
+            (calls_library is (there to.by (one_drawn next to.by to.drawn)) uses (library_so app lists exact w f (positions kind at args) at.proto.ret row named done call)) to.after
         by_zero false d =
             let to = raised_so app blank done.0 (f ∷ fs) t d in
-            subst (λ (z : World). Steps app lists w (f ∷ fs) z t.frames) (sym to.world) (library_raises is uses (library_so app lists w f (positions kind at args) at.proto.ret row named done call) to.frames)
+            subst (λ (z : World). Steps app lists w (f ∷ fs) z t.frames) (sym to.world) (library_raises is uses (library_so app lists exact w f (positions kind at args) at.proto.ret row named done call) to.frames)
 
     library_step_so : (t : Playing) → Draws (stepping.calls_library app lists w f fs next kind at args row) t → StepsTo t
     library_step_so t d =
@@ -144,7 +144,7 @@ module _ (app : App) (lists : Lists) (w : World) (f : Frame) (x : Option ℕ) (i
       by_kind false kind gives = goes_back g fs kind (next_of (step_at app g.method g.pc)) gives
 
 -- the running frame
-module _ (app : App) (lists : Lists) (sound : SoundLists lists) (w : World) (f : Frame) (fs : List Frame) where
+module _ (app : App) (lists : Lists) (exact : EventsAreExact app lists) (sound : SoundLists lists) (w : World) (f : Frame) (fs : List Frame) where
   throw_so : (x : ℕ) → ActAt app f.method f.pc (Throw x) → (t : Playing) → Draws (raised app (f.registers x) w (f ∷ fs)) t → Steps app lists w (f ∷ fs) t.world t.frames
   throw_so x is t d =
       let to = raised_so app (f.registers x) w (f ∷ fs) t d in
@@ -153,10 +153,10 @@ module _ (app : App) (lists : Lists) (sound : SoundLists lists) (w : World) (f :
   module _ (next : List ℕ) (there : (to : ℕ) → In to next → Goes app f.method f.pc to) (way : Drawing Playing) (t : Playing) (d : Draws way t) where
     stays_so : (act : Act) → is_local act ≡ true → ActAt app f.method f.pc act → (ns : List ℕ) → where_next ns (acts app lists w f fs next act) ≡ Some way → Steps app lists w (f ∷ fs) t.world t.frames
     stays_so act stays is [] gives = absurd (none-some way gives)
-    stays_so act stays is (n ∷ ns) gives = acts_so app lists sound w f fs next there act stays is t (subst (λ (z : Drawing Playing). Draws z t) (sym (same_Some (acts app lists w f fs next act) way gives)) d)
+    stays_so act stays is (n ∷ ns) gives = acts_so app lists exact sound w f fs next there act stays is t (subst (λ (z : Drawing Playing). Draws z t) (sym (same_Some (acts app lists w f fs next act) way gives)) d)
 
     does_so : (act : Act) → ActAt app f.method f.pc act → does app lists w f fs next act ≡ Some way → Steps app lists w (f ∷ fs) t.world t.frames
-    does_so (Call kind at args) is gives = call_so app lists sound w f fs kind at args next there is way t d (call_target app w.heap f kind at args) refl gives
+    does_so (Call kind at args) is gives = call_so app lists exact sound w f fs kind at args next there is way t d (call_target app w.heap f kind at args) refl gives
     does_so (Return x) is gives = return_so app lists w f x is way t d fs gives
     does_so (Throw x) is gives = throw_so x is t (subst (λ (z : Drawing Playing). Draws z t) (sym (same_Some (raised app (f.registers x) w (f ∷ fs)) way gives)) d)
     does_so Skip is gives = stays_so Skip refl is next gives
@@ -206,7 +206,7 @@ module _ (app : App) (lists : Lists) (sound : SoundLists lists) (w : World) (f :
 
       by_last : In way (map (enters w (f ∷ fs)) (initialisers_at app (step_at app f.method f.pc)) ++ option_to_list (step_there app lists w f fs (step_at app f.method f.pc))) ⊎ In way (raised app blank w (f ∷ fs) ∷ []) → Steps app lists w (f ∷ fs) t.world t.frames
       by_last (inl first) = by_first (in_either way (map (enters w (f ∷ fs)) (initialisers_at app (step_at app f.method f.pc))) (option_to_list (step_there app lists w f fs (step_at app f.method f.pc))) first)
-      by_last (inr (inl same)) = raise_so app lists sound w f fs t (subst (λ (z : Drawing Playing). Draws z t) same d)
+      by_last (inr (inl same)) = raise_so app lists exact sound w f fs t (subst (λ (z : Drawing Playing). Draws z t) same d)
       by_last (inr (inr none)) = absurd none
 
 -- the state
@@ -218,7 +218,7 @@ module _ (app : App) (lists : Lists) (exact : EventsAreExact app lists) (sound :
       begun_so app lists exact w h.by (events_so app lists exact w h.by (one_drawn (events app lists w) h.by h.drawn)) t h.after
   any_step_so w (f ∷ fs) t d =
       let h = followed (one_of (ways app lists w f fs)) (λ way. way) t d in
-      inl (way_so app lists sound w f fs h.by (one_drawn (ways app lists w f fs) h.by h.drawn) t h.after)
+      inl (way_so app lists exact sound w f fs h.by (one_drawn (ways app lists w f fs) h.by h.drawn) t h.after)
 
   pub steps_so : (s t : Playing) (bytes rest : List ℕ) → drawn_step app lists s bytes ≡ Some (t, rest) → Steps app lists s.world s.frames t.world t.frames ⊎ (t ≡ s)
   steps_so s t bytes rest is = any_step_so s.world s.frames t (record { bytes = bytes; rest = rest; drawn = is })

@@ -27,7 +27,7 @@ use Rattle.played_machine.specs.Calling.{code_of, call_target, called_row}
 use Rattle.played_machine.specs.Coming.{Event, Receives, Initialiser, events, parameter_values, parameter, parameters, receiver, event_frame, begins_with, begun}
 use Rattle.played_machine.specs.Drawing.{Drawing, give, continue, ◌>>=◌, draw, given, one_of}
 use Rattle.played_machine.specs.Drawn.{start, drawn_step, and_after, drawn_within, drawn}
-use Rattle.played_machine.specs.Librarian.{with_shared, given_result, result, after_call, library_call}
+use Rattle.played_machine.specs.Librarian.{with_shared, given_result, result, after_call, library_call, given_back, hand_all}
 use Rattle.played_machine.specs.Local.{Playing, playing, catches_of, next_of, moved, first_or_blank, got_at, got, local, raised_to, raised}
 use Rattle.played_machine.specs.Reading.{values_at}
 use Rattle.played_machine.specs.Step as stepping
@@ -152,20 +152,22 @@ keeps_begun app lists w (Receives (Some body) place sources new) = by_code (code
 keeps_begun app lists w (Initialiser body) = keeps_give _
 
 -- library calls
-keeps_given : (app : App) (before : List Object) (f : Frame) (places : List ℕ) (source : Option ℕ) (ret : Name) (statics : ℕ → Value) (heap : List Object) (g : Gives) → Keeps (given_result app before f places source ret statics heap g)
-keeps_given app before f places source ret statics heap gives.Blank = keeps_give _
-keeps_given app before f places source ret statics heap (gives.Same i) = keeps_give _
-keeps_given app before f places source ret statics heap (gives.Taken i) =
-    keeps_after (got before (value_at f places i) elem_key) (λ v. give (heap, v)) (keeps_got before (value_at f places i) elem_key) (λ v. keeps_give (heap, v))
-keeps_given app before f places source ret statics heap (gives.Shared i) = keeps_give _
-keeps_given app before f places source ret statics heap (gives.Joined from) = keeps_give _
+keeps_given : (app : App) (lists : Lists) (w : World) (handed : List ℕ) (f : Frame) (places : List ℕ) (source : Option ℕ) (ret : Name) (statics : ℕ → Value) (heap : List Object) (g : Gives) → Keeps (given_result app lists w handed f places source ret statics heap g)
+keeps_given app lists w handed f places source ret statics heap gives.Blank = keeps_give _
+keeps_given app lists w handed f places source ret statics heap (gives.Same i) = keeps_give _
+keeps_given app lists w handed f places source ret statics heap (gives.Taken i) =
+    keeps_after (got w.heap (value_at f places i) elem_key) (λ v. give (heap, v)) (keeps_got w.heap (value_at f places i) elem_key) (λ v. keeps_give (heap, v))
+keeps_given app lists w handed f places source ret statics heap (gives.Shared i) = keeps_give _
+keeps_given app lists w handed f places source ret statics heap (gives.Joined from) = keeps_give _
+keeps_given app lists w handed f places source ret statics heap gives.Handed =
+    keeps_after (one_of (given_back app lists w handed ret)) (λ v. give (heap, v)) (keeps_one (given_back app lists w handed ret)) (λ v. keeps_give (heap, v))
 
 keeps_library : (app : App) (lists : Lists) (w : World) (f : Frame) (places : List ℕ) (ret : Name) (row : Summary) → Keeps (library_call app lists w f places ret row)
 unfolding library_call
 keeps_library app lists w f places ret row =
     let shared : List Object × (ℕ → Value) = with_shared app lists (shared_named row ret) w.heap w.statics in
-    keeps_after (result app w.heap f places row.source ret shared.1 shared.0 row.gives) (λ (given : List Object × Value). give (after_call app w f places row shared.1 given.0, given.1))
-    (keeps_if (is_void ret) (give (shared.0, blank)) (given_result app w.heap f places row.source ret shared.1 shared.0 row.gives) (keeps_give (shared.0, blank)) (keeps_given app w.heap f places row.source ret shared.1 shared.0 row.gives))
+    keeps_after (result app lists w (hand_all f places w.handed) f places row.source ret shared.1 shared.0 row.gives) (λ (given : List Object × Value). give (after_call app w f places row shared.1 given.0, given.1))
+    (keeps_if (is_void ret) (give (shared.0, blank)) (given_result app lists w (hand_all f places w.handed) f places row.source ret shared.1 shared.0 row.gives) (keeps_give (shared.0, blank)) (keeps_given app lists w (hand_all f places w.handed) f places row.source ret shared.1 shared.0 row.gives))
     (λ given. keeps_give _)
 
 -- the ways of a frame

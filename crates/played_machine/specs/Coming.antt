@@ -14,13 +14,12 @@ use Rattle.app_machine.specs.Names.{Name, is_reference}
 use Rattle.app_machine.specs.Run.{frame_of}
 use Rattle.app_machine.specs.State.{World, Frame, new_object, value_or_blank}
 use Rattle.app_machine.specs.Summaries.{numbers_from}
-use Rattle.app_model.specs.Above.{is_below}
 use Rattle.app_model.specs.EventBodies.{life_event, component_callback, click, handed_callback}
 use Rattle.app_model.specs.Initialisers.{component_initialisers}
 use Rattle.played_machine.specs.Calling.{code_of}
 use Rattle.played_machine.specs.Drawing.{Drawing, give, ◌>>=◌, one_of}
 use Rattle.played_machine.specs.Local.{Playing, playing}
-use Rattle.played_machine.specs.Reading.{class_at, handed_places}
+use Rattle.played_machine.specs.Reading.{class_at, handed_places, is_of_type}
 
 -- An event with a receiver: the body that runs, where there is one, the receiver's place, the positions whose values come
 -- labelled, and the world as it is when the body begins. Or an initialiser.
@@ -94,11 +93,6 @@ handed_events app lists w q = filter_map (λ p. handed_coming app lists w q p (c
 -- the events that may come
 unfoldable pub events : App → Lists → World → List Event
 events app lists w = flat_map (component_events app lists w) (numbers_from 0 (length app.components)) ++ flat_map (handed_events app lists w) (numbers_from 0 (length lists.callbacks))
-
--- the handed place holds an object below the type
-abbrev pub is_of_type : App → Lists → Name → Option Name → Bool
-is_of_type app lists type None = false
-is_of_type app lists type (Some class) = is_below app lists class type
 
 abbrev pub fresh_object : Name → List ℕ → Object
 fresh_object type labels = record { class = type; entries = labelled_element labels }

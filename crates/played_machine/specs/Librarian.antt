@@ -1,20 +1,21 @@
 -- A library call, by what the lists say of it. Every value is read from the state before the call.
-use Rattle.std.specs.Prelude.{ℕ, if◌then◌else◌, List, [], ◌∷◌, ◌++◌, map, flat_map, length, Option, Some, None, option_to_list}
+use Rattle.std.specs.Prelude.{ℕ, if◌then◌else◌, List, [], ◌∷◌, ◌++◌, map, flat_map, length, Option, Some, None, option_to_list, ◌==◌, filter, filter_map}
 use Rattle.app_machine.specs.declared.app.App.{App}
 use Rattle.app_machine.specs.declared.lists.Lists.{Lists}
 use Rattle.app_machine.specs.declared.summary.Gives.{Gives}
-use Rattle.app_machine.specs.declared.summary.Gives.TheVariants.{Blank, Same, Taken, Joined, Shared}
+use Rattle.app_machine.specs.declared.summary.Gives.TheVariants.{Blank, Same, Taken, Joined, Shared, Handed}
 use Rattle.app_machine.specs.declared.summary.Summary.{Summary}
 use Rattle.app_machine.specs.Calls.{hand}
 use Rattle.app_machine.specs.Heap.{Value, Object, blank, labelled, add_all}
 use Rattle.app_machine.specs.Library.{value_at, shared_named, shared_class, joined_object}
 use Rattle.app_machine.specs.Lookups.{elem_key}
 use Rattle.app_machine.specs.Names.{Name, is_reference, is_void}
-use Rattle.app_machine.specs.State.{write, shared_static, Arrival, World, Frame, object_at, new_object}
-use Rattle.played_machine.specs.Drawing.{Drawing, give, ◌>>=◌}
+use Rattle.app_machine.specs.State.{write, shared_static, Arrival, World, Frame, object_at, new_object, Component_state}
+use Rattle.app_machine.specs.Summaries.{numbers_from}
+use Rattle.played_machine.specs.Drawing.{Drawing, give, ◌>>=◌, one_of}
 use Rattle.played_machine.specs.Local.{got}
 use Rattle.played_machine.specs.Ordered.{sorted, ascending}
-use Rattle.played_machine.specs.Reading.{values_at, reached}
+use Rattle.played_machine.specs.Reading.{class_at, values_at, handed_places, is_of_type, reached}
 
 -- the handed places after the values of these registers are handed, one after the other
 abbrev pub hand_all : Frame → List ℕ → List ℕ → List ℕ
@@ -51,16 +52,32 @@ joined_labels before f places from source = ascending (option_to_list source ++ 
 abbrev pub joined_value : Name → List Object → List ℕ → List Object × Value
 joined_value ret heap labels = if is_reference ret then (heap ++ joined_object ret labels ∷ [], record { place = Some (length heap); labels = labels }) else (heap, labelled labels)
 
-abbrev pub given_result : App → List Object → Frame → List ℕ → Option ℕ → Name → (ℕ → Value) → List Object → Gives → Drawing (List Object × Value)
-given_result app before f places source ret statics heap Blank = give (heap, blank)
-given_result app before f places source ret statics heap (Same i) = give (heap, value_at f places i)
-given_result app before f places source ret statics heap (Taken i) = got before (value_at f places i) elem_key >>= λ v. give (heap, v)
-given_result app before f places source ret statics heap (Shared i) = give (heap, statics (shared_static app i))
-given_result app before f places source ret statics heap (Joined from) = give (joined_value ret heap (joined_labels before f places from source))
+-- the places of the components that are there, ascending
+abbrev pub live_place : Component_state → Option ℕ
+live_place component = if component.state == 0 then None else component.place
 
--- The heap with the result, and the result: of a void method a blank. What a call may give is drawn here alone.
-abbrev pub result : App → List Object → Frame → List ℕ → Option ℕ → Name → (ℕ → Value) → List Object → Gives → Drawing (List Object × Value)
-result app before f places source ret statics heap gives = if is_void ret then give (heap, blank) else given_result app before f places source ret statics heap gives
+abbrev pub live_places : App → World → List ℕ
+live_places app w = filter_map (λ c. live_place (w.components c)) (numbers_from 0 (length app.components))
+
+-- the objects below the type that the library has: those that it was handed, and then the components
+abbrev pub had : App → Lists → World → List ℕ → Name → List ℕ
+had app lists w handed ret = filter (λ p. is_of_type app lists ret (class_at w.heap p)) (handed_places handed ++ live_places app w)
+
+-- what it may give back: a blank, or one of them
+abbrev pub given_back : App → Lists → World → List ℕ → Name → List Value
+given_back app lists w handed ret = blank ∷ (if is_reference ret then map (λ p. object_at (Some p)) (had app lists w handed ret) else [])
+
+abbrev pub given_result : App → Lists → World → List ℕ → Frame → List ℕ → Option ℕ → Name → (ℕ → Value) → List Object → Gives → Drawing (List Object × Value)
+given_result app lists w handed f places source ret statics heap Blank = give (heap, blank)
+given_result app lists w handed f places source ret statics heap (Same i) = give (heap, value_at f places i)
+given_result app lists w handed f places source ret statics heap (Taken i) = got w.heap (value_at f places i) elem_key >>= λ v. give (heap, v)
+given_result app lists w handed f places source ret statics heap (Shared i) = give (heap, statics (shared_static app i))
+given_result app lists w handed f places source ret statics heap (Joined from) = give (joined_value ret heap (joined_labels w.heap f places from source))
+given_result app lists w handed f places source ret statics heap Handed = one_of (given_back app lists w handed ret) >>= λ v. give (heap, v)
+
+-- the heap with the result, and the result: of a void method a blank
+abbrev pub result : App → Lists → World → List ℕ → Frame → List ℕ → Option ℕ → Name → (ℕ → Value) → List Object → Gives → Drawing (List Object × Value)
+result app lists w handed f places source ret statics heap gives = if is_void ret then give (heap, blank) else given_result app lists w handed f places source ret statics heap gives
 
 -- the value as an element of the object at the place, where there is one
 abbrev pub element_at : Option ℕ → Value → List (ℕ × Value)
@@ -100,4 +117,4 @@ after_call app w f places row statics heap = record w {
 unfoldable pub library_call : App → Lists → World → Frame → List ℕ → Name → Summary → Drawing (World × Value)
 library_call app lists w f places ret row =
     let shared = with_shared app lists (shared_named row ret) w.heap w.statics in
-    result app w.heap f places row.source ret shared.1 shared.0 row.gives >>= λ (given : List Object × Value). give (after_call app w f places row shared.1 given.0, given.1)
+    result app lists w (hand_all f places w.handed) f places row.source ret shared.1 shared.0 row.gives >>= λ (given : List Object × Value). give (after_call app w f places row shared.1 given.0, given.1)

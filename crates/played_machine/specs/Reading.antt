@@ -1,9 +1,12 @@
 -- What is read of a world in order. The machine puts a new entry of an object and a newly handed place in front, so they
 -- stand here from the back.
-use Rattle.std.specs.Prelude.{ℕ, zero, suc, ◌==◌, if◌then◌else◌, List, [], ◌++◌, length, reverse, Option, Some, None, option_map, slice_get, filter_map, flat_map}
+use Rattle.std.specs.Prelude.{ℕ, Bool, false, zero, suc, ◌==◌, if◌then◌else◌, List, [], ◌++◌, length, reverse, Option, Some, None, option_map, slice_get, filter_map, flat_map}
 use Rattle.vet_base.specs.declared.key_id.KeyId.{KeyId}
+use Rattle.app_machine.specs.declared.app.App.{App}
+use Rattle.app_machine.specs.declared.lists.Lists.{Lists}
 use Rattle.app_machine.specs.Names.{Name}
 use Rattle.app_machine.specs.Heap.{Value, Object}
+use Rattle.app_model.specs.Above.{is_below}
 use Rattle.played_machine.specs.Ordered.{once, ascending}
 
 -- the class of the object at the place
@@ -29,6 +32,11 @@ values_at heap p k = reverse (filter_map (under k) (entries_at heap p))
 -- the places that the library was handed, each once, in the order in which they were handed first
 unfoldable pub handed_places : List ℕ → List ℕ
 handed_places handed = once (reverse handed)
+
+-- an object of the class is below the type, where there is one
+abbrev pub is_of_type : App → Lists → Name → Option Name → Bool
+is_of_type app lists type None = false
+is_of_type app lists type (Some class) = is_below app lists class type
 
 -- the entries of the object of a value
 abbrev pub entries_from : List Object → Option ℕ → List (KeyId × Value)
