@@ -15,7 +15,8 @@ use rule_sets::RuleSet;
 use std::alloc::Global;
 use vet_base::Memory;
 
-/// The story of the row, cut out of the trail; None where it is none of the trail's rows.
+/// The story of the row, cut out of the trail; None where it is none of the trail's rows. The rules are taken
+/// for the contract alone, which says by which ones the trail is.
 pub fn story_in<R: RuleSet, P: Places>(
     alloc: Global,
     rules: &R,
@@ -37,8 +38,9 @@ pub fn story_in<R: RuleSet, P: Places>(
     Ok(Some(Story::new(lines)))
 }
 
-/// The rows of a table, found by whatever rules look for.
-fn keyed(alloc: Global, table: &[Row], seed: u64) -> Result<HashedRows, Memory>
+/// The rows of a table, found by whatever rules look for. The seed should be one that the author of the app
+/// does not know; nothing depends on it but the time.
+pub fn keyed(alloc: Global, table: &[Row], seed: u64) -> Result<HashedRows, Memory>
     ensures { IfOk result (λ rows. AreSame rows table.now) }
 {
     let mut rows = HashedRows::new(alloc, seed);

@@ -8,4 +8,4 @@ mod finding;
 mod retelling;
 mod wanted;
 
-pub use finding::{find_story, story_in};
+pub use finding::{find_story, keyed, story_in};
