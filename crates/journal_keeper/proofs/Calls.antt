@@ -1,6 +1,6 @@
 -- The calls of the keeper: each makes the journal ready, and then looks something up or adds a change.
-use Rattle.std.proofs.Common.{◌≡◌, ◌⊎◌, ℕ, true, false, List, [], refl, sym, ◌∙◌, ap, subst, Option, Some, None, Result, Err}
-use Rattle.std.specs.Prelude.{IfSome, IfOk, OnErr, IsSome}
+use Rattle.std.proofs.Common.{◌≡◌, ◌⊎◌, ℕ, true, false, List, [], refl, sym, ◌∙◌, ap, subst, Option, Some, None, Result, Ok, Err}
+use Rattle.std.specs.Prelude.{IfSome, IfOk, OnOk, OnErr, IsSome}
 use Rattle.std.specs.Option.{is_some}
 use Rattle.std.proofs.lemmas.Option.{same_Some}
 use Rattle.disks.specs.Disks.{Told}
@@ -118,6 +118,26 @@ pub safe_now : (opened : Option Opened) (told : Option Told) → IsSome opened �
 safe_now None told some kept = let none : false ≡ true = some in absurd cc
 safe_now (Some o) None some kept = tt
 safe_now (Some o) (Some t) some kept = open_safe o t kept.kept
+
+pub on_ok : {X E P : Type 0} (r : Result X E) → P → OnOk r P
+on_ok (Ok x) p = p
+on_ok (Err e) p = tt
+
+-- So is one that was made ready, and what looks it up or adds to it leaves it safe.
+pub ready_safe : (opened : Option Opened) (told : Option Told) → IsReady opened → IsKept told opened → IfSome told (IsSafe opened)
+ready_safe None told ready kept = absurd ready
+ready_safe (Some o) None ready kept = tt
+ready_safe (Some o) (Some t) ready kept = open_safe o t kept.kept
+
+pub look_safe : (opened last : Option Opened) (told : Option Told) → HoldsTheSame opened last → IfSome told (IsSafe opened) → IfSome told (IsSafe last)
+look_safe opened last None same safe = tt
+look_safe opened last (Some t) same safe = held_safe opened last (Some t) same safe
+
+pub add_safe : (Added : Change → Type 0) (opened last : Option Opened) (told a : Option Told) → LeavesCases Added opened told a
+    → StaysSafe opened last told a → IfSome told (IsSafe opened) → IfSome a (IsSafe last)
+add_safe Added opened last None None moments stays safe = tt
+add_safe Added opened last None (Some u) moments stays safe = absurd moments
+add_safe Added opened last (Some t) a moments stays safe = stays safe
 
 pub same_outlasts : (now : JournalState) → Outlasts NoOther now now
 same_outlasts now = record {

@@ -111,6 +111,7 @@ impl<D: Disk + Drop> Keeper for JournalKeeper<D> {
         ensures told { told_cases self.new ≡ told_cases self.old }
         ensures cause { KeepCause (all_faults self.old) (all_faults self.new) result }
         ensures outlasts { Outlasts NoOther self.old self.new }
+        ensures safe_now { OnOk result (IfSome self.new.told (IsSafe self.new.opened)) }
         ensures counts { CountsBy (IsUnopenable self.old.opened self.old.told)
             self.old.faults self.new.faults self.old.own self.new.own result }
     {
@@ -124,6 +125,7 @@ impl<D: Disk + Drop> Keeper for JournalKeeper<D> {
         ensures told { told_cases self.new ≡ told_cases self.old }
         ensures cause { KeepCause (all_faults self.old) (all_faults self.new) result }
         ensures outlasts { Outlasts NoOther self.old self.new }
+        ensures safe_now { OnOk result (IfSome self.new.told (IsSafe self.new.opened)) }
         ensures counts { CountsBy (IsUnopenable self.old.opened self.old.told)
             self.old.faults self.new.faults self.old.own self.new.own result }
     {
@@ -136,6 +138,7 @@ impl<D: Disk + Drop> Keeper for JournalKeeper<D> {
         ensures told { told_cases self.new ≡ told_cases self.old }
         ensures cause { KeepCause (all_faults self.old) (all_faults self.new) result }
         ensures outlasts { Outlasts NoOther self.old self.new }
+        ensures safe_now { OnOk result (IfSome self.new.told (IsSafe self.new.opened)) }
         ensures counts { CountsBy (IsUnopenable self.old.opened self.old.told)
             self.old.faults self.new.faults self.old.own self.new.own result }
     {
@@ -148,6 +151,7 @@ impl<D: Disk + Drop> Keeper for JournalKeeper<D> {
         ensures told { told_cases self.new ≡ told_cases self.old }
         ensures cause { KeepCause (all_faults self.old) (all_faults self.new) result }
         ensures outlasts { Outlasts NoOther self.old self.new }
+        ensures safe_now { OnOk result (IfSome self.new.told (IsSafe self.new.opened)) }
         ensures counts { CountsBy (IsUnopenable self.old.opened self.old.told)
             self.old.faults self.new.faults self.old.own self.new.own result }
     {
@@ -160,6 +164,7 @@ impl<D: Disk + Drop> Keeper for JournalKeeper<D> {
         ensures told { told_cases self.new ≡ told_cases self.old }
         ensures cause { KeepCause (all_faults self.old) (all_faults self.new) result }
         ensures outlasts { Outlasts NoOther self.old self.new }
+        ensures safe_now { OnOk result (IfSome self.new.told (IsSafe self.new.opened)) }
         ensures counts { CountsBy (IsUnopenable self.old.opened self.old.told)
             self.old.faults self.new.faults self.old.own self.new.own result }
     {
@@ -173,6 +178,7 @@ impl<D: Disk + Drop> Keeper for JournalKeeper<D> {
         ensures told { told_cases self.new ≡ told_after change.now (told_cases self.old) result }
         ensures cause { KeepCause (all_faults self.old) (all_faults self.new) result }
         ensures outlasts { Outlasts (λ c. c ≡ change.now) self.old self.new }
+        ensures safe_now { OnOk result (IfSome self.new.told (IsSafe self.new.opened)) }
         ensures counts { CountsBy (IsUnopenable self.old.opened self.old.told ⊎ Misfits change.now self.new.opened)
             self.old.faults self.new.faults self.old.own self.new.own result }
     {

@@ -2,7 +2,7 @@ use Rattle.std.proofs.Common.{◌≡◌, Err}
 use Rattle.std.proofs.lemmas.Result.{err_from_is_err_and}
 use Rattle.journal_keeper.specs.Causes.{IsUnopenable, Misfits}
 use Rattle.journal_keeper.proofs.Counting.{first_counts, counts_cause}
-use Rattle.journal_keeper.proofs.Calls.{Readied, readied_so, wider_outlasts, state, add_outlasts, add_told, add_counted, add_cause}
+use Rattle.journal_keeper.proofs.Calls.{on_ok, ready_safe, add_safe, Readied, readied_so, wider_outlasts, state, add_outlasts, add_told, add_counted, add_cause}
 use Rattle.journal_keeper.proofs.keeper.JournalKeeperKeeper.apply.Goals as goal
 
 pub returns-in_err-make_ready-clause-told : goal.returns-in_err-make_ready-clause-told
@@ -100,3 +100,22 @@ returns-clause-counts g c =
     let before : Readied old (state told faults own opened) = readied_so old (state told faults own opened) c.make_ready.new.self c.self.view_is
     (record { ready = made.ready; told = made.told; outlasts = made.outlasts; faults = made.counts.0; own = made.counts.1 }) in
     add_counted c.args.change.now old told a faults own now_faults c.add.new.own opened c.add.new.opened before c.add.result c.add.ensures.counts
+
+pub returns-in_err-make_ready-clause-safe_now : goal.returns-in_err-make_ready-clause-safe_now
+returns-in_err-make_ready-clause-safe_now g c =
+    let p = err_from_is_err_and c.from_residual.result c.from_residual.ensures.1 in
+    rw p.1 tt
+
+pub returns-clause-safe_now : goal.returns-clause-safe_now
+returns-clause-safe_now g c =
+    let old = c.args.self.now in
+    let told = g.D.Disk.told c.self.inside.disk in
+    let a = g.D.Disk.told c.add.new.disk in
+    let faults = g.D.Disk.fault_count c.self.inside.disk in
+    let now_faults = g.D.Disk.fault_count c.add.new.disk in
+    let own = c.self.inside.own in
+    let opened = c.self.inside.opened in
+    let made = c.in_ok-make_ready.ensures in
+    let before : Readied old (state told faults own opened) = readied_so old (state told faults own opened) c.make_ready.new.self c.self.view_is
+    (record { ready = made.ready; told = made.told; outlasts = made.outlasts; faults = made.counts.0; own = made.counts.1 }) in
+    on_ok c.add.result (add_safe (λ other. other ≡ c.args.change.now) opened c.add.new.opened told a c.add.ensures.any_moment c.add.ensures.safe (ready_safe opened told before.ready c.self.invariant))

@@ -5,7 +5,7 @@ use Rattle.case_rules.specs.declared.case.Case.{Case}
 use Rattle.case_rules.specs.Cases.{is_queued}
 use Rattle.journal_keeper.specs.Causes.{IsUnopenable}
 use Rattle.journal_keeper.proofs.Counting.{err_counts, counts_cause}
-use Rattle.journal_keeper.proofs.Calls.{Readied, readied_so, ready_open, state, look_outlasts, look_told, look_counted, look_cause, look_answer}
+use Rattle.journal_keeper.proofs.Calls.{on_ok, ready_safe, look_safe, Readied, readied_so, ready_open, state, look_outlasts, look_told, look_counted, look_cause, look_answer}
 use Rattle.journal_keeper.proofs.Safe.{held_kept}
 use Rattle.journal_keeper.proofs.keeper.JournalKeeperKeeper.first_queued.Goals as goal
 
@@ -109,3 +109,20 @@ returns-clause-counts g c =
     let before : Readied old (state told faults own opened) = readied_so old (state told faults own opened) c.make_ready.new.self c.self.view_is
     (record { ready = made.ready; told = made.told; outlasts = made.outlasts; faults = made.counts.0; own = made.counts.1 }) in
     look_counted old told faults own opened c.first_queued.new.opened before c.first_queued.ensures.same c.first_queued.result c.first_queued.ensures.memory
+
+pub returns-in_err-make_ready-clause-safe_now : goal.returns-in_err-make_ready-clause-safe_now
+returns-in_err-make_ready-clause-safe_now g c =
+    let p = err_from_is_err_and c.from_residual.result c.from_residual.ensures.1 in
+    rw p.1 tt
+
+pub returns-clause-safe_now : goal.returns-clause-safe_now
+returns-clause-safe_now g c =
+    let old = c.args.self.now in
+    let told = g.D.Disk.told c.self.inside.disk in
+    let faults = g.D.Disk.fault_count c.self.inside.disk in
+    let own = c.self.inside.own in
+    let opened = c.self.inside.opened in
+    let made = c.in_ok-make_ready.ensures in
+    let before : Readied old (state told faults own opened) = readied_so old (state told faults own opened) c.make_ready.new.self c.self.view_is
+    (record { ready = made.ready; told = made.told; outlasts = made.outlasts; faults = made.counts.0; own = made.counts.1 }) in
+    on_ok c.first_queued.result (look_safe opened c.first_queued.new.opened told c.first_queued.ensures.same (ready_safe opened told before.ready c.self.invariant))
