@@ -1,5 +1,5 @@
 -- A library call that is drawn is the machine's.
-use Rattle.std.proofs.Common.{◌≡◌, ◌⊎◌, inl, inr, ℕ, Bool, true, false, cond, List, [], ◌∷◌, ◌++◌, flat_map, length, Option, Some, None, slice_get, refl, sym, ap, ◌∙◌, subst, filter, filter_map, eq-eqb}
+use Rattle.std.proofs.Common.{◌≡◌, ◌==◌, ◌⊎◌, inl, inr, ℕ, Bool, true, false, cond, List, [], ◌∷◌, ◌++◌, map, flat_map, length, Option, Some, None, slice_get, refl, sym, ap, ◌∙◌, subst, eq-eqb}
 use Rattle.std.specs.Prelude.{◌↔◌, option_to_list}
 use Rattle.std.proofs.lemmas.Option.{none-some}
 use Rattle.vet_base.specs.Members.{In}
@@ -187,14 +187,14 @@ module _ (app : App) (lists : Lists) (exact : EventsAreExact app lists) (w : Wor
       by_state c true is gives = absurd (none-some p gives)
       by_state c false is gives = is_live c (λ zero_state. false_true (sym is ∙ eq-eqb (w.components c).state 0 zero_state)) gives
 
-  of_place : is_void ret ≡ false → is_reference ret ≡ true → (p : ℕ) → In p (had app lists w handed ret) → ResultIs Handed (heap, object_at (Some p))
-  of_place some reference p h =
+  of_place : is_reference ret ≡ true → (p : ℕ) → In p (had app lists w handed ret) → ResultIs Handed (heap, object_at (Some p))
+  of_place reference p h =
       let kept = from_filter (λ p. is_of_type app lists ret (class_at w.heap p)) (handed_places handed ++ live_places app w) p h in
       by_class (class_at w.heap p) refl kept.1 (is_had p kept.0)
     where
       by_class : (o : Option Name) → class_at w.heap p ≡ o → is_of_type app lists ret o ≡ true → Has_object w handed p → ResultIs Handed (heap, object_at (Some p))
       by_class None is holds has = absurd (false_true holds)
-      by_class (Some class) is holds has = as_given_back some reference has (class_there w.heap p class is) ((exact.below class ret).0 holds)
+      by_class (Some class) is holds has = as_given_back reference has (class_there w.heap p class is) ((exact.below class ret).0 holds)
 
   back_so : is_void ret ≡ false → (v : Value) → In v (given_back app lists w handed ret) → ResultIs Handed (heap, v)
   back_so some v (inl same) = subst (λ z. ResultIs Handed (heap, z)) (sym same) (as_nothing some)
@@ -203,7 +203,7 @@ module _ (app : App) (lists : Lists) (exact : EventsAreExact app lists) (w : Wor
       by_type : (b : Bool) → is_reference ret ≡ b → In v (cond b (map (λ p. object_at (Some p)) (had app lists w handed ret)) []) → ResultIs Handed (heap, v)
       by_type true reference h =
           let found = from_map (λ (p : ℕ). object_at (Some p)) (had app lists w handed ret) v h in
-          subst (λ z. ResultIs Handed (heap, z)) (sym found.2) (of_place some reference found.0 found.1)
+          subst (λ z. ResultIs Handed (heap, z)) (sym found.2) (of_place reference found.0 found.1)
       by_type false reference h = absurd h
 
   given_so : is_void ret ≡ false → (gives : Gives) (given : List Object × Value) → Draws (given_result app lists w handed f places source ret statics heap gives) given → ResultIs gives given
