@@ -121,7 +121,7 @@ alike_cons j k v w es ds value rest = by_key (k.0 == j.0)
     by_key false = rest
 
 -- of entries without a key, none is under it, and all are under the others
-values_without : (j k : KeyId) (es : List (KeyId × Value)) → values_under j (without k es) ≡ cond (j.0 == k.0) [] (values_under j es)
+pub values_without : (j k : KeyId) (es : List (KeyId × Value)) → values_under j (without k es) ≡ cond (j.0 == k.0) [] (values_under j es)
 values_without j k [] = by_key (j.0 == k.0)
   where
     by_key : (b : Bool) → ◌≡◌ {A = List Value} [] (cond b [] [])

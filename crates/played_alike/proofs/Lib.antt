@@ -1,8 +1,8 @@
 mod Events
-mod Heaps
+pub mod Heaps
 mod Librarian
 mod Local
-mod Orders
-mod Pairs
+pub mod Orders
+pub mod Pairs
 mod Standing
 mod Step

@@ -132,7 +132,7 @@ module _ (app : App) (lists : Lists) (w u : World) (alike : AlikeWorld w u) (han
   alike_given_result (Same i) = alike_give AlikeGiven _ _ (heaps, alike_at f g frames places i)
   alike_given_result (Taken i) =
       alike_after AlikeValue AlikeGiven (got w.heap (value_at f places i) elem_key) (got u.heap (value_at g places i) elem_key) (λ v. give (heap, v)) (λ v. give (heap', v))
-      (alike_got w.heap before' befores (value_at f places i) (value_at g places i) (alike_at f g frames places i) elem_key) (λ x y one. alike_give AlikeGiven (heap, x) (heap', y) (heaps, one))
+      (alike_got w.heap u.heap alike.heap (value_at f places i) (value_at g places i) (alike_at f g frames places i) elem_key) (λ x y one. alike_give AlikeGiven (heap, x) (heap', y) (heaps, one))
   alike_given_result (Shared i) = alike_give AlikeGiven _ _ (heaps, values (shared_static app i))
   alike_given_result (Joined from) = alike_give AlikeGiven _ _ (alike_joined ret heap heap' heaps (joined_labels w.heap f places from source) (joined_labels u.heap g places from source) (same_joined f g frames w.heap u.heap alike.heap places from source))
   alike_given_result Handed =

@@ -11,7 +11,7 @@ abbrev pub Rises : List ℕ → Type 0
 Rises [] = Unit {0}
 Rises (x ∷ xs) = ((y : ℕ) → In y xs → x < y) × Rises xs
 
-same_rising : (xs ys : List ℕ) → Rises xs → Rises ys → ((x : ℕ) → In x xs → In x ys) → ((x : ℕ) → In x ys → In x xs) → xs ≡ ys
+pub same_rising : (xs ys : List ℕ) → Rises xs → Rises ys → ((x : ℕ) → In x xs → In x ys) → ((x : ℕ) → In x ys → In x xs) → xs ≡ ys
 same_rising [] [] rx ry to from = refl
 same_rising [] (y ∷ ys) rx ry to from = absurd (from y (inl refl))
 same_rising (x ∷ xs) [] rx ry to from = absurd (to x (inl refl))
