@@ -102,8 +102,8 @@ CAUSES: dict[CauseKind, Advice] = {
     CauseKind.LIBRARY_STATIC: Advice(
         "The instruction there puts to a static field of a library class, or gets one that is not listed.",
         "Do without the field.",
-        "For one that is got: find out what it holds, and add a [[static]] row where no app can write it. One that is"
-        " put has no row; review by hand."),
+        "For one that is got: find out what it holds, and add a [[static]] row where no app can write it, with a"
+        " source where that is personal data. One that is put has no row; review by hand."),
     CauseKind.CLICK: Advice(
         "A click may come to the method on what is no activity, or from a menu; in the machine none does.",
         "Set a listener in code.",
