@@ -15,7 +15,7 @@ ANSWERS = DATA / "answers"
 SAMPLE = {name: name for name in ("manifest.toml", "layouts.toml", "declaration.toml", "lists.toml")}
 SAMPLE["classes.dex"] = "device_id_posted.dex"
 FEW_LISTS = b'rows = 1\ncategories = ["a"]\n'
-COUNTS = {"link_cases.txt": 26, "cases.txt": 49, "flow_cases.txt": 61, "example_cases.txt": 27, "opcode_cases.txt": 6}
+COUNTS = {"link_cases.txt": 26, "cases.txt": 49, "flow_cases.txt": 63, "example_cases.txt": 27, "opcode_cases.txt": 6}
 # Seed and size of generated apps; and the rows and findings that a program which was made apart from this one told.
 MADE = {(7, 50): (3_315, 39), (1, 1): (112, 1)}
 
