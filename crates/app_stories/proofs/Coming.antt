@@ -1,5 +1,5 @@
 -- From the table of an app to what is told of its parts.
-use Rattle.std.proofs.Common.{◌≡◌, List, [], ◌∷◌, ◌++◌, Option, Some, None, refl, sym, ap, subst, ◌∙◌}
+use Rattle.std.proofs.Common.{◌≡◌, List, [], ◌∷◌, ◌++◌, Option, Some, None, Result, Ok, Err, IfOk, refl, sym, ap, subst, ◌∙◌}
 use Rattle.std.proofs.lemmas.Option.{none-some, same_Some}
 use Rattle.app_flow.specs.declared.flow.Flow.{Flow}
 use Rattle.app_flow.specs.declared.flow.Flow.TheVariants.{Rows, TooLarge}
@@ -24,6 +24,7 @@ use Rattle.verdict.specs.Outcome.{findings_in, outcome_of}
 use Rattle.verdict.specs.Verdict.{ComesTo, judged_by, Judgement, refused, refusal}
 use Rattle.verdict.proofs.OneVerdict.{judged_only}
 use Rattle.verdict.proofs.Outcomes.{judgement_on}
+use Rattle.app_stories.specs.declared.judged.Told.{Told}
 use Rattle.app_stories.specs.Stories.{Story, AreStoriesOf, Tells, alone, told, StoriesBy, HasStories, ComesToStories, OneJudgement}
 
 findings_told : (causes : List Cause) (items : List Finding) → findings_in (outcome_of causes items) ≡ items
@@ -75,6 +76,18 @@ comes_with linked judged outcome stories comes same has = record {
   comes = subst (λ (o : Outcome). ComesTo linked.app linked.papers.lists linked.papers.declaration (causes_beside linked) (record { outcome = o; table = judged.table })) (sym same) comes;
   told = subst (λ (o : Outcome). StoriesBy linked o judged.table stories) (sym same) has;
 }
+
+-- the same of what is told, unless memory ran out
+pub told_value : {E : Type 0} (linked : Linked) (judged : Judged) (r : Result Told E) →
+    ComesTo linked.app linked.papers.lists linked.papers.declaration (causes_beside linked) judged → IfOk r (λ t. t.outcome ≡ judged.outcome) →
+    IfOk r (λ t. HasStories linked judged t.stories) → IfOk r (λ t. ComesToStories linked t.outcome t.stories)
+told_value linked judged (Ok t) comes same has = comes_with linked judged t.outcome t.stories comes same has
+told_value linked judged (Err e) comes same has = tt
+
+pub told_outcome : {E : Type 0} (P : Outcome → Type 0) (judged : Judged) (r : Result Told E) → P judged.outcome → IfOk r (λ t. t.outcome ≡ judged.outcome) →
+    IfOk r (λ t. P t.outcome)
+told_outcome P judged (Ok t) holds same = subst P (sym same) holds
+told_outcome P judged (Err e) holds same = tt
 
 -- what is said of the app is said of the parts
 pub tells_parts : (parts : Parts) (linked : Linked) (outcome : Outcome) (stories : Option (List Story)) → IsLinked parts linked → ComesToStories linked outcome stories → Tells parts outcome stories

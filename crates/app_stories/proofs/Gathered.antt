@@ -35,9 +35,9 @@ stories_next {Rule} {Start} goals place stories goal story below item are is =
     let more : take (place + 1) goals ≡ take place goals ++ goal ∷ [] = take_more goals place goal below ∙ ap (λ (x : Row). take place goals ++ x ∷ []) (sym item) in
     subst (λ (z : List Row). AreStories Rule Start z (stories ++ story ∷ [])) (sym more) (stories_more (take place goals) stories goal story are is)
 
-pub none_told : {Rule : ℕ → List Row → Row → Type 0} {Start : Row → Type 0} (goals : List Row) → length goals ≡ 0 → AreStories Rule Start goals []
-none_told [] none = tt
-none_told (goal ∷ goals) none = absurd (omega (arith, none))
+pub none_told : (Rule : ℕ → List Row → Row → Type 0) (Start : Row → Type 0) (goals : List Row) → length goals ≡ 0 → AreStories Rule Start goals []
+none_told Rule Start [] none = tt
+none_told Rule Start (goal ∷ goals) none = absurd (omega (arith, none))
 
 -- a trail of rows has just these rows
 pub own_rows : {Rule : ℕ → List Row → Row → Type 0} {Start : Row → Type 0} (rows : List Row) (came : Came) → IsTrail Rule Start rows came → IsTrail Rule Start came.rows came
