@@ -38,14 +38,14 @@ as_many_goals app lists declaration rows [] (goal ∷ goals) are = absurd are
 as_many_goals app lists declaration rows (finding ∷ findings) [] are = absurd are
 as_many_goals app lists declaration rows (finding ∷ findings) (goal ∷ goals) are = ap suc (as_many_goals app lists declaration rows findings goals are.1)
 
-as_many_stories : {Rule : ℕ → List Row → Row → Type 0} {Start : Row → Type 0} (goals : List Row) (stories : List Story) → AreStories Rule Start goals stories → length stories ≡ length goals
-as_many_stories [] [] are = refl
-as_many_stories [] (story ∷ stories) are = absurd are
-as_many_stories (goal ∷ goals) [] are = absurd are
-as_many_stories (goal ∷ goals) (story ∷ stories) are = ap suc (as_many_stories goals stories are.1)
+as_many_stories : (Rule : ℕ → List Row → Row → Type 0) (Start : Row → Type 0) (goals : List Row) (stories : List Story) → AreStories Rule Start goals stories → length stories ≡ length goals
+as_many_stories Rule Start [] [] are = refl
+as_many_stories Rule Start [] (story ∷ stories) are = absurd are
+as_many_stories Rule Start (goal ∷ goals) [] are = absurd are
+as_many_stories Rule Start (goal ∷ goals) (story ∷ stories) are = ap suc (as_many_stories Rule Start goals stories are.1)
 
 as_many : (app : App) (lists : Lists) (declaration : Declaration) (rows : List Row) (findings : List Finding) (stories : List Story) → AreStoriesOf app lists declaration rows findings stories → length stories ≡ length findings
-as_many app lists declaration rows findings stories are = as_many_stories are.goals stories are.told ∙ as_many_goals app lists declaration rows findings are.goals are.first
+as_many app lists declaration rows findings stories are = as_many_stories _ _ are.goals stories are.told ∙ as_many_goals app lists declaration rows findings are.goals are.first
 
 -- what is told twice of parts is of one outcome, and as many stories
 record SameTelling (outcome other : Outcome) (stories others : Option (List Story)) : Type 0 where
