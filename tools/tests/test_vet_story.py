@@ -1,19 +1,17 @@
 """What `story` prints behind the report: for each finding how the row follows that tells it first."""
 from __future__ import annotations
 
-import re
 import shutil
 import tempfile
 import unittest
 from pathlib import Path
 
 from tests.program import answer, at_once
+from tests.story_check import ARRIVE, blocks_of, fault_of, rows_of
 from tests.support import DATA, EXAMPLES, expected
 
 ANSWERS = DATA / "answers"
 FORMS = ("manifest.toml", "layouts.toml", "declaration.toml", "lists.toml")
-LINE = re.compile(r"([1-9][0-9]*) (?:start|rule ([1-9][0-9]*) from ((?:[1-9][0-9]* ?)+)): ((?:[0-9a-f]{2})+)")
-ARRIVE = 18
 
 
 def u4(*numbers: int) -> bytes:
@@ -29,9 +27,9 @@ def reached(pc: int) -> bytes:
     return bytes([1]) + node(pc)
 
 
-def taint(pc: int, register: int) -> bytes:
-    """The register holds a value of category 0, by the path without keys."""
-    return bytes([3]) + node(pc) + u4(register) + bytes([0, 0])
+def taint(pc: int, register: int, path: bytes) -> bytes:
+    """The register leads to a value of category 0 by this path."""
+    return bytes([3]) + node(pc) + u4(register) + path + bytes([0])
 
 
 def uses(pc: int, row: int) -> bytes:
@@ -39,32 +37,21 @@ def uses(pc: int, row: int) -> bytes:
 
 
 # The sample takes a device id at 0 by row 11 of its lists, moves it from the register of results to register 0 at 3, and
-# posts it at 4 by row 12, whose sink is category 2. By the rules of docs/RULES.md, the earliest first:
-SAMPLE = [
+# posts it at 4 by row 12, whose sink is category 2. The result is of the category itself, by the path without keys, and
+# so are its elements, by the path of the one key 0: both stories are right. By docs/RULES.md, the earliest first:
+SAMPLES = [[
     ("start", bytes([14]) + u4(0) + bytes([0])),
     ("rule 40 from 1", bytes([14]) + u4(0) + bytes([1])),
     ("rule 40 from 2", reached(0)),
     ("rule 1 from 3", reached(3)),
     ("rule 27 from 3", uses(0, 11)),
     ("rule 1 from 4", reached(4)),
-    ("rule 35 from 5", taint(3, 65_536)),
+    ("rule 35 from 5", taint(3, 65_536, path)),
     ("rule 27 from 6", uses(4, 12)),
-    ("rule 3 from 7", taint(4, 0)),
+    ("rule 3 from 7", taint(4, 0, path)),
     ("rule 31 from 8 9", bytes([ARRIVE, 0, 2]) + node(4)),
-]
+] for path in (bytes([0]), bytes([1]) + u4(0))]
 SENT = "device_id -> network at La/Main;->onCreate(Landroid/os/Bundle;)V @4\n"
-
-
-def blocks_of(text: str) -> list[list[str]]:
-    """The lines of each story, whose first line says how many there are."""
-    blocks: list[list[str]] = []
-    lines = iter(text.splitlines())
-    for line in lines:
-        word, _, number = line.partition(" ")
-        if word != "story":
-            raise ValueError(line)
-        blocks.append([next(lines) for _ in range(int(number))])
-    return blocks
 
 
 class StoryTest(unittest.TestCase):
@@ -80,10 +67,49 @@ class StoryTest(unittest.TestCase):
         shutil.copy(ANSWERS / "device_id_posted.dex", self.folder / "D" / "classes.dex")
 
     def test_the_sample_has_one_story_of_ten_lines(self) -> None:
-        lines = [f"{number} {how}: {row.hex()}\n" for number, (how, row) in enumerate(SAMPLE, 1)]
-        due = f"flagged 1\n{SENT}story 10\n{''.join(lines)}"
-        self.assertEqual((1, due), answer(self.folder, "story", "D"))
-        self.assertIn("story 10\n1 start: 0e0000000000\n2 rule 40 from 1: 0e0000000001\n", due)
+        due = []
+        for sample in SAMPLES:
+            lines = [f"{number} {how}: {row.hex()}\n" for number, (how, row) in enumerate(sample, 1)]
+            due.append((1, f"flagged 1\n{SENT}story 10\n{''.join(lines)}"))
+        found = answer(self.folder, "story", "D")
+        self.assertIn(found, due)
+        self.assertTrue(found[1].startswith(f"flagged 1\n{SENT}story 10\n1 start: 0e0000000000\n"
+                                            "2 rule 40 from 1: 0e0000000001\n"))
+
+    def of(self, dex: str) -> tuple[str, list[list[str]]]:
+        """The report of the sample with another DEX file, and the stories behind it, in which there is no fault."""
+        shutil.copy(ANSWERS / dex, self.folder / "D" / "classes.dex")
+        status, text = answer(self.folder, "story", "D")
+        self.assertEqual(1, status, text)
+        report, head, rest = text.partition("story ")
+        blocks = blocks_of(head + rest)
+        self.assertEqual([""] * len(blocks), [fault_of(block) for block in blocks])
+        return report, blocks
+
+    def test_each_of_two_findings_at_one_place_is_told_in_the_first_context_that_has_it(self) -> None:
+        # Method 0 takes a device id, a phone number and a device id, and calls method 1 with each, at 4, 11 and 18;
+        # that posts it at 0. The number is category 4, since it stands behind the four others.
+        lists = self.folder / "D" / "lists.toml"
+        row = ('[[method]]\nclass = "Lvendor/Device;"\nname = "phone"\nproto = "()Ljava/lang/String;"\n'
+               'static = true\nsource = "phone"\n')
+        lists.write_text(lists.read_text().replace('"log"]', '"log", "phone"]') + row)
+        report, blocks = self.of("two_senders.dex")
+        place = "network at La/Main;->send(Ljava/lang/Object;)V @0\n"
+        self.assertEqual(f"flagged 2\ndevice_id -> {place}phone -> {place}", report)
+        called = [bytes([5]) + u4(0, pc, 1, 0) for pc in (4, 11)]
+        self.assertEqual([bytes([ARRIVE, 0, 2]) + called[0], bytes([ARRIVE, 4, 2]) + called[1]],
+                         [rows_of(block)[-1] for block in blocks])
+
+    def test_a_line_is_named_twice_where_an_object_is_put_into_itself(self) -> None:
+        report, (block,) = self.of("put_into_itself.dex")
+        self.assertEqual("flagged 1\ndevice_id -> network at La/Main;->onStop()V @4\n", report)
+        # In onCreate, method 0, at 0, the register of the receiver, 1 of 3, holds the component, and that goes into the
+        # component under the key of its field `me`: 2, behind those of elements and of `id`.
+        component = bytes([2]) + u4(0)
+        rows = rows_of(block)
+        points = rows.index(bytes([2]) + node(0) + u4(1) + component) + 1
+        cell = bytes([4]) + component + u4(2) + component
+        self.assertIn(f"rule 8 from {points} {points}: {cell.hex()}", [line.partition(" ")[2] for line in block])
 
     def test_where_there_is_no_table_the_report_stands_alone(self) -> None:
         lists = self.folder / "D" / "lists.toml"
@@ -118,29 +144,9 @@ class ExamplesTest(unittest.TestCase):
                 blocks = blocks_of(text[len(report):])
                 self.assertEqual(len(findings), len(blocks))
                 for finding, block in zip(findings, blocks):
-                    self.is_story(finding, block)
-
-    def is_story(self, finding: str, block: list[str]) -> None:
-        """Each line is a start or names lines before it, no row stands twice, and each line but the last is used; the
-        last row is an arrival at the address of the finding."""
-        rows: list[bytes] = []
-        used: set[int] = set()
-        for number, line in enumerate(block, 1):
-            found = LINE.fullmatch(line)
-            self.assertIsNotNone(found, line)
-            assert found is not None
-            premises = [int(word) for word in (found[3] or "").split()]
-            self.assertEqual(number, int(found[1]))
-            self.assertTrue(all(premise < number for premise in premises), line)
-            self.assertLessEqual(len(premises), 4)
-            used.update(premises)
-            rows.append(bytes.fromhex(found[4]))
-            if found[2] is None:
-                self.assertEqual((14, 0), (rows[-1][0], rows[-1][-1]), line)
-        self.assertEqual(len(rows), len(set(rows)))
-        self.assertEqual(set(range(1, len(rows))), used)
-        self.assertEqual(ARRIVE, rows[-1][0])
-        self.assertEqual(int(finding.rpartition("@")[2]), int.from_bytes(rows[-1][-4:], "little"))
+                    self.assertEqual("", fault_of(block))
+                    self.assertEqual(int(finding.rpartition("@")[2]),
+                                     int.from_bytes(rows_of(block)[-1][-4:], "little"))
 
 
 if __name__ == "__main__":
