@@ -27,10 +27,10 @@ STORY = "".join(f"{line}\n" for line in (
     f"10 rule 31 from 8 9: 120002{NODE.format(4)}"))
 WAY = f"""device_id -> network at {PLACE} @4
     what goes to network: argument 1 (v0)
-   1. device_id is taken
+   1. device_id is taken by vendor.Device.id()
         at   {PLACE} @0
         0000 invoke-static {{}}, Lvendor/Device;->id()Ljava/lang/String;
-   2. it goes to network
+   2. device_id goes to network
         at   {PLACE} @4
         0004 invoke-static {{v0}}, Lvendor/Net;->post(Ljava/lang/Object;)V
 """
@@ -54,6 +54,8 @@ class Reading(unittest.TestCase):
         for old, new in (("story 10", "story 11"), ("story 10", "story 9"), ("story 10", "story 0"),
                          ("2 rule 40 from 1", "2 rule 40 from 2"), ("2 rule 40 from 1", "2 rule 40 from 0"),
                          ("10 rule 31 from 8 9", "10 rule 31 from 1 2 3 8 9"), ("4 rule", "5 rule"),
+                         ("10 rule 31", "10 rule 0"), ("10 rule 31", "10 rule 49"), ("10 rule 31", "10 rule 255"),
+                         ("10 rule 31 from 8 9", "10 rule 31 from 8 4294967295"), ("10 rule 31", "10 rule 031"),
                          ("1 start", "1 begin"), ("0e0000000000\n", "0e00000000\n"), ("0e0000000000\n", "ff\n"),
                          ("0e0000000000\n", "0e000000000000\n"), ("from 8 9", "from 8  9"), ("from 8 9", "from 8 9 "),
                          (": 12", ": 13")):
@@ -93,7 +95,7 @@ class Ways(ToolCase):
         self.assertEqual(status, done.returncode, done.stderr)
         flow, = json.loads(done.stdout)["runs"][0]["results"][0]["codeFlows"]
         steps = flow["threadFlows"][0]["locations"]
-        self.assertEqual(["device_id is taken", "it goes to network"],
+        self.assertEqual(["device_id is taken by vendor.Device.id()", "device_id goes to network"],
                          [step["location"]["message"]["text"] for step in steps])
         page = self.folder / "app.html"
         done = self.run_tool("page", *words, "-o", str(page))

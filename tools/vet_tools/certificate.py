@@ -239,3 +239,20 @@ def activation_of(fields: Flat) -> tuple[Node, Flat]:
     """The activation with which these fields begin, as the node with which it does, and the fields behind it."""
     end = 5 if fields[0] == ContextKind.TWO_CALLS else 3
     return Node(fields[:end], fields[end], 0), fields[end + 1:]
+
+
+class SiteKind(IntEnum):
+    """Where an object was made."""
+    NODE = 0
+    PARAMETER = 1
+    COMPONENT = 2
+    SHARED = 3
+
+
+def site_of(fields: Flat) -> tuple[Flat, Flat]:
+    """The site with which these fields begin, as its kind and numbers, and the fields behind it."""
+    if fields[0] > SiteKind.PARAMETER:
+        return fields[:2], fields[2:]
+    context = 5 if fields[1] == ContextKind.TWO_CALLS else 3
+    end = 1 + context + (2 if fields[0] == SiteKind.NODE else 1)
+    return fields[:end], fields[end:]

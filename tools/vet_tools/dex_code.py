@@ -58,13 +58,17 @@ class MethodRef:
 
 @dataclass(frozen=True)
 class Instruction:
-    """One instruction: its address in code units, its text, its bytes, the method called, whether an object decides."""
+    """One instruction: its address in code units, its text, its bytes, the method called, whether an object decides.
+
+    `named` is what else it names: a type, a field as `CLASS->NAME:TYPE`, or a text.
+    """
     pc: int
     text: str
     size: int = 2
     called: MethodRef | None = None
     virtual: bool = False
     registers: tuple[int, ...] = ()
+    named: str = ""
 
 
 @dataclass(frozen=True)
@@ -275,10 +279,10 @@ class _File:
         registers = tuple(value for kind, value, *_ in one.get_operands() if int(kind) == 0)
         names = ", ".join(f"v{number}" for number in registers)
         called = self.ref(one.get_ref_kind(), op in INVOKE_STATIC) if op in INVOKES else None
-        named = str(called) if called else self._named(op, one.get_ref_kind())
+        named = "" if called else self._named(op, one.get_ref_kind())
         head = f"{{{names}}}" if op in BRACED else names
-        text = f"{one.get_name()} {head}, {named}"
-        return Instruction(pc, text, one.get_length(), called, op in VIRTUAL, registers)
+        text = f"{one.get_name()} {head}, {called or named}"
+        return Instruction(pc, text, one.get_length(), called, op in VIRTUAL, registers, named)
 
     def _named(self, op: int, index: int) -> str:
         if op in STRINGS:

@@ -61,7 +61,7 @@ def line_text(one: Explained, indent: str = "") -> list[str]:
     if one.source_line is not None:
         rows_.append(("line", str(one.source_line)))
     rows_ += [("note", note) for note in one.notes]
-    rows_ += [("way", f"{step.place}: {step.says}") for step in one.way]
+    rows_ += [("way", f"{step.where}: {step.says}") for step in one.way]
     return [f"{indent}{one.line}", *(f"{indent}    {key:<6} {value}" for key, value in rows_), ""]
 
 

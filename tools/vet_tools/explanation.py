@@ -17,6 +17,7 @@ from vet_tools.report import Cause, CauseKind, Finding, Outcome, Place, Report
 from vet_tools.shown import printed
 from vet_tools.story import Story
 from vet_tools.way import Step, way_of
+from vet_tools.way_words import Names
 
 OBJECT = "Ljava/lang/Object;"
 
@@ -97,10 +98,12 @@ def explain(report: Report, folder: Path, stories: Sequence[Story] = ()) -> Expl
     code = _code(folder, found.faults) if placed else None
     lists = _lists(folder, found.faults) if placed else None
     found.object_listed = lists is None or OBJECT in lists.parents
+    names = _names(folder, lists) if stories else Names()
     for number, finding in enumerate(report.findings):
         one = _explained(finding, code, lists, ())
-        told = code is not None and number < len(stories)
-        found.findings.append(replace(one, way=way_of(stories[number], finding, code)) if told else one)
+        if code is not None and number < len(stories):
+            one = replace(one, way=way_of(stories[number], finding, code, names))
+        found.findings.append(one)
     for cause in report.causes:
         found.causes.append(_explained(cause, code, lists, _where(cause, folder)))
     if code is not None:
@@ -122,6 +125,15 @@ def _lists(folder: Path, faults: list[str]) -> Lists | None:
     except FormFault as fault:
         faults.append(str(fault))
         return None
+
+
+def _names(folder: Path, lists: Lists | None) -> Names:
+    """What the forms call the components and the shared objects, as far as they can be read."""
+    try:
+        components = forms.manifest_of(folder).components
+    except FormFault:
+        components = ()
+    return Names(components, lists.shared if lists else ())
 
 
 def _where(cause: Cause, folder: Path) -> tuple[str, ...]:

@@ -72,6 +72,7 @@ class Lists:
 
     def __init__(self, tree: dict[str, Any]) -> None:
         self.categories = tuple(str(name) for name in tree.get("categories", []))
+        self.shared = tuple(_printed(one["name"]) for one in tree.get("shared", []))
         self.parents: dict[str, tuple[str, ...]] = {}
         self.defaults: dict[str, str] = {}
         for one in tree.get("class", []):

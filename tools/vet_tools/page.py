@@ -84,8 +84,9 @@ def _way(one: Explained) -> str:
     for step in one.way:
         line = f" <span class=\"dim\">({escape(str(step.source_line))})</span>" if step.source_line else ""
         code = f"<br><code>{escape(step.instruction.text)}</code>" if step.instruction else ""
-        steps.append(f"<li>{escape(step.says)}<br>"
-                     f"<span class=\"name\">{escape(str(step.place))}</span>{line}{code}</li>")
+        kind = "" if step.essential else ' class="besides"'
+        steps.append(f"<li{kind}>{escape(step.says)}<br>"
+                     f"<span class=\"name\">{escape(step.where)}</span>{line}{code}</li>")
     return f'<h4>The way to the sink</h4><ol class="way">{"".join(steps)}</ol>'
 
 

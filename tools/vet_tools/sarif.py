@@ -18,6 +18,7 @@ from vet_tools.command import STATUSES, Words, add_folder, add_ways, refuse, rep
 from vet_tools.explanation import Explained, Explanation, explain
 from vet_tools.java_names import java_method
 from vet_tools.report import Cause, CauseKind, Finding, NoReport, Outcome, Place, ReportFault
+from vet_tools.way import Step
 
 SCHEMA = "https://docs.oasis-open.org/sarif/sarif/v2.1.0/errata01/os/schemas/sarif-schema-2.1.0.json"
 FLOW = "undeclared-flow"
@@ -65,7 +66,7 @@ def _logical(place: Place) -> Json:
     return {"fullyQualifiedName": place.method, "kind": "function"}
 
 
-def _dex_location(one: Explained) -> Json | None:
+def _dex_location(one: Explained | Step) -> Json | None:
     """The bytes of the instruction in the DEX file."""
     if one.method is None or one.instruction is None:
         return None
@@ -74,7 +75,7 @@ def _dex_location(one: Explained) -> Json | None:
     return {"artifactLocation": {"uri": quote(one.method.dex, safe=""), "uriBaseId": "APP"}, "region": region}
 
 
-def _source_location(one: Explained) -> Json | None:
+def _source_location(one: Explained | Step) -> Json | None:
     """The source line, where the DEX file has it; a line of zero is none."""
     line = one.source_line
     if line is None or one.method is None or not line.file or line.line < 1:
@@ -100,13 +101,19 @@ def _locations(one: Explained) -> tuple[list[Json], list[Json]]:
     return [where], [related] if source and code else []
 
 
+def _flow_location(number: int, step: Step) -> Json:
+    """One step of a way; those that are not of the value itself are less important."""
+    where: Json = {"logicalLocations": [_logical(step.place)], "message": message(step.says)}
+    if physical := _source_location(step) or _dex_location(step):
+        where["physicalLocation"] = physical
+    return {"location": where, "executionOrder": number, "importance": "essential" if step.essential else "important"}
+
+
 def _code_flows(one: Explained) -> list[Json]:
     """The way from source to sink as one thread flow, where one is known."""
     if not one.way:
         return []
-    steps = [{"location": {"logicalLocations": [_logical(step.place)], "message": message(step.says)},
-              "executionOrder": number} for number, step in enumerate(one.way, 1)]
-    return [{"threadFlows": [{"locations": steps}]}]
+    return [{"threadFlows": [{"locations": [_flow_location(number, step) for number, step in enumerate(one.way, 1)]}]}]
 
 
 def _result(one: Explained) -> Json:

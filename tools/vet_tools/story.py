@@ -17,7 +17,7 @@ from vet_tools.shown import in_quotes
 
 _HEAD = re.compile(r"^story ([1-9][0-9]{0,9})$", re.MULTILINE)
 _LINE = re.compile(r"([1-9][0-9]{0,9}) (?:start|rule ([1-9][0-9]?) from ([1-9][0-9 ]*)): ((?:[0-9a-f]{2})+)")
-MOST_PREMISES = 4
+MOST_PREMISES, RULES = 4, 48
 
 
 @dataclass(frozen=True)
@@ -51,9 +51,10 @@ def _line(text: str, number: int) -> StoryLine:
         row = row_of(bytes.fromhex(match[4]))
     except (ValueError, CertificateFault):
         raise _fault(text) from None
-    if len(premises) > MOST_PREMISES or any(not 0 < premise < number for premise in premises):
+    rule = int(match[2] or 0)
+    if rule > RULES or len(premises) > MOST_PREMISES or any(not 0 < premise < number for premise in premises):
         raise _fault(text)
-    return StoryLine(int(match[2] or 0), premises, row)
+    return StoryLine(rule, premises, row)
 
 
 def parse_stories(text: str) -> list[Story]:

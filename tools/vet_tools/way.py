@@ -1,148 +1,265 @@
 """A story told as a way from source to sink: what happens to the value, step by step, each where it happens.
 
-Of the lines of a story those are told that say where the value is; the others say what has to be so besides. What only
-copies the value, or spreads what was said to the callers and to what holds an object, is left out.
+Told are the lines that say where the value is, and where the objects are in which it is kept meanwhile, each behind those
+that make it possible. What only copies, or spreads what was said to callers
+and to what holds an object, is left out; so is how an object comes about that goes nowhere.
 """
 from __future__ import annotations
 
-from dataclasses import dataclass
+from dataclasses import dataclass, replace
 
-from vet_tools.certificate import Flat, Kind, Node, activation_of, node_of
+from vet_tools import story_rows
+from vet_tools.certificate import Flat, Kind, Node, SiteKind
 from vet_tools.dex_code import DexCode, Instruction, Method, SourceLine
-from vet_tools.java_names import java_place
 from vet_tools.report import Finding, Place
 from vet_tools.story import Story, StoryLine
+from vet_tools.way_order import Turn, ordered
+from vet_tools.way_words import OBJECT, SOURCE, VALUE, Names, Objects, call_name, field_of, method_name
+
+# Rules by which a value or object stays, moves from register to register, or by which what was said is spread.
+_FOLDED = frozenset({2, 3, 13, 14, 15, 16, 17, 18, 19, 20, 21})
+# Rules by which a method is entered from a call.
+_CALLS = frozenset({22, 23, 24, 28})
+# Rules by which the system or the library begins to run a method: such a step is of no instruction of the app.
+_BEGINS = frozenset({40, 41, 42, 43, 45})
+# Rules by which an object is made; by which what leads to the value becomes longer, and shorter; and by which it ends.
+_MADE, _PUTS, _GETS, _MAKES = frozenset({5, 34}), frozenset({6, 8, 14, 37, 38}), frozenset({7, 33}), frozenset({4, 35})
+# What is not told of components and shared objects: there is one of each, so it does not matter how it came there.
+_HOW = frozenset({Kind.POINTS, Kind.EXIT_POINTS})
+
+Sites = tuple[Flat | None, ...]
 
 
 @dataclass(frozen=True)
 class Step:
-    """One step of a way from source to sink: what happens there, and the code where there is some."""
+    """One step of a way: what happens there, and the code where there is some.
+
+    `essential` are the steps of the value itself, and `passes` those that only go from a method into one that it calls.
+    """
     place: Place
     says: str
     instruction: Instruction | None = None
     source_line: SourceLine | None = None
+    method: Method | None = None
+    essential: bool = True
+    passes: bool = False
+
+    @property
+    def where(self) -> str:
+        """The place, without an address where it is of no instruction."""
+        return str(self.place) if self.instruction else self.place.method
 
 
-# The kinds of rows that say where the value is.
-_VALUES = frozenset({Kind.TAINT, Kind.STATIC_TAINT, Kind.EFFECT, Kind.METHOD_EFFECT, Kind.EXIT_TAINT, Kind.COMP_TAINT,
-                     Kind.HANDED_TAINT, Kind.ARRIVE})
-_WITH_NODE = frozenset({Kind.REACHED, Kind.POINTS, Kind.TAINT, Kind.CALLS, Kind.EFFECT, Kind.UNKNOWN, Kind.USES})
-_WITH_ACTIVATION = frozenset({Kind.METHOD_EFFECT, Kind.EXIT_POINTS, Kind.EXIT_TAINT})
-# Rules by which a value stays, moves from register to register, or by which an effect is told further.
-_FOLDED = frozenset({2, 3, 14, 15, 16, 17, 41})
-# What is said of a step by its rule (docs/RULES.md); `{method}` is the method in which the value is afterwards.
-_SAYS = {
-    4: "a value is computed from it",
-    5: "it is the size of a new array",
-    6: "it goes into a new array",
-    7: "it is read from a field or an element",
-    8: "it is stored in a field or an element",
-    9: "it is read from a static field",
-    10: "it is stored in a static field",
-    11: "it is thrown",
-    12: "it is returned",
-    18: "an object in a static field holds it",
-    19: "the library was handed an object that holds it",
-    20: "the component keeps it",
-    21: "the component keeps it",
-    24: "it is passed to {method}",
-    25: "it comes back from the call",
-    26: "it is thrown by the call",
-    29: "an initialiser brought it",
-    30: "it is handed to the library",
-    32: "it comes back from the call",
-    33: "it is taken out of the object by the call",
-    35: "the result of the call is made of it",
-    36: "it comes from an object that the library shares",
-    37: "the call puts it into an object",
-    38: "the call puts it into an object that the library shares",
-    39: "the call copies it into another object",
-    40: "the component has it when {method} runs",
-    42: "the component has it when {method} runs",
-    43: "the library hands it to {method}",
-    45: "the library hands it to {method}",
-    46: "it is returned to the library",
-}
+@dataclass(frozen=True)
+class _Told:
+    """A line that is told: where it happens, what is said, and the method that is entered; `passed` are those of which
+    is said that they are passed there."""
+    number: int
+    node: Node
+    words: str
+    essential: bool
+    entered: Node | None = None
+    passed: tuple[str, ...] = ()
 
 
-def _node(row: Flat) -> Node | None:
-    """The instruction that a row names, where it names one."""
-    kind = row[0]
-    if kind in _WITH_NODE:
-        return node_of(row[1:])[0]
-    if kind == Kind.ARRIVE:
-        return node_of(row[3:])[0]
-    if kind == Kind.CALLED_BY:
-        return node_of(activation_of(row[1:])[1])[0]
-    return None
-
-
-def _method(row: Flat) -> Node | None:
-    """The first instruction of the method that a row names, where it names one."""
-    node = _node(row)
-    if node is None and row[0] in _WITH_ACTIVATION:
-        return activation_of(row[1:])[0]
-    return node
+@dataclass(frozen=True)
+class _Value:
+    """A line that says where the value is: whether it is the first, and the objects that lead to it there, and before."""
+    number: int
+    first: bool
+    before: Sites
+    sites: Sites
 
 
 class _Telling:
     """Tells one story over the code of an app."""
 
-    def __init__(self, story: Story, finding: Finding, code: DexCode) -> None:
+    def __init__(self, story: Story, finding: Finding, code: DexCode, names: Names) -> None:
         self.story, self.finding, self.code = story, finding, code
+        self.objects = Objects(story, code, names)
 
     def steps(self) -> tuple[Step, ...]:
         """The way, from where the value is taken to where it goes."""
-        found = [self._step(line, before) for line, before in self._values()
-                 if before is None or line.rule not in _FOLDED]
-        return tuple(step for step in found if step is not None)
+        values = self._values()
+        objects = self._of_objects([one.number for one in values])
+        self.objects.told(site for number in sorted({*objects, *(one.number for one in values)})
+                          for site in self._sites(self.story.line(number).row))
+        told = [self._value(one) for one in values if one.first or self._tells(one.number)]
+        told += [self._object(number) for number in objects]
+        told += self._calls([one.number for one in values if one.first or self._rule(one.number) == 9], told)
+        by_number = {one.number: one for one in told}
+        order = ordered(self.story, [Turn(one.number, one.node, one.entered) for one in told])
+        return tuple(self._step(one) for one in _together([by_number[number] for number in order]))
 
-    def _values(self) -> list[tuple[StoryLine, StoryLine | None]]:
-        """The lines that say where the value is, each with the one before it; the earliest first."""
-        found: list[tuple[StoryLine, StoryLine | None]] = []
-        line: StoryLine | None = self.story.lines[-1]
-        while line is not None:
-            before = next((one for one in self._premises(line) if one.row[0] in _VALUES), None)
-            found.append((line, before))
-            line = before
-        return found[::-1]
+    def _rule(self, number: int) -> int:
+        return self.story.line(number).rule
 
-    def _premises(self, line: StoryLine) -> list[StoryLine]:
-        return [self.story.line(number) for number in line.premises]
+    def _tells(self, number: int) -> bool:
+        line = self.story.line(number)
+        return line.rule not in _FOLDED and not (line.rule in (40, 41) and line.row[0] == Kind.COMP_TAINT)
 
-    def _step(self, line: StoryLine, before: StoryLine | None) -> Step | None:
-        node = self._where(line, before)
+    def _premises(self, number: int) -> list[tuple[int, StoryLine]]:
+        return [(one, self.story.line(one)) for one in self.story.line(number).premises]
+
+    def _values(self) -> list[_Value]:
+        """The lines that say where the value is, the earliest first."""
+        numbers = [len(self.story.lines)]
+        while True:
+            before = next((one for one, line in self._premises(numbers[-1]) if line.row[0] in story_rows.VALUES), None)
+            if before is None:
+                break
+            numbers.append(before)
+        found: list[_Value] = []
+        sites: Sites = ()
+        for number in numbers[::-1]:
+            now = self._holders(self.story.line(number), sites)
+            found.append(_Value(number, not found, sites, now))
+            sites = now
+        return found
+
+    def _holders(self, line: StoryLine, sites: Sites) -> Sites:
+        """The objects that lead to the value, the outermost first, by those that did before the line."""
+        site = story_rows.changed(line.row)
+        if line.rule in _PUTS:
+            sites = (site, *sites)
+        elif line.rule == 39:
+            sites = (site, *sites[1:])
+        elif line.rule in _GETS:
+            sites = sites[1:]
+        elif line.rule in _MAKES:
+            sites = ()
+        elif site is not None:
+            sites = (site, *sites[1:])
+        count = story_rows.keys(line.row)
+        return (*sites[:count], *([None] * (count - len(sites))))
+
+    def _of_objects(self, numbers: list[int]) -> list[int]:
+        """The lines that tell where the objects are on which these lines rest, without what goes nowhere."""
+        found: dict[int, Flat] = {}
+        todo = list(numbers)
+        seen: set[int] = set()
+        while todo:
+            for number, line in self._premises(todo.pop()):
+                if line.row[0] not in story_rows.OBJECTS or number in seen:
+                    continue
+                seen.add(number)
+                site = story_rows.held(line.row)
+                alone = site[0] in (SiteKind.COMPONENT, SiteKind.SHARED) and line.row[0] in _HOW
+                if alone:
+                    continue
+                if line.rule in OBJECT:
+                    found[number] = site
+                todo.append(number)
+        going = {site for number, site in found.items() if self._rule(number) not in _MADE}
+        return [number for number, site in found.items() if self._rule(number) not in _MADE or site in going]
+
+    def _sites(self, row: Flat) -> list[Flat]:
+        """The objects that a line may name."""
+        if row[0] == Kind.CELL:
+            return [story_rows.holder(row), story_rows.held(row)]
+        if row[0] in story_rows.OBJECTS:
+            return [story_rows.held(row)]
+        site = story_rows.changed(row)
+        return [] if site is None else [site]
+
+    def _calls(self, numbers: list[int], told: list[_Told]) -> list[_Told]:
+        """How control comes to these lines, from call to call, where no told line has said so."""
+        known = {(one.node, one.entered) for one in told if one.entered is not None}
+        found: dict[int, _Told] = {}
+        for number in numbers:
+            at: int | None = number
+            while at is not None:
+                line = self.story.line(at)
+                node = self._first_node(at)
+                if line.rule in _CALLS and line.row[0] in (Kind.REACHED, Kind.CALLS) and node is not None:
+                    into = story_rows.entered(line.row)
+                    if (node, into) not in known:
+                        known.add((node, into))
+                        words = f"{method_name(self.code, node)} calls {method_name(self.code, into)}"
+                        found[at] = _Told(at, node, words, False, into)
+                at = self._control(at)
+        return list(found.values())
+
+    def _control(self, number: int) -> int | None:
+        """The premise that says best how control came here."""
+        order = (Kind.REACHED, Kind.CALLS, Kind.USES, Kind.POINTS)
+        found = [(order.index(Kind(line.row[0])), one) for one, line in self._premises(number)
+                 if line.row[0] in order]
+        return min(found)[1] if found else None
+
+    def _first_node(self, number: int) -> Node | None:
+        """The instruction at which a line follows: of its first premise that names one."""
+        nodes = (story_rows.node(line.row) for _, line in self._premises(number))
+        return next((one for one in nodes if one is not None), None)
+
+    def _node(self, number: int) -> Node:
+        """Where a line is told: at the instruction of its premises, or at the beginning of the method that it names."""
+        line = self.story.line(number)
+        rows = [line.row, *(one.row for _, one in self._premises(number))]
+        node = story_rows.node(line.row) if line.row[0] == Kind.ARRIVE else (
+            story_rows.entered(line.row) if line.rule in _BEGINS else self._first_node(number))
+        node = node or next((one for one in map(story_rows.entered, rows) if one is not None), None)
         if node is None:
-            return None
-        method = self.code.numbered[node.method]
-        place = Place(str(method), node.pc)
-        return Step(place, self._says(line, before), method.at(node.pc), method.line_at(node.pc))
+            raise IndexError(number)
+        return node
 
-    def _where(self, line: StoryLine, before: StoryLine | None) -> Node | None:
-        """Where a step happens: at the instruction of its premises, that of the value first."""
-        if line.row[0] == Kind.ARRIVE or (before is None and line.rule != 35):
-            return _method(line.row)
-        rows = [one.row for one in ([before] if before else []) + self._premises(line)]
-        found = [node for node in map(_node, rows) if node is not None]
-        return found[0] if found else next((one for one in map(_method, [*rows, line.row]) if one is not None), None)
-
-    def _says(self, line: StoryLine, before: StoryLine | None) -> str:
+    def _value(self, one: _Value) -> _Told:
+        line, source = self.story.line(one.number), self.finding.source
         if line.row[0] == Kind.ARRIVE:
-            return f"it goes to {self.finding.sink}"
-        if before is None:
-            return f"{self.finding.source} is taken" if line.rule == 35 else (
-                f"the system hands {self.finding.source} to {self._entered(line.row)}")
-        return _SAYS.get(line.rule, f"rule {line.rule} brings it on").format(method=self._entered(line.row))
+            return self._told(one.number, "{value} goes to {sink}", True, value=source, sink=self.finding.sink)
+        words = (SOURCE if one.first else VALUE).get(line.rule, f"rule {line.rule} brings {{it}} on")
+        object_, carrier = (one.before, one.sites) if line.rule in _GETS else (one.sites, one.before)
+        return self._told(one.number, words, True, value=source, object=self.objects.the((*object_, None)[0]),
+                          it=self.objects.carried((*carrier, None)[0], source))
 
-    def _entered(self, row: Flat) -> str:
-        node = _method(row)
-        method: Method | None = None if node is None else self.code.numbered[node.method]
-        return "it" if method is None else java_place(method)
+    def _object(self, number: int) -> _Told:
+        row = self.story.line(number).row
+        site = story_rows.held(row)
+        holder = story_rows.holder(row) if row[0] == Kind.CELL else next(
+            (story_rows.holder(line.row) for _, line in self._premises(number) if line.row[0] == Kind.CELL), None)
+        return self._told(number, OBJECT[self._rule(number)], False, it=self.objects.the(site),
+                          new=self.objects.new(site), holder=self.objects.the(holder))
+
+    def _told(self, number: int, words: str, essential: bool, **more: str) -> _Told:
+        line, node = self.story.line(number), self._node(number)
+        instruction = self.code.numbered[node.method].at(node.pc)
+        into = story_rows.entered(line.row)
+        ended = next((story_rows.entered(one.row) for _, one in self._premises(number)
+                      if one.row[0] in (Kind.CALLED_BY, Kind.EXIT_TAINT, Kind.EXIT_POINTS)), None)
+        says = words.format_map({
+            "field": field_of(instruction), "method": method_name(self.code, into),
+            "call": call_name(instruction.called if instruction else None),
+            "from": method_name(self.code, ended or into), **more})
+        return _Told(number, node, says, essential, into if line.rule in _CALLS | _BEGINS else None,
+                     (more["it"],) if line.rule == 24 else ())
+
+    def _step(self, one: _Told) -> Step:
+        method, line = self.code.numbered[one.node.method], self.story.line(one.number)
+        place, words = Place(str(method), one.node.pc), one.words
+        if len(one.passed) > 1:
+            words = f"{' and '.join(one.passed)} are passed to {method_name(self.code, one.entered)}"
+        if line.rule in _BEGINS:
+            return Step(place, words, method=method, essential=one.essential)
+        return Step(place, words, method.at(one.node.pc), method.line_at(one.node.pc), method, one.essential,
+                    line.rule in _CALLS)
 
 
-def way_of(story: Story, finding: Finding, code: DexCode) -> tuple[Step, ...]:
+def _together(found: list[_Told]) -> list[_Told]:
+    """One step for all that one call passes on, where these stand beside each other."""
+    kept: list[_Told] = []
+    for one in found:
+        last = kept[-1] if kept else None
+        if last and last.passed and one.passed and (last.node, last.entered) == (one.node, one.entered):
+            kept[-1] = replace(last, passed=last.passed + one.passed, essential=last.essential or one.essential)
+        else:
+            kept.append(one)
+    return kept
+
+
+def way_of(story: Story, finding: Finding, code: DexCode, names: Names = Names()) -> tuple[Step, ...]:
     """The way that a story tells; none where it names methods that these files do not have."""
     try:
-        return _Telling(story, finding, code).steps()
+        return _Telling(story, finding, code, names).steps()
     except IndexError:
         return ()
+
