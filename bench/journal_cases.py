@@ -18,7 +18,7 @@ import subprocess
 import sys
 import tempfile
 
-from killed_desk import Desk, flagged_app, free_port, office_in
+from killed_desk import Desk, flagged_app, free_port, office_in, text_at
 
 EMPTY = b"VETJRNL1\0"
 ANN, REX = "ann-may-submit-0001", "rex-may-decide-0003"
@@ -123,7 +123,8 @@ def both(program):
 
 
 def whole_case(program):
-    """The whole way of a case, with a start behind each step; and the journal cut at every byte."""
+    """The whole way of a case, with a start behind each step; and the journal cut at each 97th byte of the record of the
+    app, and at every byte behind that."""
     with Row(program, "the whole way of a case") as row:
         row.put(b"")
         app = {**flagged_app(), "reference": "r1"}
@@ -140,7 +141,8 @@ def whole_case(program):
         whole = row.left()
     with Row(program, "a journal that is cut") as row:
         states = []
-        for size in [*range(0, 12), *range(12, len(whole), 97), len(whole) - 1, len(whole)]:
+        _, added = text_at(whole, len(EMPTY))
+        for size in [*range(0, 12), *range(12, added, 97), *range(added, len(whole) + 1)]:
             row.put(whole[:size])
             row.start()
             reply = row.desk.asked(ANN, "GET", "/cases/r1")
