@@ -1,10 +1,12 @@
 """The ways that `tools/why` tells of the examples, from the stories that the program prints."""
 from __future__ import annotations
 
+import json
 import unittest
+from pathlib import Path
 
-from tests.program import answer, at_once
-from tests.support import DATA, EXAMPLES, expected
+from tests.program import answer, at_once, program
+from tests.support import DATA, EXAMPLES, ToolCase, expected
 from vet_tools import story
 from vet_tools.explanation import Explanation, explain
 from vet_tools.why import way_text
@@ -47,6 +49,28 @@ class Ways(unittest.TestCase):
         self.assertEqual(1 + 21 + 20 * 2 + 1, len(heads))
         self.assertEqual("   2. device_id is passed to a.part0.Id0.step0(java.lang.Object), and on by 5 calls:", heads[1])
         self.assertEqual("  63. device_id goes to network", heads[-1])
+
+
+class Hostile(ToolCase):
+    def test_names_of_an_attacker_are_text_in_a_way(self) -> None:
+        app = self.copied("location_listener", "hostile")
+        dex = (app / "classes.dex").read_bytes()
+        self.assertEqual(1, dex.count(b"La/Listener;\x00"))
+        (app / "classes.dex").write_bytes(dex.replace(b"La/Listener;\x00", b"L<script>x{;\x00"))
+        place = "L<script>x{;->onLocationChanged(Landroid/location/Location;)V"
+        told = "the library calls <script>x{.onLocationChanged(android.location.Location) with location"
+        vet = str(program())
+        done = self.run_tool("why", str(app), vet=vet)
+        self.assertEqual(1, done.returncode, done.stderr)
+        self.assertIn(f"{told}\n        in   {place}\n", done.stdout)
+        done = self.run_tool("sarif", str(app), "--ways", vet=vet)
+        steps = json.loads(done.stdout)["runs"][0]["results"][0]["codeFlows"][0]["threadFlows"][0]["locations"]
+        self.assertIn(told.replace("{", "{{"), [step["location"]["message"]["text"] for step in steps])
+        page = Path(self.folder) / "app.html"
+        done = self.run_tool("page", str(app), "--ways", "-o", str(page), vet=vet)
+        self.assertEqual(1, done.returncode, done.stderr)
+        self.assertNotIn("<script", page.read_text())
+        self.assertIn(told.replace("<", "&lt;").replace(">", "&gt;"), page.read_text())
 
 
 if __name__ == "__main__":
