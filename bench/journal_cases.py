@@ -1,5 +1,6 @@
 #!/usr/bin/env python3
-"""Runs the desk over journals that are empty, cut, foreign, bad, in the way, or for which the disk has no room.
+"""Runs the desk over journals that are empty, cut, foreign, bad, in the way, or for which the disk has no room, and with peers
+that send one byte or do not read.
 
 usage: bench/journal_cases.py PROGRAM
 
@@ -170,6 +171,27 @@ def full_disk(program):
         row.asks(ANN, "GET", "/cases/r3", 200)
 
 
+def crowd(program):
+    """Connections that send one byte and end, and ones that never read their reply and stay: the desk goes on."""
+    with Row(program, "1,000 connections of one byte, and 200 that do not read") as row:
+        row.put(b"")
+        row.start()
+        row.asks(ANN, "POST", "/cases", 201, {**flagged_app(), "reference": "r1"})
+        before = row.left()
+        for _ in range(1000):
+            with row.desk.connected() as s:
+                s.sendall(b"G")
+        row.asks(ANN, "GET", "/cases/r1", 200)
+        silent = []
+        for _ in range(200):
+            silent.append(row.desk.connected())
+            silent[-1].sendall(f"GET /cases HTTP/1.1\r\nx-desk-token: {ANN}\r\n\r\n".encode())
+        row.asks(ANN, "GET", "/cases/r1", 200)
+        row.same(row.left(), before, "the journal")
+        for s in silent:
+            s.close()
+
+
 def main():
     program = os.path.abspath(sys.argv[1])
     for size in range(10):
@@ -185,6 +207,7 @@ def main():
     both(program)
     whole_case(program)
     full_disk(program)
+    crowd(program)
     print("all rows as they are to be")
 
 

@@ -52,7 +52,7 @@ class Desk:
     def connected(self):
         for _ in range(3000):
             try:
-                return socket.create_connection(("127.0.0.1", self.port), timeout=60)
+                return socket.create_connection(("127.0.0.1", self.port), timeout=600)
             except ConnectionRefusedError:
                 if self.process.poll() is not None:
                     raise ConnectionResetError("the desk has ended")

@@ -81,12 +81,13 @@ class _Telling:
     def steps(self) -> tuple[Step, ...]:
         """The way, from where the value is taken to where it goes."""
         values = self._values()
-        objects = self._of_objects([one.number for one in values])
+        control = self._control([one.number for one in values if one.first or self._rule(one.number) == 9])
+        objects = self._of_objects([one.number for one in values] + control)
         self.objects.told(site for number in sorted({*objects, *(one.number for one in values)})
                           for site in self._sites(self.story.line(number).row))
         told = [self._value(one) for one in values if one.first or self._tells(one.number)]
         told += [self._object(number) for number in objects]
-        told += self._calls([one.number for one in values if one.first or self._rule(one.number) == 9], told)
+        told += self._entries(control, told)
         by_number = {one.number: one for one in told}
         order = ordered(self.story, [Turn(one.number, one.node, one.entered) for one in told])
         return tuple(self._step(one) for one in _together([by_number[number] for number in order]))
@@ -162,30 +163,44 @@ class _Telling:
         site = story_rows.changed(row)
         return [] if site is None else [site]
 
-    def _calls(self, numbers: list[int], told: list[_Told]) -> list[_Told]:
-        """How control comes to these lines, from call to call, where no told line has said so."""
-        known = {(one.node, one.entered) for one in told if one.entered is not None}
-        found: dict[int, _Told] = {}
+    def _control(self, numbers: list[int]) -> list[int]:
+        """The lines by which control comes to these lines, from call to call, or from the library."""
+        found: dict[int, None] = {}
         for number in numbers:
             at: int | None = number
-            while at is not None:
+            while at is not None and at not in found:
                 line = self.story.line(at)
-                node = self._first_node(at)
-                if line.rule in _CALLS and line.row[0] in (Kind.REACHED, Kind.CALLS) and node is not None:
-                    into = story_rows.entered(line.row)
-                    if (node, into) not in known:
-                        known.add((node, into))
-                        words = f"{method_name(self.code, node)} calls {method_name(self.code, into)}"
-                        found[at] = _Told(at, node, words, False, into)
-                at = self._control(at)
-        return list(found.values())
+                if line.row[0] in (Kind.REACHED, Kind.CALLS) and line.rule in _CALLS | {43}:
+                    found[at] = None
+                at = self._before(at)
+        return list(found)
 
-    def _control(self, number: int) -> int | None:
+    def _before(self, number: int) -> int | None:
         """The premise that says best how control came here."""
         order = (Kind.REACHED, Kind.CALLS, Kind.USES, Kind.POINTS)
         found = [(order.index(Kind(line.row[0])), one) for one, line in self._premises(number)
                  if line.row[0] in order]
         return min(found)[1] if found else None
+
+    def _entries(self, control: list[int], told: list[_Told]) -> list[_Told]:
+        """How methods are entered by these lines, where no told line has said so."""
+        known = {one.entered for one in told if one.entered is not None}
+        found: list[_Told] = []
+        for number in control:
+            line = self.story.line(number)
+            into = story_rows.entered(line.row)
+            if into in known:
+                continue
+            known.add(into)
+            if line.rule == 43:
+                site = next((story_rows.held(one.row) for _, one in self._premises(number)), None)
+                found.append(self._told(number, "the library calls {method} on {object}", False,
+                                        object=self.objects.the(site)))
+            else:
+                node = self._node(number)
+                words = f"{method_name(self.code, node)} calls {method_name(self.code, into)}"
+                found.append(_Told(number, node, words, False, into))
+        return found
 
     def _first_node(self, number: int) -> Node | None:
         """The instruction at which a line follows: of its first premise that names one."""
