@@ -67,8 +67,8 @@ def blocks_of(text: str) -> list[list[str]]:
 def fault_of(block: list[str]) -> str:
     """What is wrong with the lines of a story, empty where nothing is that can be seen without the app.
 
-    Each is numbered, and is a start, or follows by a rule from one to four lines before it, whose rows and whose own are
-    of kinds that the rule has. No row stands twice, each line but the last is a premise, and the last is an arrival.
+    Each is numbered, and is a start, or follows by a rule from one to four lines before it, whose rows and whose own
+    are of kinds that the rule has. No row stands twice, each line but the last is used, and the last is an arrival.
     """
     rows: list[bytes] = []
     used: set[int] = set()

@@ -1,6 +1,6 @@
 """A desk of the program whose cases are in a journal: whatever stands in the file, its place, or beside it.
 
-Where no proved program is built, and VET_DESK names none, the desk is a stand-in that has no journal, and nothing is run.
+Where no proved program is built, and VET_DESK names none, the desk is a stand-in that has no journal; nothing is run.
 """
 from __future__ import annotations
 

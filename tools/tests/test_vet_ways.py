@@ -47,7 +47,8 @@ class Ways(unittest.TestCase):
         lines = way_text(finding.way)
         heads = [line for line in lines if line[:4].strip().isdigit()]
         self.assertEqual(1 + 21 + 20 * 2 + 1, len(heads))
-        self.assertEqual("   2. device_id is passed to a.part0.Id0.step0(java.lang.Object), and on by 5 calls:", heads[1])
+        self.assertEqual("   2. device_id is passed to a.part0.Id0.step0(java.lang.Object), and on by 5 calls:",
+                         heads[1])
         self.assertEqual("  63. device_id goes to network", heads[-1])
 
 

@@ -13,6 +13,7 @@ import tempfile
 from dataclasses import dataclass
 from html import escape
 from pathlib import Path
+from typing import Sequence
 
 from vet_tools import advice, forms, report
 from vet_tools.advice import Advice
@@ -27,6 +28,7 @@ from vet_tools.java_names import java_method, java_place
 from vet_tools.list_rows import rows
 from vet_tools.report import CauseKind, NoReport, Outcome, Report, ReportFault
 from vet_tools.shown import counted, in_quotes
+from vet_tools.way import Step, grouped, said
 
 STYLE = Path(__file__).with_name("page.css")
 BEFORE, AFTER = 5, 2
@@ -76,18 +78,25 @@ def _code(one: Explained, before: int = BEFORE, after: int = AFTER) -> str:
     return _pre("\n".join(lines), f"code at {one.instruction.pc}")
 
 
+def _place(step: Step) -> str:
+    line = f" <span class=\"dim\">({escape(str(step.source_line))})</span>" if step.source_line else ""
+    return f"<br><span class=\"name\">{escape(step.where)}</span>{line}"
+
+
+def _steps(steps: Sequence[Step]) -> str:
+    """A step, or several that only go from call to call: where each is, and the instruction of the last."""
+    last = steps[-1]
+    code = f"<br><code>{escape(last.instruction.text)}</code>" if last.instruction else ""
+    ends = f"<br>at last {escape(last.says)}" if len(steps) > 1 else ""
+    kind = "" if any(step.essential for step in steps) else ' class="besides"'
+    return f"<li{kind}>{escape(said(steps))}{''.join(map(_place, steps[:-1]))}{ends}{_place(last)}{code}</li>"
+
+
 def _way(one: Explained) -> str:
     """The way from source to sink, where one is known."""
     if not one.way:
         return ""
-    steps = []
-    for step in one.way:
-        line = f" <span class=\"dim\">({escape(str(step.source_line))})</span>" if step.source_line else ""
-        code = f"<br><code>{escape(step.instruction.text)}</code>" if step.instruction else ""
-        kind = "" if step.essential else ' class="besides"'
-        steps.append(f"<li{kind}>{escape(step.says)}<br>"
-                     f"<span class=\"name\">{escape(step.where)}</span>{line}{code}</li>")
-    return f'<h4>The way to the sink</h4><ol class="way">{"".join(steps)}</ol>'
+    return f'<h4>The way to the sink</h4><ol class="way">{"".join(map(_steps, grouped(one.way)))}</ol>'
 
 
 def _behind(one: Explained, grouped: bool = False) -> str:

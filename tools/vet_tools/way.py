@@ -1,17 +1,20 @@
 """A story told as a way from source to sink: what happens to the value, step by step, each where it happens.
 
-Told are the lines that say where the value is, and where the objects are in which it is kept meanwhile, each behind those
-that make it possible. What only copies, or spreads what was said to callers
-and to what holds an object, is left out; so is how an object comes about that goes nowhere.
+Told are the lines that say where the value is, and where the objects are in which it is kept meanwhile, each behind
+those that make it possible. What only copies, or spreads what was said to callers and to what holds an object, is left
+out; so is how an object comes about that goes nowhere.
 """
 from __future__ import annotations
 
 from dataclasses import dataclass, replace
+from itertools import groupby
+from typing import Sequence
 
 from vet_tools import story_rows
 from vet_tools.certificate import Flat, Kind, Node, SiteKind
 from vet_tools.dex_code import DexCode, Instruction, Method, SourceLine
 from vet_tools.report import Finding, Place
+from vet_tools.shown import counted
 from vet_tools.story import Story, StoryLine
 from vet_tools.way_order import Turn, ordered
 from vet_tools.way_words import OBJECT, SOURCE, VALUE, Names, Objects, call_name, field_of, method_name
@@ -26,6 +29,7 @@ _BEGINS = frozenset({40, 41, 42, 43, 45})
 _MADE, _PUTS, _GETS, _MAKES = frozenset({5, 34}), frozenset({6, 8, 14, 37, 38}), frozenset({7, 33}), frozenset({4, 35})
 # What is not told of components and shared objects: there is one of each, so it does not matter how it came there.
 _HOW = frozenset({Kind.POINTS, Kind.EXIT_POINTS})
+LONG = 4  # so many calls one behind the other are told as one
 
 Sites = tuple[Flat | None, ...]
 
@@ -64,7 +68,7 @@ class _Told:
 
 @dataclass(frozen=True)
 class _Value:
-    """A line that says where the value is: whether it is the first, and the objects that lead to it there, and before."""
+    """A line that says where the value is; whether it is the first; the objects that lead to it before, and there."""
     number: int
     first: bool
     before: Sites
@@ -278,3 +282,16 @@ def way_of(story: Story, finding: Finding, code: DexCode, names: Names = Names()
     except IndexError:
         return ()
 
+
+def grouped(way: Sequence[Step]) -> list[tuple[Step, ...]]:
+    """The steps of a way, where those that only go from call to call for long are one group."""
+    found: list[tuple[Step, ...]] = []
+    for passes, group in groupby(way, key=lambda step: step.passes):
+        steps = tuple(group)
+        found += [steps] if passes and len(steps) >= LONG else [(step,) for step in steps]
+    return found
+
+
+def said(steps: Sequence[Step]) -> str:
+    """What is said of a group of steps."""
+    return steps[0].says if len(steps) == 1 else f"{steps[0].says}, and on by {counted(len(steps) - 1, 'call')}"

@@ -11,9 +11,9 @@ from vet_tools.forms import Component
 from vet_tools.java_names import java_method, java_place, java_type, split_types
 from vet_tools.story import Story
 
-# What is said of the value, by the rule (docs/RULES.md) by which it comes where it is. `{it}` is the value, or the object
-# that holds it, `{value}` the value alone, `{field}` the field or element, `{object}` the object that is changed or read,
-# `{method}` the method that is entered, `{call}` the one that is called, `{from}` the one that has run.
+# What is said of the value, by the rule (docs/RULES.md) by which it comes where it is. `{it}` is the value, or the
+# object that holds it, `{value}` the value alone, `{field}` the field or element, `{object}` the object that is changed
+# or read, `{method}` the method that is entered, `{call}` the one that is called, `{from}` the one that has run.
 VALUE = {
     4: "a value is computed from {value}",
     5: "{value} is the size of a new array",
@@ -147,7 +147,8 @@ class Objects:
 
     def _plain(self, site: Flat) -> str:
         if site[0] == SiteKind.SHARED:
-            return f"shared object {self.names.shared[site[1]]}" if site[1] < len(self.names.shared) else "shared object"
+            name = self.names.shared[site[1]] if site[1] < len(self.names.shared) else ""
+            return f"shared object {name}".rstrip()
         kind = self.class_of(site) or "object"
         if site[0] == SiteKind.COMPONENT and site[1] < len(self.names.components):
             return f"{self.names.components[site[1]].kind} {kind}"

@@ -3,7 +3,6 @@ from __future__ import annotations
 
 import sys
 import textwrap
-from itertools import groupby
 from typing import Sequence
 
 from vet_tools import report, story
@@ -11,16 +10,14 @@ from vet_tools.command import STATUSES, Words, refuse
 from vet_tools.explain import WIDTH
 from vet_tools.explanation import Explained, Explanation, explain
 from vet_tools.report import NoReport, Outcome, ReportFault
-from vet_tools.shown import counted
-from vet_tools.way import Step
+from vet_tools.way import Step, grouped, said
 
-LONG = 4  # so many calls one behind the other are told as one step
-HEAD = ("Each way is a derivation by the rules of the analysis (docs/RULES.md), and may be no run: the analysis mixes up "
-        "some things on purpose (docs/REPORT.md, \"A finding\"). Moves from register to register are left out.")
+HEAD = ("Each way is a derivation by the rules of the analysis (docs/RULES.md), and may be no run: the analysis mixes "
+        "up some things on purpose (docs/REPORT.md, \"A finding\"). Moves from register to register are left out.")
 
 
-def _step(number: int, step: Step) -> list[str]:
-    lines = [f"  {number:>2}. {step.says}", f"        {'at' if step.instruction else 'in'}   {step.where}"]
+def _where(step: Step) -> list[str]:
+    lines = [f"        {'at' if step.instruction else 'in'}   {step.where}"]
     if step.instruction is not None:
         lines.append(f"        {step.instruction.pc:04x} {step.instruction.text}")
     if step.source_line is not None:
@@ -28,27 +25,19 @@ def _step(number: int, step: Step) -> list[str]:
     return lines
 
 
-def _passed(number: int, steps: list[Step]) -> list[str]:
-    """Several steps that only go from call to call, as one: the first and the last call in words."""
-    lines = [f"  {number:>2}. {steps[0].says}, and on by {counted(len(steps) - 1, 'call')}:"]
-    lines += [f"        at   {step.where}" + (f" (line {step.source_line})" if step.source_line else "")
-              for step in steps[:-1]]
-    return [*lines, f"      at last {steps[-1].says}", *_step(0, steps[-1])[1:]]
+def _passed(steps: Sequence[Step]) -> list[str]:
+    """Where steps are that only go from call to call, and where the last of them leads."""
+    lines = [f"        at   {step.where}" + (f" (line {step.source_line})" if step.source_line else "")
+             for step in steps[:-1]]
+    return [*lines, f"      at last {steps[-1].says}", *_where(steps[-1])]
 
 
 def way_text(way: Sequence[Step]) -> list[str]:
     """The steps of a way, numbered; what only goes from call to call for long is one of them."""
     lines: list[str] = []
-    number = 0
-    for passes, group in groupby(way, key=lambda step: step.passes):
-        steps = list(group)
-        if passes and len(steps) >= LONG:
-            number += 1
-            lines += _passed(number, steps)
-            continue
-        for step in steps:
-            number += 1
-            lines += _step(number, step)
+    for number, steps in enumerate(grouped(way), 1):
+        lines.append(f"  {number:>2}. {said(steps)}" + (":" if len(steps) > 1 else ""))
+        lines += _passed(steps) if len(steps) > 1 else _where(steps[0])
     return lines
 
 
