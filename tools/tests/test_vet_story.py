@@ -36,9 +36,9 @@ def uses(pc: int, row: int) -> bytes:
     return bytes([20]) + node(pc) + bytes([0]) + u4(row)
 
 
-# The sample takes a device id at 0 by row 11 of its lists, moves it from the register of results to register 0 at 3, and
-# posts it at 4 by row 12, whose sink is category 2. The result is of the category itself, by the path of no keys, and so
-# are its elements, by the path of the one key 0: both stories are right. By docs/RULES.md, the earliest first:
+# The sample takes a device id at 0 by row 11 of its lists, moves it from the register of results to register 0 at 3,
+# and posts it at 4 by row 12, whose sink is category 2. The result is of the category itself, by the path of no keys,
+# and so are its elements, by the path of the one key 0: both stories are right. By docs/RULES.md, the earliest first:
 SAMPLES = [[
     ("start", bytes([14]) + u4(0) + bytes([0])),
     ("rule 40 from 1", bytes([14]) + u4(0) + bytes([1])),
