@@ -5,8 +5,10 @@ import json
 import unittest
 
 from tests.support import EXAMPLES, ToolCase, expected
+from vet_tools.certificate import Node
 from vet_tools.report import ReportFault
-from vet_tools.story import StoryLine, parse, parse_stories
+from vet_tools.story import Story, StoryLine, parse, parse_stories
+from vet_tools.way_order import Turn, ordered
 
 NAME = "device_id_posted"
 PLACE = "La/Main;->onCreate(Landroid/os/Bundle;)V"
@@ -61,6 +63,39 @@ class Reading(unittest.TestCase):
                          (": 12", ": 13")):
             with self.subTest(old=old, new=new), self.assertRaises(ReportFault):
                 parse_stories(STORY.replace(old, new))
+
+
+def story_of(*premises: tuple[int, ...]) -> Story:
+    """A story whose lines follow so from each other; what they say does not matter."""
+    return Story(tuple(StoryLine(1 if ones else 0, ones, (14, number, 0)) for number, ones in enumerate(premises)))
+
+
+class Order(unittest.TestCase):
+    """Methods 0 and 1 in one context each; a step of method 0 at 7 enters method 1."""
+    CALLER, CALLEE = (0, 0, 1), (5, 0, 7)
+
+    def order(self, story: Story, *turns: tuple[int, Node, Node | None]) -> list[int]:
+        return ordered(story, [Turn(*turn) for turn in turns])
+
+    def test_a_method_is_entered_before_what_happens_in_it(self) -> None:
+        enters, inside = Node(self.CALLER, 0, 7), Node(self.CALLEE, 1, 3)
+        story = story_of((), (1,), (1,))
+        self.assertEqual([3, 2], self.order(story, (2, inside, None), (3, enters, inside)))
+
+    def test_what_the_call_rests_on_comes_before_it_even_where_it_is_in_the_method(self) -> None:
+        enters, inside = Node(self.CALLER, 0, 7), Node(self.CALLEE, 1, 3)
+        self.assertEqual([2, 3], self.order(story_of((), (1,), (2,)), (2, inside, None), (3, enters, inside)))
+
+    def test_within_a_method_it_goes_by_address_and_each_stands_behind_its_premises(self) -> None:
+        first, second, third = (Node(self.CALLER, 0, pc) for pc in (2, 4, 6))
+        story = story_of((), (1,), (1,), (2,))
+        self.assertEqual([2, 3, 4], self.order(story, (2, third, None), (3, first, None), (4, second, None)))
+        self.assertEqual([2, 4, 3], self.order(story, (2, first, None), (3, third, None), (4, second, None)))
+
+    def test_what_was_begun_in_a_method_goes_on_there(self) -> None:
+        enters, inside, later = Node(self.CALLER, 0, 7), Node(self.CALLEE, 1, 3), Node(self.CALLER, 0, 9)
+        story = story_of((), (1,), (1,), (1,))
+        self.assertEqual([2, 4, 3], self.order(story, (2, enters, inside), (3, later, None), (4, inside, None)))
 
 
 class Ways(ToolCase):
