@@ -139,6 +139,32 @@ class Ways(ToolCase):
         report.write_text(answer.replace("@4", "@5"))
         self.assertIn("is not the report", self.run_tool("sarif", *words).stderr)
 
+    def vet_with(self, story: str) -> str:
+        """A stand-in that prints the report, and does this where it is asked for stories."""
+        status, answer = expected()[NAME]
+        vet = self.folder / "vet_with"
+        vet.write_text(f"#!/bin/sh\nprintf '%s' '{answer}'\nif [ $1 = story ]; then {story}; fi\nexit {status}\n")
+        vet.chmod(0o755)
+        return str(vet)
+
+    def test_ways_are_told_where_vet_is_run_anyway(self) -> None:
+        status, answer = expected()[NAME]
+        vet = self.vet_with(f"printf '%s' '{STORY}'")
+        report = self.folder / "report.txt"
+        report.write_text(answer)
+        for more, told in (([], True), (["--no-ways"], False), (["--ways"], True), (["--report", str(report)], False)):
+            done = self.run_tool("sarif", str(EXAMPLES / NAME), *more, vet=vet)
+            self.assertEqual((status, told), (done.returncode, "codeFlows" in done.stdout), more)
+
+    def test_where_there_is_no_story_the_page_says_so(self) -> None:
+        vet = self.vet_with("exit 7")
+        page = self.folder / "app.html"
+        done = self.run_tool("page", str(EXAMPLES / NAME), "-o", str(page), vet=vet)
+        self.assertEqual(1, done.returncode, done.stderr)
+        self.assertIn("Not shown: the ways of the findings, since vet gave no report (status 7)", page.read_text())
+        done = self.run_tool("page", str(EXAMPLES / NAME), "--ways", "-o", str(page), vet=vet)
+        self.assertEqual(7, done.returncode)
+
 
 if __name__ == "__main__":
     unittest.main()

@@ -47,19 +47,29 @@ def add_folder(parser: argparse.ArgumentParser) -> None:
 
 
 def add_ways(parser: argparse.ArgumentParser) -> None:
-    """The word by which page and sarif tell the ways of findings."""
-    parser.add_argument("--ways", action="store_true", help="tell how each finding follows, by vet story, which works "
-                        "longer than vet check")
+    """The words by which page and sarif tell the ways of findings, or do not."""
+    parser.add_argument("--ways", action=argparse.BooleanOptionalAction, default=None,
+                        help="tell how each finding follows, by vet story, which works longer than vet check; without "
+                        "these words it is told where vet is run anyway")
 
 
-def ways_of(folder: Path, one: Report) -> list[Story]:
-    """The stories of this report. Raises `ReportFault`, also where vet now says another report, and `NoReport`."""
-    if not one.findings:
-        return []
-    said, stories = story.told(folder)
+def ways_of(words: argparse.Namespace, folder: Path, one: Report) -> tuple[list[Story], list[str]]:
+    """The stories of this report, where they are wanted, and sentences on why there are none.
+
+    Raises `ReportFault`, also where vet now says another report. Where `--ways` asks for them it raises `NoReport`.
+    """
+    asked_besides = not words.report and not getattr(words, "certificate", None)
+    if not one.findings or not (asked_besides if words.ways is None else words.ways):
+        return [], []
+    try:
+        said, stories = story.told(folder)
+    except NoReport as fault:
+        if words.ways:
+            raise
+        return [], [f"the ways of the findings, since {fault}"]
     if said != one:
         raise ReportFault("What vet story says now is not the report; hand in the report of these very files.")
-    return stories
+    return stories, []
 
 
 def report_of(words: argparse.Namespace) -> tuple[Report, Path]:

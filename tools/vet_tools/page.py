@@ -277,7 +277,9 @@ def subject_of(words: argparse.Namespace) -> Subject:
     else:
         folder = report.app_folder(words.folder)
         one, reached, why = _certified(folder, words.workers)
-    found = explain(one, folder, ways_of(folder, one) if words.ways else [])
+    stories, faults = ways_of(words, folder, one)
+    found = explain(one, folder, stories)
+    found.faults += faults
     try:
         manifest = forms.manifest_of(folder)
         package, digest = manifest.package, forms.digest_of(folder, manifest.dex_files).hex()

@@ -167,8 +167,10 @@ def main(arguments: list[str] | None = None) -> int:
     words = parser.parse_args(arguments)
     try:
         one, folder = report_of(words)
-        stories = ways_of(folder, one) if words.ways else []
-        text = json.dumps(document(explain(one, folder, stories)), indent=2) + "\n"
+        stories, faults = ways_of(words, folder, one)
+        found = explain(one, folder, stories)
+        found.faults += faults
+        text = json.dumps(document(found), indent=2) + "\n"
         if words.output:
             write(Path(words.output), text, folder, (words.report,))
         else:
