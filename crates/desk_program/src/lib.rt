@@ -1,19 +1,23 @@
-//! The program with the desk over HTTP, over whatever system runs it: where the words ask for a desk, the files, the
-//! standard output, a port, a clock and a keeper of cases go to its top call, and its status is the exit status; all
-//! other words are those of `vet_program`. `vet` runs it.
+//! The program, whatever system runs it: words, files, standard output, a keeper of cases, a port with a clock and
+//! ports that are dialled go to the top call that the words ask for, and its status is the exit status. `vet` hands it
+//! the adapters of the system.
 #![tactic(auto)]
 
-ghost use Rattle.std.specs.Prelude.{map, option_map, string_bytes};
+ghost use Rattle.std.specs.Prelude.{◌≡◌, map, option_map, string_bytes};
 ghost use Rattle.std.specs.Process.{exit_status};
 ghost use Rattle.desk_serving.specs.Obeying.{TellsDocket};
 ghost use Rattle.desk_service.specs.Saying.{status};
 ghost use Rattle.desk_service.specs.Serving.{seen, Answers};
 ghost use Rattle.desk_words.specs.Serve.{parse};
+ghost use Rattle.vet_program.specs.Program.{RunsGiven};
+ghost use Rattle.desk_program.specs.Program.{task_of, world, Runs};
 
 mod files;
 mod keepers;
 
+use caller_host::TcpCaller;
 use case_keeper::Keeper;
+use desk_callers::Caller;
 use desk_host::{HostClock, TcpDoor};
 use desk_links::{Clock, Door};
 use desk_service::{Outside, Status, serve};
@@ -21,6 +25,7 @@ pub use files::{CaseFiles, case_files};
 pub use keepers::Keepers;
 use std::alloc::Global;
 use std::env::Env;
+use std::io;
 use std::marker::Sync;
 use std::net::Net;
 use std::process::ExitCode;
@@ -30,8 +35,8 @@ use std::sync::Wait;
 use std::thread::Threads;
 use std::time::Clock as SystemClock;
 use vet_base::{Files, Memory, Sink};
-use vet_program::{run_here, seed_of, words_from};
-use vetting_desk::{HostFiles, StandardSink};
+use vet_program::{answered_without_desk, seed_of, words_of};
+use vetting_desk::{HostFiles, StandardSink, words_given};
 use worker_pool::{Crew, NoLookout};
 
 /// Serves a desk where the words ask for one, over this outside, with threads of the system; `None` where they ask for
@@ -77,32 +82,164 @@ where
     Some(ExitCode::from(status))
 }
 
-/// Serves over the system's files, output and clock, a port of this machine, and the keeper of the cases in the folder
-/// of the office; `None` where the words ask for no desk.
-fn served_here<R, K>(rt: R, keepers: &K, words: &[String], seed: u64) -> Option<ExitCode>
-where
-    R: SystemFiles + Print + Net + SystemClock + AllocGlobal + Threads + Wait + Sync + Copy + Drop,
-    K: Keepers,
+/// Tells the keeper in which files its cases may be kept, where the words ask for a desk: those of its office.
+fn placed<K: Keepers>(
+    alloc: Global,
+    words: &[String],
+    keepers: &K,
+    keeper: &mut K::Kept,
+) -> Result<(), Memory>
+    requires { K.unplaced keeper.old }
+    ensures told { K.Kept.told keeper.new ≡ K.Kept.told keeper.old }
+    ensures faults { K.Kept.fault_count keeper.new ≡ K.Kept.fault_count keeper.old }
 {
-    let alloc = rt.alloc();
-    let files = match case_files(alloc, words) {
-        Ok(files) => files?,
-        Err(Memory) => return Some(ExitCode::from(7)),
-    };
-    let mut outside = Outside {
-        files: HostFiles::new(rt),
-        out: StandardSink::new(rt),
-        keeper: keepers.keeper_at(files),
-        door: TcpDoor::new(rt),
-        clock: HostClock::new(rt),
-    };
-    served(alloc, words, &mut outside, &rt, seed)
+    match case_files(alloc, words)? {
+        Some(files) => {
+            keepers.place(keeper, files);
+            Ok(())
+        }
+        None => Ok(()),
+    }
 }
 
-/// Runs the words that the system gives over its files, prints the answer to the standard output, and gives the status
-/// of the top call as the exit status. Where the words ask for a desk, its cases are with the keeper that `keepers`
-/// finds in the folder of the office.
-pub fn run<R, K>(rt: R, keepers: &K) -> ExitCode
+/// Serves a desk where the words ask for one, and else hands in an app or vets as they ask, over this outside and this
+/// caller, with threads of the system.
+fn answered<F, O, K, D, C, N, T>(
+    alloc: Global,
+    words: &[String],
+    outside: &mut Outside<F, O, K, D, C>,
+    caller: &mut N,
+    rt: &T,
+    seed: u64,
+) -> ExitCode
+where
+    F: Files,
+    O: Sink,
+    K: Keeper,
+    D: Door,
+    C: Clock,
+    N: Caller,
+    T: Threads + Wait + Sync,
+    requires { TellsDocket (K.told outside.old.keeper) }
+    ensures runs { Runs (task_of (map string_bytes words.now)) (C.told outside.old.clock)
+        (world (F.told outside.old.files) (F.fault_count outside.old.files) (O.taken outside.old.out)
+        (O.fault_count outside.old.out)
+        (K.told outside.old.keeper) (K.fault_count outside.old.keeper) (D.Link.told outside.old.door)
+        (D.Link.fault_count outside.old.door) (N.Link.told caller.old) (N.Link.fault_count caller.old))
+        (world (F.told outside.new.files) (F.fault_count outside.new.files) (O.taken outside.new.out)
+        (O.fault_count outside.new.out)
+        (K.told outside.new.keeper) (K.fault_count outside.new.keeper) (D.Link.told outside.new.door)
+        (D.Link.fault_count outside.new.door) (N.Link.told caller.new) (N.Link.fault_count caller.new))
+        (exit_status result) }
+    ensures docket { TellsDocket (K.told outside.new.keeper) }
+{
+    match served(alloc, words, outside, rt, seed) {
+        Some(code) => code,
+        None => answered_without_desk(
+            alloc,
+            words,
+            &mut outside.files,
+            &mut outside.out,
+            caller,
+            rt,
+            seed,
+        ),
+    }
+}
+
+/// The same with a keeper that is told where its cases may be kept. Where there is no memory for that, nothing is done.
+fn answered_by<F, O, K, D, C, N, T>(
+    alloc: Global,
+    words: &[String],
+    outside: &mut Outside<F, O, K::Kept, D, C>,
+    keepers: &K,
+    caller: &mut N,
+    rt: &T,
+    seed: u64,
+) -> ExitCode
+where
+    F: Files,
+    O: Sink,
+    K: Keepers,
+    D: Door,
+    C: Clock,
+    N: Caller,
+    T: Threads + Wait + Sync,
+    requires docket { TellsDocket (K.Kept.told outside.old.keeper) }
+    requires unplaced { K.unplaced outside.old.keeper }
+    ensures runs { Runs (task_of (map string_bytes words.now)) (C.told outside.old.clock)
+        (world (F.told outside.old.files) (F.fault_count outside.old.files) (O.taken outside.old.out)
+        (O.fault_count outside.old.out)
+        (K.Kept.told outside.old.keeper) (K.Kept.fault_count outside.old.keeper) (D.Link.told outside.old.door)
+        (D.Link.fault_count outside.old.door) (N.Link.told caller.old) (N.Link.fault_count caller.old))
+        (world (F.told outside.new.files) (F.fault_count outside.new.files) (O.taken outside.new.out)
+        (O.fault_count outside.new.out)
+        (K.Kept.told outside.new.keeper) (K.Kept.fault_count outside.new.keeper) (D.Link.told outside.new.door)
+        (D.Link.fault_count outside.new.door) (N.Link.told caller.new) (N.Link.fault_count caller.new))
+        (exit_status result) }
+    ensures docket { TellsDocket (K.Kept.told outside.new.keeper) }
+{
+    match placed(alloc, words, keepers, &mut outside.keeper) {
+        Ok(()) => answered(alloc, words, outside, caller, rt, seed),
+        Err(Memory) => ExitCode::from(7),
+    }
+}
+
+/// The program: it answers the words that the system gave, over these files, this output, keeper, door, clock and
+/// caller, with threads and a seed of the system. Words that cannot be read are no command, and the exit status is 7
+/// where memory ran out while they were read.
+pub fn program<F, O, K, D, C, N, T>(
+    alloc: Global,
+    given: io::Result<Vec<String>>,
+    outside: &mut Outside<F, O, K::Kept, D, C>,
+    keepers: &K,
+    caller: &mut N,
+    rt: &T,
+) -> ExitCode
+where
+    F: Files,
+    O: Sink,
+    K: Keepers,
+    D: Door,
+    C: Clock,
+    N: Caller,
+    T: RandomSource + Threads + Wait + Sync,
+    // The keeper's cases, where it tells them, are those of a desk.
+    requires docket { TellsDocket (K.Kept.told outside.old.keeper) }
+    // No place was given to the keeper before.
+    requires unplaced { K.unplaced outside.old.keeper }
+
+    // It ends as is due to what the words ask for, a desk, a submission or a vetting; where there was no memory for the
+    // words nothing is done.
+    ensures runs { RunsGiven given (λ words. Runs (task_of words) (C.told outside.old.clock)
+        (world (F.told outside.old.files) (F.fault_count outside.old.files) (O.taken outside.old.out)
+        (O.fault_count outside.old.out)
+        (K.Kept.told outside.old.keeper) (K.Kept.fault_count outside.old.keeper) (D.Link.told outside.old.door)
+        (D.Link.fault_count outside.old.door) (N.Link.told caller.old) (N.Link.fault_count caller.old))
+        (world (F.told outside.new.files) (F.fault_count outside.new.files) (O.taken outside.new.out)
+        (O.fault_count outside.new.out)
+        (K.Kept.told outside.new.keeper) (K.Kept.fault_count outside.new.keeper) (D.Link.told outside.new.door)
+        (D.Link.fault_count outside.new.door) (N.Link.told caller.new) (N.Link.fault_count caller.new))
+        (exit_status result))
+        ((exit_status result ≡ 7) ×
+        (world (F.told outside.new.files) (F.fault_count outside.new.files) (O.taken outside.new.out)
+        (O.fault_count outside.new.out)
+        (K.Kept.told outside.new.keeper) (K.Kept.fault_count outside.new.keeper) (D.Link.told outside.new.door)
+        (D.Link.fault_count outside.new.door) (N.Link.told caller.new) (N.Link.fault_count caller.new)
+        ≡ world (F.told outside.old.files) (F.fault_count outside.old.files) (O.taken outside.old.out)
+        (O.fault_count outside.old.out)
+        (K.Kept.told outside.old.keeper) (K.Kept.fault_count outside.old.keeper) (D.Link.told outside.old.door)
+        (D.Link.fault_count outside.old.door) (N.Link.told caller.old) (N.Link.fault_count caller.old))) }
+    ensures docket { TellsDocket (K.Kept.told outside.new.keeper) }
+{
+    match words_given(alloc, given) {
+        Ok(words) => answered_by(alloc, &words, outside, keepers, caller, rt, seed_of(rt)),
+        Err(status) => ExitCode::from(status.0),
+    }
+}
+
+/// Runs the program over the words, the files, the output, the ports and the clock of the system, and over this keeper.
+pub fn run<R, K>(rt: R, keepers: &K, keeper: K::Kept) -> ExitCode
 where
     R: SystemFiles
         + Env
@@ -117,14 +254,24 @@ where
         + Copy
         + Drop,
     K: Keepers,
+    requires docket { TellsDocket (K.Kept.told keeper) }
+    requires unplaced { K.unplaced keeper }
 {
-    let words = match words_from(&rt) {
-        Ok(words) => words,
-        Err(code) => return code,
+    let alloc = rt.alloc();
+    let mut outside = Outside {
+        files: HostFiles::new(rt),
+        out: StandardSink::new(rt),
+        keeper,
+        door: TcpDoor::new(rt),
+        clock: HostClock::new(rt),
     };
-    let seed = seed_of(&rt);
-    match served_here(rt, keepers, &words, seed) {
-        Some(code) => code,
-        None => run_here(rt, &words, seed),
-    }
+    let mut caller = TcpCaller::new(rt);
+    program(
+        alloc,
+        words_of(&rt, alloc),
+        &mut outside,
+        keepers,
+        &mut caller,
+        &rt,
+    )
 }

@@ -3,6 +3,7 @@ pub mod Connecting
 pub mod Judging
 pub mod Planning
 pub mod Posting
+pub mod Programming
 pub mod Serving
 pub mod Submitting
 pub mod Vetting

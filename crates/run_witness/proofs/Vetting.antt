@@ -1,9 +1,6 @@
 -- A run that vets ends as is due.
-use Rattle.std.proofs.Common.{◌≡◌, ◌⊎◌, inl, inr, ℕ, List, [], ◌∷◌, ◌++◌, drop, codes, ◌<◌, ◌≤◌, Option, Result, Err, refl, ap, sym, subst, ◌∙◌, arith, lit<}
+use Rattle.std.proofs.Common.{◌≡◌, ◌⊎◌, inl, inr, ℕ, List, [], ◌∷◌, ◌++◌, drop, codes, ◌<◌, ◌≤◌, Option, refl, ap, sym, subst, ◌∙◌, arith, lit<}
 use Rattle.std.specs.Option.{option_map}
-use Rattle.std.specs.Prelude.{IfErr}
-use Rattle.std.specs.Process.{exit_status}
-use Rattle.std.specs.declared.process.ExitCode.{ExitCode}
 use Rattle.std.proofs.lemmas.Option.{same_Some}
 use Rattle.vet_base.specs.Outside.{HasRisen}
 use Rattle.std.specs.Fmt.{digits}
@@ -79,6 +76,9 @@ module _ (words : Option Words) (old new : Outside) (due : Due) where
   ends_found : (n : ℕ) → n ≤ 3 → Ends IsIt words old new n → PrintsText due.text old new
   ends_found n low ends = (by_due n (λ e. omega (arith, e, low)) (λ e. omega (arith, e, low)) (λ e. omega (arith, e, low)) (view n ends)).prints
 
+  pub ends_written : (n : ℕ) → n ≤ 2 → Ends IsIt words old new n → NoFault due.written old new
+  ends_written n low ends = (by_due n (λ e. omega (arith, e, low)) (λ e. omega (arith, e, low)) (λ e. omega (arith, e, low)) (view n ends)).written
+
   ends_unread : Ends IsIt words old new 3 → NoFault due.written old new
   ends_unread ends = (by_due 3 (λ e. omega (arith, e)) (λ e. omega (arith, e)) (λ e. omega (arith, e)) (view 3 ends)).written
 
@@ -120,7 +120,7 @@ module _ (words : Option Words) (old new : Outside) (due : Due) where
   own_text text is prints =
       same_Some text due.text (sym is.after ∙ prints.printed ∙ ap (option_map (λ taken. taken ++ due.text)) is.before)
 
-  no_vetting : NoVetting words old new due
+  pub no_vetting : NoVetting words old new due
   no_vetting = record {
     flagged = λ is ends. let same = ends_clear ends in omega (arith, is, same);
     uncertified = λ is ends. let same = ends_clear ends in omega (arith, is, same);
@@ -132,11 +132,6 @@ module _ (words : Option Words) (old new : Outside) (due : Due) where
     own_text = λ n low text printed ends. own_text text printed (ends_found n low ends);
     unwritten = λ is none ends. subst (λ (w : Option NewFile). Writes w old.tells.files new.tells.files) none (ends_unread ends).files;
   }
-
-seven : (words : Result (List ℕ) ExitCode) (code : ExitCode) → exit_status code ≡ 4 → words ≡ Err code → IfErr words (λ e. exit_status e ≡ 7) → ⊥
-seven words code four is clause =
-    let sevens : exit_status code ≡ 7 = subst (λ (w : Result (List ℕ) ExitCode). IfErr w (λ e. exit_status e ≡ 7)) is clause in
-    omega (arith, four, sevens)
 
 abbrev first : List ℕ → ℕ
 first [] = 0
@@ -150,4 +145,4 @@ unfolding summary_text digits
 two_methods rows outcome rest same = below 49 50 (lit< tt) (ap (λ (text : List ℕ). first (drop 8 text)) same)
 
 pub vettings_end : VettingsEnd
-vettings_end = record { no_vetting = no_vetting; two_methods = two_methods; seven = seven }
+vettings_end = record { no_vetting = no_vetting; two_methods = two_methods }

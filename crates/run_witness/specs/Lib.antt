@@ -3,6 +3,7 @@ pub mod Connections
 pub mod Judgements
 pub mod Plans
 pub mod Postings
+pub mod Programs
 pub mod Servings
 pub mod Submissions
 pub mod Vettings

@@ -1,7 +1,5 @@
 -- How a run that vets does not end where this is due to its words and files, whatever the words. Behind each fact stands what a slip would do.
-use Rattle.std.specs.Prelude.{◌≡◌, ℕ, List, [], ◌∷◌, ◌++◌, ◌≤◌, Option, Some, None, Result, Err, IfErr, codes}
-use Rattle.std.specs.Process.{exit_status}
-use Rattle.std.specs.declared.process.ExitCode.{ExitCode}
+use Rattle.std.specs.Prelude.{◌≡◌, ℕ, List, [], ◌∷◌, ◌++◌, ◌≤◌, Option, Some, None, codes}
 use Rattle.verdict.specs.declared.outcome.Outcome.{Outcome}
 use Rattle.app_folder.specs.Due.{Due}
 use Rattle.app_folder.specs.Outside.{Outside}
@@ -44,5 +42,3 @@ pub record VettingsEnd : Type 0 where
   pub no_vetting : (words : Option Words) (old new : Outside) (due : Due) → NoVetting words old new due
   -- an app of one drawn method has two (else one)
   pub two_methods : (rows : Option ℕ) (outcome : Outcome) (rest : List ℕ) → codes "methods 1" ++ rest ≡ summary_text 1 rows outcome → ⊥
-  -- words for which memory ran out end with 7 (else with 4, as a usage)
-  pub seven : (words : Result (List ℕ) ExitCode) (code : ExitCode) → exit_status code ≡ 4 → words ≡ Err code → IfErr words (λ e. exit_status e ≡ 7) → ⊥

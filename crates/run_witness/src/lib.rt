@@ -8,6 +8,7 @@ ghost use Rattle.run_witness.specs.Connections.{ConnectionsEnd};
 ghost use Rattle.run_witness.specs.Judgements.{JudgementsTell};
 ghost use Rattle.run_witness.specs.Plans.{PlansTell};
 ghost use Rattle.run_witness.specs.Postings.{OnePosting};
+ghost use Rattle.run_witness.specs.Programs.{ProgramsEnd};
 ghost use Rattle.run_witness.specs.Servings.{ServingsEnd};
 ghost use Rattle.run_witness.specs.Submissions.{SubmissionsEnd};
 ghost use Rattle.run_witness.specs.Vettings.{VettingsEnd};
@@ -36,6 +37,11 @@ pub fn a_folder_gives_one_posting()
 /// How a run that vets does not end.
 pub fn the_vettings_end()
     ensures { VettingsEnd }
+{}
+
+/// How the program does not end, and what its words ask for.
+pub fn the_programs_end()
+    ensures { ProgramsEnd }
 {}
 
 /// What judging by the lists of an office does not give.

@@ -3,10 +3,10 @@
 
 mod cases;
 
-use cases::KeptHere;
+use cases::{KeptHere, nowhere};
 use desk_program::run;
 use std::process::ExitCode;
 
 fn main(rt: HostRuntime) -> ExitCode {
-    run(rt, &KeptHere(rt))
+    run(rt, &KeptHere(rt), nowhere(rt))
 }

@@ -1,17 +1,19 @@
-//! The program over whatever system runs it: the words, a seed, the files and the standard output go to the top call,
-//! and its status is the exit status; where the words hand in an app they go, with the files, the output and ports of
-//! this machine, to the client's. `vet` runs it where its words ask for no desk, and so do the programs that test it.
+//! The program over whatever system runs it, but for the desk over HTTP: where the words hand in an app they go, with
+//! the files, the standard output and ports of this machine, to the client's top call, and else with a seed to the
+//! vetting's, whose status is the exit status. `desk_program` runs it where its words ask for no desk, and so do the
+//! programs that test it.
 #![tactic(auto)]
 
-ghost use Rattle.std.specs.Prelude.{◌≡◌, map, option_map, string_bytes, IfErr};
+ghost use Rattle.std.specs.Prelude.{◌≡◌, map, option_map, string_bytes};
 ghost use Rattle.std.specs.Process.{exit_status};
 ghost use Rattle.desk_words.specs.Words.{parse};
 ghost use Rattle.vetting_desk.specs.Answer.{SaysClear, IsSafe, SaysFound};
 ghost use Rattle.app_folder.specs.Outside.{outside};
-ghost use Rattle.vetting_desk.specs.Top.{EndsAsDue, EndsAsOnlyDue, PrintsFullReport};
+ghost use Rattle.vetting_desk.specs.Top.{EndsAsDue, EndsAsOnlyDue, PrintsFullReport, TakesClear};
 ghost use Rattle.client_service.specs.Saying.{status};
 ghost use Rattle.client_service.specs.Submitting.{seen, Answers};
 ghost use Rattle.client_service.specs.Words.{parse as parse_submit};
+ghost use Rattle.vet_program.specs.Program.{task_of, Runs, RunsGiven};
 
 use caller_host::TcpCaller;
 use client_service::{Status as ClientStatus, submit};
@@ -32,23 +34,12 @@ use vetting_desk::{HostFiles, StandardSink, Status, vet, words_given};
 use worker_pool::{Crew, NoLookout};
 
 /// The words behind the program's name.
-fn words_of(rt: &(impl Env + AllocGlobal), alloc: Global) -> io::Result<Vec<String>> {
+pub fn words_of(rt: &(impl Env + AllocGlobal), alloc: Global) -> io::Result<Vec<String>> {
     let mut words = Vec::new(alloc);
     for word in env::args(rt)?.skip(1) {
         words.push(word)?;
     }
     Ok(words)
-}
-
-/// The words that the system gives, none where they are no text; or the exit status of want of memory.
-pub fn words_from(rt: &(impl Env + AllocGlobal)) -> Result<Vec<String>, ExitCode>
-    ensures { IfErr result (λ code. exit_status code ≡ 7) }
-{
-    let alloc = rt.alloc();
-    match words_given(alloc, words_of(rt, alloc)) {
-        Ok(words) => Ok(words),
-        Err(Status(code)) => Err(ExitCode::from(code)),
-    }
 }
 
 /// A number that nobody outside can guess; a fixed one where the system gives none.
@@ -87,6 +78,12 @@ pub fn vetted<F: Files, O: Sink, T: Threads + Wait + Sync>(
     ensures sound { SaysClear (parse (map string_bytes words.now)) (exit_status result) →
         IsSafe (parse (map string_bytes words.now)) (record { files = F.told files.old; printed = O.taken out.old }) }
 
+    // So it is wherever the word `clear` was printed, also where the put failed behind it.
+    ensures clear { TakesClear (parse (map string_bytes words.now))
+        (outside (F.told files.old) (F.fault_count files.old) (O.taken out.old) (O.fault_count out.old))
+        (outside (F.told files.new) (F.fault_count files.new) (O.taken out.new) (O.fault_count out.new)) →
+        IsSafe (parse (map string_bytes words.now)) (record { files = F.told files.old; printed = O.taken out.old }) }
+
     // Flagged and undecided leave out nothing that a run of the app does, unless the app is too large.
     ensures full { SaysFound (parse (map string_bytes words.now)) (exit_status result) →
         PrintsFullReport (parse (map string_bytes words.now))
@@ -102,16 +99,6 @@ pub fn vetted<F: Files, O: Sink, T: Threads + Wait + Sync>(
     };
     let Status(status) = vet(alloc, words, files, out, &crew);
     ExitCode::from(status)
-}
-
-/// Judges as the words ask, over the files and the output of the system.
-fn vetted_here<R>(rt: R, words: &[String], seed: u64) -> ExitCode
-where
-    R: SystemFiles + Print + AllocGlobal + Threads + Wait + Sync + Copy + Drop,
-{
-    let mut files = HostFiles::new(rt);
-    let mut out = StandardSink::new(rt);
-    vetted(rt.alloc(), words, &mut files, &mut out, &rt, seed)
 }
 
 /// Hands in an app where the words ask for that, over these files, this output and this caller; `None` where they ask
@@ -136,30 +123,61 @@ pub fn submitted<F: Files, O: Sink, N: Caller>(
     Some(ExitCode::from(status))
 }
 
-/// Hands in an app over the system's files, output and ports; `None` where the words ask for something else.
-fn submitted_here<R>(rt: R, words: &[String]) -> Option<ExitCode>
-where
-    R: SystemFiles + Print + Net + Clock + AllocGlobal + Copy + Drop,
+/// Hands in an app where the words ask for that, and else judges as they ask, over these files, this output and this
+/// caller, with threads of the system.
+pub fn answered_without_desk<F: Files, O: Sink, N: Caller, T: Threads + Wait + Sync>(
+    alloc: Global,
+    words: &[String],
+    files: &mut F,
+    out: &mut O,
+    caller: &mut N,
+    rt: &T,
+    seed: u64,
+) -> ExitCode
+    // It ends as is due to what the words ask for.
+    ensures { Runs (task_of (map string_bytes words.now))
+        (seen (F.told files.old) (F.fault_count files.old) (O.taken out.old) (O.fault_count out.old)
+        (N.told caller.old) (N.fault_count caller.old))
+        (seen (F.told files.new) (F.fault_count files.new) (O.taken out.new) (O.fault_count out.new)
+        (N.told caller.new) (N.fault_count caller.new))
+        (exit_status result) }
 {
-    let mut files = HostFiles::new(rt);
-    let mut out = StandardSink::new(rt);
-    let mut caller = TcpCaller::new(rt);
-    submitted(rt.alloc(), words, &mut files, &mut out, &mut caller)
-}
-
-/// Runs words that ask for no desk over the files, the output and the ports of the system.
-pub fn run_here<R>(rt: R, words: &[String], seed: u64) -> ExitCode
-where
-    R: SystemFiles + Print + Net + Clock + AllocGlobal + Threads + Wait + Sync + Copy + Drop,
-{
-    match submitted_here(rt, words) {
+    match submitted(alloc, words, files, out, caller) {
         Some(code) => code,
-        None => vetted_here(rt, words, seed),
+        None => vetted(alloc, words, files, out, rt, seed),
     }
 }
 
-/// Runs the words that the system gives over its files, prints the answer to the standard output, and gives the status
-/// of the top call as the exit status.
+/// The program without the desk: it answers the words that the system gave, over these files, this output and this
+/// caller, with threads and a seed of the system. Words that cannot be read are no command, and the exit status is 7
+/// where memory ran out while they were read.
+pub fn program<F: Files, O: Sink, N: Caller, T: RandomSource + Threads + Wait + Sync>(
+    alloc: Global,
+    given: io::Result<Vec<String>>,
+    files: &mut F,
+    out: &mut O,
+    caller: &mut N,
+    rt: &T,
+) -> ExitCode
+    // It ends as is due to what the words ask for; where there was no memory for them nothing is done.
+    ensures { RunsGiven given (λ words. Runs (task_of words)
+        (seen (F.told files.old) (F.fault_count files.old) (O.taken out.old) (O.fault_count out.old)
+        (N.told caller.old) (N.fault_count caller.old))
+        (seen (F.told files.new) (F.fault_count files.new) (O.taken out.new) (O.fault_count out.new)
+        (N.told caller.new) (N.fault_count caller.new))
+        (exit_status result))
+        ((exit_status result ≡ 7) × (seen (F.told files.new) (F.fault_count files.new) (O.taken out.new)
+        (O.fault_count out.new) (N.told caller.new) (N.fault_count caller.new)
+        ≡ seen (F.told files.old) (F.fault_count files.old) (O.taken out.old) (O.fault_count out.old)
+        (N.told caller.old) (N.fault_count caller.old))) }
+{
+    match words_given(alloc, given) {
+        Ok(words) => answered_without_desk(alloc, &words, files, out, caller, rt, seed_of(rt)),
+        Err(status) => ExitCode::from(status.0),
+    }
+}
+
+/// Runs the program without the desk over the words, the files, the output and the ports of the system.
 pub fn run<R>(rt: R) -> ExitCode
 where
     R: SystemFiles
@@ -175,8 +193,16 @@ where
         + Copy
         + Drop,
 {
-    match words_from(&rt) {
-        Ok(words) => run_here(rt, &words, seed_of(&rt)),
-        Err(code) => code,
-    }
+    let alloc = rt.alloc();
+    let mut files = HostFiles::new(rt);
+    let mut out = StandardSink::new(rt);
+    let mut caller = TcpCaller::new(rt);
+    program(
+        alloc,
+        words_of(&rt, alloc),
+        &mut files,
+        &mut out,
+        &mut caller,
+        &rt,
+    )
 }
