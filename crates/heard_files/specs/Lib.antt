@@ -1,0 +1,4 @@
+pub mod Handed
+pub mod Heard
+pub mod Outside
+pub mod Spelled
