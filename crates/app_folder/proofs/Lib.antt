@@ -1,3 +1,4 @@
+pub mod Hearing
 pub mod Folders
 pub mod Holding
 pub mod OneFolder

@@ -12,12 +12,18 @@ pub record Faults : Type 0 where
   pub files : ℕ
   pub sink : ℕ
 
+-- besides, the bytes that were handed to the sink so far
 pub record Outside : Type 0 where
   pub tells : Tells
   pub faults : Faults
+  pub handed : List ℕ
 
-abbrev pub outside : Option Told → ℕ → Option (List ℕ) → ℕ → Outside
-outside files files_faults printed sink_faults = record { tells = record { files = files; printed = printed }; faults = record { files = files_faults; sink = sink_faults } }
+abbrev pub outside : Option Told → ℕ → Option (List ℕ) → ℕ → List ℕ → Outside
+outside files files_faults printed sink_faults handed = record {
+  tells = record { files = files; printed = printed };
+  faults = record { files = files_faults; sink = sink_faults };
+  handed = handed;
+}
 
 -- what is read is told
 abbrev pub TellsInput : Tells → Type 0

@@ -1,18 +1,20 @@
 //! The files of a folder: the parts of an app, read in a fixed order.
 
-ghost use Rattle.std.specs.Prelude.{◌≡◌, ◌≤◌, ◌++◌, codes, string_bytes, IfOk, OnOk};
+ghost use Rattle.std.specs.Prelude.{◌≡◌, ◌≤◌, [], ◌∷◌, ◌++◌, length, codes, string_bytes, IfOk, OnOk};
 ghost use Rattle.std.specs.List.{AllByRecursion};
 ghost use Rattle.certificate.specs.Digests.{IsShort};
 ghost use Rattle.vet_base.specs.Outside.{held_by};
 ghost use Rattle.app_folder.specs.Folder.{file_name, part_at, dexes_at, parts_at, IsFileIn};
+ghost use Rattle.app_folder.specs.Heard.{dex_entries, entries_behind, GaveParts};
 ghost use Rattle.app_folder.specs.Reading.{ReadsAs, Leaves, FailsAt, CountsDex, GathersAs, AreShort};
 
+use heard_files::Files;
 use office_forms::{FormFault, read_manifest};
 use printed_text::FILE_LIMIT;
 use std::alloc::{AllocError, AllocFailed, Global};
 use verdict::{Part, Parts, Reason};
 use verdict_report::push_part_name;
-use vet_base::{FileFault, Files, Seq};
+use vet_base::{FileFault, Seq};
 
 /// Why the parts of an app could not be had.
 #[derive(Drop)]
@@ -64,6 +66,8 @@ fn part_in<F: Files>(alloc: Global, files: &mut F, dir: &str, part: Part) -> Res
         result }
     ensures file { FailsAt (λ name. name ≡ file_name dir.now part) result }
     ensures short { IfOk result (λ bytes. IsShort bytes) }
+    ensures heard { IfOk result (λ bytes. F.heard files.new
+        ≡ F.heard files.old ++ (file_name dir.now part, bytes) ∷ []) }
 {
     let name = name_of(alloc, dir, part)?;
     match files.read(alloc, name.as_str(), FILE_LIMIT) {
@@ -89,6 +93,8 @@ fn dexes_in<F: Files>(
         result }
     ensures file { FailsAt (IsFileIn dir.now) result }
     ensures short { IfOk result (λ dexes. AllByRecursion IsShort dexes) }
+    ensures count { IfOk result (λ dexes. length dexes ≡ count) }
+    ensures heard { IfOk result (λ dexes. F.heard files.new ≡ F.heard files.old ++ dex_entries dir.now 0 dexes) }
 {
     let mut dexes = Vec::new(alloc);
     for i in 0..count {
@@ -114,6 +120,9 @@ fn parts_with<F: Files>(
         result }
     ensures file { FailsAt (IsFileIn dir.now) result }
     ensures short { IfOk result AreShort }
+    ensures manifest { IfOk result (λ parts. parts.manifest ≡ manifest) }
+    ensures count { IfOk result (λ parts. length parts.dex ≡ count) }
+    ensures heard { IfOk result (λ parts. F.heard files.new ≡ F.heard files.old ++ entries_behind dir.now parts) }
 {
     let layouts = part_in(alloc, files, dir, Part::Layouts)?;
     let declaration = part_in(alloc, files, dir, Part::Declaration)?;
@@ -151,6 +160,9 @@ pub fn parts_in<F: Files>(alloc: Global, files: &mut F, dir: &str) -> Result<Par
         result }
     ensures file { FailsAt (IsFileIn dir.now) result }
     ensures short { IfOk result AreShort }
+
+    // Reads of this very call gave these parts, of any files.
+    ensures gave { IfOk result (λ parts. GaveParts (F.heard files.old) (F.heard files.new) dir.now parts) }
 {
     let manifest = part_in(alloc, files, dir, Part::Manifest)?;
     let count = dex_count(alloc, manifest.as_slice())?;

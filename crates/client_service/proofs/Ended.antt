@@ -3,6 +3,7 @@ use Rattle.std.proofs.Common.{◌≡◌, inl, inr, ℕ, List, Option, Result, Ok
 use Rattle.std.specs.Prelude.{Vec, string_bytes}
 use Rattle.std.specs.declared.alloc.Global.{Global}
 use Rattle.vet_base.specs.Outside.{Told as FilesTold}
+use Rattle.heard_files.specs.Outside.{Entry}
 use Rattle.vet_base.specs.declared.memory.Memory.{Memory as NoMemory}
 use Rattle.client_form.specs.declared.client.Client.{Client}
 use Rattle.client_replies.specs.declared.answered.Answered.{Answered}
@@ -92,28 +93,28 @@ module _ (asked : Submit) where
   said_of_halt old new halts.Memory (Err e) is leaves same says = RunsOut.unsent (same_outside old new leaves.0 leaves.1 same)
 
   -- the text was put
-  module _ (before after : Outside) (a b : Option (List ℕ)) (i j : ℕ) where
+  module _ (before after : Outside) (heard then_heard : List Entry) (a b : Option (List ℕ)) (i j : ℕ) (x y : List ℕ) where
     abbrev Old : Seen
-    Old = record { io = before; printed = a; print_faults = i }
+    Old = record { io = before; heard = heard; printed = a; print_faults = i; handed = x }
 
     abbrev New : Seen
-    New = record { io = after; printed = b; print_faults = j }
+    New = record { io = after; heard = then_heard; printed = b; print_faults = j; handed = y }
 
     as_status : (due result : Status) → result ≡ due → Ends asked Old New due.0 → Ends asked Old New result.0
     as_status due result same ends = subst (λ (s : Status). Ends asked Old New s.0) (sym same) ends
 
     ends_with : (due result : Status) (text : List ℕ) → ComesToSay asked before after due.0 text
-        → PutsText a b i j due text result → Ends asked Old New result.0
+        → PutsText a b i j x y due text result → Ends asked Old New result.0
     ends_with due result text comes (inl h) =
-        as_status due result h.0 (Ends.said due.0 text comes (record { printed = h.1; count = h.2 }))
+        as_status due result h.0 (Ends.said due.0 text comes (record { printed = h.1; count = h.2; handed = h.3 }))
     ends_with due result text comes (inr (inl h)) =
         as_status (record { 0 = 6 }) result h.0
-        (Ends.put_failed due.0 text comes (record { length = h.1.0; printed = h.1.1; risen = h.2 }))
+        (Ends.put_failed due.0 text comes (record { length = h.1.0; printed = h.1.1; risen = h.2; handed = h.3 }))
     ends_with due result text comes (inr (inr h)) =
         as_status (record { 0 = 7 }) result h.0
-        (Ends.memory (RunsOut.unsaid due.0 text comes) (record { printed = h.1; count = h.2 }))
+        (Ends.memory (RunsOut.unsaid due.0 text comes) (record { printed = h.1; count = h.2; handed = h.3 }))
 
     pub ends_put : (due result : Status) (text shown : List ℕ) → shown ≡ text → ComesToSay asked before after due.0 text
-        → PutsText a b i j due shown result → Ends asked Old New result.0
+        → PutsText a b i j x y due shown result → Ends asked Old New result.0
     ends_put due result text shown is comes puts =
-        ends_with due result text comes (subst (λ (t : List ℕ). PutsText a b i j due t result) is puts)
+        ends_with due result text comes (subst (λ (t : List ℕ). PutsText a b i j x y due t result) is puts)

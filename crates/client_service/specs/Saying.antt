@@ -19,11 +19,12 @@ status n = record { 0 = n }
 
 -- What a put of a text came to: the text went out and the status stands; or the sink failed, having taken a front of the text; or
 -- memory ran out.
-abbrev pub PutsText : Option (List ℕ) → Option (List ℕ) → ℕ → ℕ → Status → List ℕ → Status → Type 0
-PutsText old new before after due text result =
-    ((result ≡ due) × (new ≡ option_map (λ taken. taken ++ text) old) × (after ≡ before))
-    ⊎ ((result ≡ status 6) × ((n : ℕ) × (new ≡ option_map (λ taken. taken ++ take n text) old)) × HasRisen before after)
-    ⊎ ((result ≡ status 7) × (new ≡ old) × (after ≡ before))
+abbrev pub PutsText : Option (List ℕ) → Option (List ℕ) → ℕ → ℕ → List ℕ → List ℕ → Status → List ℕ → Status → Type 0
+PutsText old new before after hands handed due text result =
+    ((result ≡ due) × (new ≡ option_map (λ taken. taken ++ text) old) × (after ≡ before) × (handed ≡ hands ++ text))
+    ⊎ ((result ≡ status 6) × ((n : ℕ) × (new ≡ option_map (λ taken. taken ++ take n text) old)) × HasRisen before after
+    × (handed ≡ hands ++ text))
+    ⊎ ((result ≡ status 7) × (new ≡ old) × (after ≡ before) × (handed ≡ hands))
 
 -- what a run came to before it prints, unless memory ran out
 abbrev pub Says : Submit → Outside → Outside → Result (Status × Vec ℕ Global) NoMemory → Type 0

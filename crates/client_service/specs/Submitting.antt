@@ -3,6 +3,7 @@ use Rattle.std.specs.Prelude.{◌≡◌, ℕ, ◌==◌, ◌||◌, Bool, List, �
 use Rattle.std.specs.Option.{option_map}
 use Rattle.vet_base.specs.Outside.{HasRisen}
 use Rattle.vet_base.specs.Outside.{Told as FilesTold}
+use Rattle.heard_files.specs.Outside.{Entry}
 use Rattle.desk_links.specs.Links.{Told as LinkTold}
 use Rattle.client_http.specs.ReadAs.{IsReadAs}
 use Rattle.client_replies.specs.declared.answered.Answered.{Answered}
@@ -29,17 +30,21 @@ outside files file_faults talk link_faults = record {
   dials = record { told = talk; faults = link_faults };
 }
 
--- besides, what was printed
+-- besides, what was heard of the files, what was printed, and what was handed to the sink
 pub record Seen : Type 0 where
   pub io : Outside
+  pub heard : List Entry
   pub printed : Option (List ℕ)
   pub print_faults : ℕ
+  pub handed : List ℕ
 
-abbrev pub seen : Option FilesTold → ℕ → Option (List ℕ) → ℕ → Option LinkTold → ℕ → Seen
-seen files file_faults printed print_faults talk link_faults = record {
+abbrev pub seen : Option FilesTold → ℕ → List Entry → Option (List ℕ) → ℕ → List ℕ → Option LinkTold → ℕ → Seen
+seen files file_faults heard printed print_faults handed talk link_faults = record {
   io = outside files file_faults talk link_faults;
+  heard = heard;
   printed = printed;
   print_faults = print_faults;
+  handed = handed;
 }
 
 -- The request for what the folder gives was sent up to this end, as often as the client says at most. The desk reads these bytes as
@@ -78,20 +83,23 @@ pub data RunsOut (asked : Submit) (old new : Outside) : Type 0 where
   unread : (posting : Posting) → Sends asked old new posting (Err submits.Memory) → RunsOut asked old new
   unsaid : (n : ℕ) (text : List ℕ) → ComesToSay asked old new n text → RunsOut asked old new
 
--- the whole text was printed
+-- the whole text was handed to the sink, and printed
 pub record Prints (text : List ℕ) (old new : Seen) : Type 0 where
   pub printed : new.printed ≡ option_map (λ taken. taken ++ text) old.printed
   pub count : new.print_faults ≡ old.print_faults
+  pub handed : new.handed ≡ old.handed ++ text
 
--- the sink failed, having taken a front of the text
+-- the whole text was handed to the sink, which failed, having taken a front of it
 pub record PrintsFront (text : List ℕ) (old new : Seen) : Type 0 where
   pub length : ℕ
   pub printed : new.printed ≡ option_map (λ taken. taken ++ take length text) old.printed
   pub risen : HasRisen old.print_faults new.print_faults
+  pub handed : new.handed ≡ old.handed ++ text
 
 pub record PrintsNothing (old new : Seen) : Type 0 where
   pub printed : new.printed ≡ old.printed
   pub count : new.print_faults ≡ old.print_faults
+  pub handed : new.handed ≡ old.handed
 
 -- How a run ends, and with which status: what it came to say was printed; or the sink failed meanwhile; or memory ran out.
 pub data Ends (asked : Submit) (old new : Seen) : ℕ → Type 0 where

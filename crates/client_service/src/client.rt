@@ -7,10 +7,11 @@ ghost use Rattle.client_service.specs.Reading.{Leaves};
 use crate::ready::{Halt, Refusal};
 use client_form::{Client, read_client};
 use form_fields::FormFault;
+use heard_files::Files;
 use printed_text::FILE_LIMIT;
 use std::alloc::{AllocError, Global};
 use verdict_report::Unfit;
-use vet_base::{FileFault, Files};
+use vet_base::FileFault;
 
 #[tactic(auto, unfolding(crate::specs::Clients::client_path))]
 fn client_path(alloc: Global, dir: &str) -> Result<String, AllocError>

@@ -7,10 +7,11 @@ ghost use Rattle.client_service.specs.Content.{content_at, GathersAs};
 
 use app_folder::{Halt, dex_count, name_of};
 use case_rules::Content;
+use heard_files::Files;
 use printed_text::FILE_LIMIT;
 use std::alloc::Global;
 use verdict::{Part, Reason};
-use vet_base::{FileFault, Files, Shared};
+use vet_base::{FileFault, Shared};
 
 fn listed<T: Drop>(alloc: Global, items: Vec<T>) -> Result<Shared<T>, Halt>
     ensures ok { IfOk result (λ list. list ≡ items.items) }

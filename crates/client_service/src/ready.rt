@@ -13,10 +13,11 @@ use app_folder::Halt as FolderHalt;
 use case_rules::Content;
 use client_form::Client;
 use client_http::{MakeFault, request_bytes};
+use heard_files::Files;
 use std::alloc::{AllocError, Global};
 use verdict::{Part, Reason};
 use verdict_report::Unfit;
-use vet_base::{Files, Memory, Name};
+use vet_base::{Memory, Name};
 
 /// Why nothing is sent.
 #[derive(Drop)]

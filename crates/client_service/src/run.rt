@@ -8,11 +8,13 @@ use crate::outside::Status;
 use crate::saying::said;
 use crate::words::{Submitting, submitting_in};
 use desk_callers::Caller;
+use heard_files::{Files, Sink};
 use std::alloc::Global;
-use vet_base::{Files, Memory, PutFault, Sink};
+use vet_base::{Memory, PutFault};
 
 fn printed<O: Sink>(alloc: Global, out: &mut O, status: Status, text: &[u8]) -> Status
-    ensures { PutsText (O.taken out.old) (O.taken out.new) (O.fault_count out.old) (O.fault_count out.new) status
+    ensures { PutsText (O.taken out.old) (O.taken out.new) (O.fault_count out.old) (O.fault_count out.new)
+        (O.handed out.old) (O.handed out.new) status
         text.now result }
 {
     match out.put(alloc, text) {
@@ -32,9 +34,11 @@ fn run<F: Files, O: Sink, N: Caller>(
 ) -> Status
     requires { IsWithin asked.now }
     ensures { Ends (asked_words asked.now)
-        (seen (F.told files.old) (F.fault_count files.old) (O.taken out.old) (O.fault_count out.old)
+        (seen (F.told files.old) (F.fault_count files.old) (F.heard files.old) (O.taken out.old)
+        (O.fault_count out.old) (O.handed out.old)
         (N.told caller.old) (N.fault_count caller.old))
-        (seen (F.told files.new) (F.fault_count files.new) (O.taken out.new) (O.fault_count out.new)
+        (seen (F.told files.new) (F.fault_count files.new) (F.heard files.new) (O.taken out.new)
+        (O.fault_count out.new) (O.handed out.new)
         (N.told caller.new) (N.fault_count caller.new)) result.0 }
 {
     match said(alloc, asked, files, caller) {
@@ -72,9 +76,11 @@ pub fn submit<F: Files, O: Sink, N: Caller>(
     // The status, the printed text and what was dialled and written are those that are due to the words, unless a read
     // or the put failed in this very call, or memory ran out.
     ensures answers { Answers (parse (map string_bytes words.now))
-        (seen (F.told files.old) (F.fault_count files.old) (O.taken out.old) (O.fault_count out.old)
+        (seen (F.told files.old) (F.fault_count files.old) (F.heard files.old) (O.taken out.old)
+        (O.fault_count out.old) (O.handed out.old)
         (N.told caller.old) (N.fault_count caller.old))
-        (seen (F.told files.new) (F.fault_count files.new) (O.taken out.new) (O.fault_count out.new)
+        (seen (F.told files.new) (F.fault_count files.new) (F.heard files.new) (O.taken out.new)
+        (O.fault_count out.new) (O.handed out.new)
         (N.told caller.new) (N.fault_count caller.new)) result }
 {
     let asked = submitting_in(words)?;

@@ -11,8 +11,9 @@ use crate::words::Submitting;
 use client_replies::Answered;
 use desk_callers::Caller;
 use desk_client::{SubmitFault, submit};
+use heard_files::Files;
 use std::alloc::Global;
-use vet_base::{Files, Memory};
+use vet_base::Memory;
 
 /// The status and the text where nothing is sent.
 fn halted(alloc: Global, halt: Halt) -> Result<(Status, Vec<u8>), Memory>

@@ -1,6 +1,7 @@
 ghost use Rattle.std.specs.Prelude.{◌<◌, ◌≤◌};
 
 use crate::run::{file, want, words_of};
+use heard_files::{Handing, Hearing};
 use made_apps::{declaration_text, layouts_text, lists_text, made_dex, manifest_text};
 use std::alloc::{AllocError, Global};
 use std::marker::Sync;
@@ -35,7 +36,7 @@ fn drawn(alloc: Global, seed: u32, size: u32) -> Result<MemFiles, AllocError>
 fn certify<T: Threads + Wait + Sync>(
     alloc: Global,
     rt: &T,
-    files: &mut MemFiles,
+    files: &mut Hearing<MemFiles>,
     workers: u8,
     words: &str,
 ) -> Result<(), AllocError> {
@@ -46,7 +47,7 @@ fn certify<T: Threads + Wait + Sync>(
         seed: u64::from(workers),
     };
     let words = words_of(alloc, words)?;
-    let mut out = MemSink::new(alloc, Vec::new(alloc));
+    let mut out = Handing::over(MemSink::new(alloc, Vec::new(alloc)));
     let _ = vet(alloc, &words, files, &mut out, &crew);
     Ok(())
 }
@@ -59,12 +60,12 @@ pub fn are_alike<T: Threads + Wait + Sync>(
 ) -> Result<bool, AllocError>
     requires { seed < 2147483648 }
 {
-    let mut files = drawn(alloc, seed, 1 + seed % 12)?;
+    let mut files = Hearing::over(drawn(alloc, seed, 1 + seed % 12)?);
     certify(alloc, rt, &mut files, 1, "certify D 1")?;
     certify(alloc, rt, &mut files, 2, "certify D 2")?;
     certify(alloc, rt, &mut files, 3, "certify D 3")?;
     certify(alloc, rt, &mut files, 16, "certify D 16")?;
-    match files.files() {
+    match files.files().files() {
         [_, _, _, _, _, (_, one), (_, two), (_, three), (_, sixteen)] => Ok(
             !one.is_empty()
                 && two.as_slice() == one.as_slice()

@@ -2,6 +2,7 @@ use crate::watch::{Duty, Watch};
 use case_keeper::MemKeeper;
 use desk_links::{FixedClock, MemDoor};
 use desk_service::{Outside, serve};
+use heard_files::{Handing, Hearing};
 use serving_lines::bytes_of;
 use std::alloc::{AllocError, Global};
 use std::marker::Sync;
@@ -112,8 +113,8 @@ pub fn end_of<T: Threads + Wait + Sync>(
     };
     let door = MemDoor::new(alloc, run.come, Vec::new(alloc), 4096, run.door_fails).map_err(want)?;
     let mut outside = Outside {
-        files: MemFiles::new(run.files, run.files_fail),
-        out: MemSink::new(alloc, run.sink_fails),
+        files: Hearing::over(MemFiles::new(run.files, run.files_fail)),
+        out: Handing::over(MemSink::new(alloc, run.sink_fails)),
         keeper: MemKeeper::new(alloc),
         door,
         clock: FixedClock::new(100),
@@ -129,7 +130,7 @@ pub fn end_of<T: Threads + Wait + Sync>(
         )
         .0,
     };
-    let printed = std::str::from_utf8(outside.out.taken()).unwrap_or("?");
+    let printed = std::str::from_utf8(outside.out.sink().taken()).unwrap_or("?");
     let told = watch.told(alloc)?;
     format!(in alloc; "{printed}{told}status {status}")
 }

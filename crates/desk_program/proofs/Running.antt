@@ -1,5 +1,6 @@
 -- From how the parts of the program end to how it ends.
-use Rattle.std.proofs.Common.{◌≡◌, ◌⊎◌, inl, inr, ℕ, Option, Some, None, refl, sym, subst, arith}
+use Rattle.std.proofs.Common.{◌≡◌, ◌⊎◌, inl, inr, ℕ, List, Option, Some, None, refl, sym, subst, arith}
+use Rattle.heard_files.specs.Outside.{Entry}
 use Rattle.desk_client.specs.Tries.{Moment}
 use Rattle.desk_service.specs.Saying.{status}
 use Rattle.desk_service.specs.Serving as serving
@@ -10,7 +11,7 @@ use Rattle.client_service.specs.Submitting as submitting
 use Rattle.client_service.specs.Submitting.{Seen as Submission}
 use Rattle.vetting_desk.specs.Answer.{SaysClear, SaysFound}
 use Rattle.vetting_desk.specs.Top as vetting
-use Rattle.vetting_desk.proofs.Clearing.{not_clear}
+use Rattle.vetting_desk.proofs.Clearing.{not_clear, not_handed}
 use Rattle.app_folder.specs.Outside.{Outside}
 use Rattle.vet_program.specs.Program.{Task as Other, Submitting, Vetting}
 use Rattle.vet_program.specs.Program.{Runs as RunsOther, Vets, vetted_of}
@@ -54,23 +55,24 @@ seven_found (Some (Recheck dir path)) found = one_or_two found
 seven_found (Some (Story dir)) found = one_or_two found
 seven_found (Some (Make seed size n)) found = found
 
-vetting_seven : (words : Option Words) (old : Outside) → Vets words old old 7
-vetting_seven words old = record {
-  ends = vetting.Ends.memory (vetting.RunsOut.no_fault (record { files = refl; count = refl })) (record { printed = refl; count = refl });
-  only = λ told due is. vetting.Ends.memory (vetting.RunsOut.no_fault (record { files = refl; count = refl })) (record { printed = refl; count = refl });
+vetting_seven : (words : Option Words) (old : Outside) (heard : List Entry) → Vets words old old heard heard 7
+vetting_seven words old heard = record {
+  ends = vetting.Ends.memory (vetting.RunsOut.no_fault (record { files = refl; count = refl })) (record { printed = refl; count = refl; handed = refl });
+  only = λ told due is. vetting.Ends.memory (vetting.RunsOut.no_fault (record { files = refl; count = refl })) (record { printed = refl; count = refl; handed = refl });
   sound = λ clear. absurd (seven_clear words clear);
   clear = λ takes. absurd (not_clear words old old refl takes);
+  handed = λ hands. absurd (not_handed words old old refl hands);
   full = λ found. absurd (seven_found words found);
 }
 
 other_seven : (other : Other) (old : Submission) → RunsOther other old old 7
 other_seven (Submitting asked) old =
-    submitting.Ends.memory (submitting.RunsOut.unsent refl) (record { printed = refl; count = refl })
-other_seven (Vetting words) old = (vetting_seven words (vetted_of old), refl)
+    submitting.Ends.memory (submitting.RunsOut.unsent refl) (record { printed = refl; count = refl; handed = refl })
+other_seven (Vetting words) old = (vetting_seven words (vetted_of old) old.heard, refl)
 
 task_seven : (task : Task) (today : Option ℕ) (old : World) → Runs task today old old 7
 task_seven (Serving asked) today old =
-    (serving.Ends.memory (serving.RunsOut.unopened (record { files = refl; faults = refl }) refl) (record { printed = refl; count = refl }), refl)
+    (serving.Ends.memory (serving.RunsOut.unopened (record { files = refl; faults = refl }) refl) (record { printed = refl; count = refl; handed = refl }), refl)
 task_seven (Without other) today old = (other_seven other (without_desk old), refl)
 
 -- whatever the words ask for, memory may run out before anything is done

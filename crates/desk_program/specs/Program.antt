@@ -1,6 +1,7 @@
 -- What the program does: it serves a desk, hands in an app, or vets, by its words.
 use Rattle.std.specs.Prelude.{◌≡◌, ℕ, List, Option, Some, None}
 use Rattle.vet_base.specs.Outside.{Told as FilesTold}
+use Rattle.heard_files.specs.Outside.{Entry}
 use Rattle.desk_links.specs.Links.{Told as LinkTold}
 use Rattle.case_rules.specs.declared.case.Case.{Case}
 use Rattle.desk_client.specs.Tries.{Moment}
@@ -28,9 +29,9 @@ pub record World : Type 0 where
   pub desk : Seen
   pub dials : Moment
 
-abbrev pub world : Option FilesTold → ℕ → Option (List ℕ) → ℕ → Option (List Case) → ℕ → Option LinkTold → ℕ → Option LinkTold → ℕ → World
-world files file_faults printed print_faults cases store_faults talk link_faults dials dial_faults = record {
-  desk = seen files file_faults printed print_faults cases store_faults talk link_faults;
+abbrev pub world : Option FilesTold → ℕ → List Entry → Option (List ℕ) → ℕ → List ℕ → Option (List Case) → ℕ → Option LinkTold → ℕ → Option LinkTold → ℕ → World
+world files file_faults heard printed print_faults handed cases store_faults talk link_faults dials dial_faults = record {
+  desk = seen files file_faults heard printed print_faults handed cases store_faults talk link_faults;
   dials = record { told = dials; faults = dial_faults };
 }
 
@@ -38,8 +39,10 @@ world files file_faults printed print_faults cases store_faults talk link_faults
 abbrev pub without_desk : World → Submission
 without_desk world = record {
   io = record { files = world.desk.files; file_faults = world.desk.file_faults; dials = world.dials };
+  heard = world.desk.heard;
   printed = world.desk.printed;
   print_faults = world.desk.print_faults;
+  handed = world.desk.handed;
 }
 
 -- How the task ends on this day, and with which status. A desk dials nothing; without one no case changes and no connection is

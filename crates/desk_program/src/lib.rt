@@ -22,6 +22,7 @@ use desk_host::{HostClock, TcpDoor};
 use desk_links::{Clock, Door};
 use desk_service::{Outside, Status, serve};
 pub use files::{CaseFiles, case_files};
+use heard_files::{Files, Handing, Hearing, Sink};
 pub use keepers::Keepers;
 use std::alloc::Global;
 use std::env::Env;
@@ -34,7 +35,7 @@ use std::rt::Files as SystemFiles;
 use std::sync::Wait;
 use std::thread::Threads;
 use std::time::Clock as SystemClock;
-use vet_base::{Files, Memory, Sink};
+use vet_base::Memory;
 use vet_program::{answered_without_desk, seed_of, words_of};
 use vetting_desk::{HostFiles, StandardSink, words_given};
 use worker_pool::{Crew, NoLookout};
@@ -61,12 +62,12 @@ where
     // The exit status, the printed text and what became of cases and connections are those that are due to the words,
     // unless a read, the door or the put failed in this very call, or memory ran out.
     ensures answers { Answers (parse (map string_bytes words.now)) (C.told outside.old.clock)
-        (seen (F.told outside.old.files) (F.fault_count outside.old.files) (O.taken outside.old.out)
-        (O.fault_count outside.old.out)
+        (seen (F.told outside.old.files) (F.fault_count outside.old.files) (F.heard outside.old.files)
+        (O.taken outside.old.out) (O.fault_count outside.old.out) (O.handed outside.old.out)
         (K.told outside.old.keeper) (K.fault_count outside.old.keeper) (D.Link.told outside.old.door)
         (D.Link.fault_count outside.old.door))
-        (seen (F.told outside.new.files) (F.fault_count outside.new.files) (O.taken outside.new.out)
-        (O.fault_count outside.new.out)
+        (seen (F.told outside.new.files) (F.fault_count outside.new.files) (F.heard outside.new.files)
+        (O.taken outside.new.out) (O.fault_count outside.new.out) (O.handed outside.new.out)
         (K.told outside.new.keeper) (K.fault_count outside.new.keeper) (D.Link.told outside.new.door)
         (D.Link.fault_count outside.new.door))
         (option_map (λ code. status (exit_status code)) result) }
@@ -122,12 +123,12 @@ where
     T: Threads + Wait + Sync,
     requires { TellsDocket (K.told outside.old.keeper) }
     ensures runs { Runs (task_of (map string_bytes words.now)) (C.told outside.old.clock)
-        (world (F.told outside.old.files) (F.fault_count outside.old.files) (O.taken outside.old.out)
-        (O.fault_count outside.old.out)
+        (world (F.told outside.old.files) (F.fault_count outside.old.files) (F.heard outside.old.files)
+        (O.taken outside.old.out) (O.fault_count outside.old.out) (O.handed outside.old.out)
         (K.told outside.old.keeper) (K.fault_count outside.old.keeper) (D.Link.told outside.old.door)
         (D.Link.fault_count outside.old.door) (N.Link.told caller.old) (N.Link.fault_count caller.old))
-        (world (F.told outside.new.files) (F.fault_count outside.new.files) (O.taken outside.new.out)
-        (O.fault_count outside.new.out)
+        (world (F.told outside.new.files) (F.fault_count outside.new.files) (F.heard outside.new.files)
+        (O.taken outside.new.out) (O.fault_count outside.new.out) (O.handed outside.new.out)
         (K.told outside.new.keeper) (K.fault_count outside.new.keeper) (D.Link.told outside.new.door)
         (D.Link.fault_count outside.new.door) (N.Link.told caller.new) (N.Link.fault_count caller.new))
         (exit_status result) }
@@ -168,12 +169,12 @@ where
     requires docket { TellsDocket (K.Kept.told outside.old.keeper) }
     requires unplaced { K.unplaced outside.old.keeper }
     ensures runs { Runs (task_of (map string_bytes words.now)) (C.told outside.old.clock)
-        (world (F.told outside.old.files) (F.fault_count outside.old.files) (O.taken outside.old.out)
-        (O.fault_count outside.old.out)
+        (world (F.told outside.old.files) (F.fault_count outside.old.files) (F.heard outside.old.files)
+        (O.taken outside.old.out) (O.fault_count outside.old.out) (O.handed outside.old.out)
         (K.Kept.told outside.old.keeper) (K.Kept.fault_count outside.old.keeper) (D.Link.told outside.old.door)
         (D.Link.fault_count outside.old.door) (N.Link.told caller.old) (N.Link.fault_count caller.old))
-        (world (F.told outside.new.files) (F.fault_count outside.new.files) (O.taken outside.new.out)
-        (O.fault_count outside.new.out)
+        (world (F.told outside.new.files) (F.fault_count outside.new.files) (F.heard outside.new.files)
+        (O.taken outside.new.out) (O.fault_count outside.new.out) (O.handed outside.new.out)
         (K.Kept.told outside.new.keeper) (K.Kept.fault_count outside.new.keeper) (D.Link.told outside.new.door)
         (D.Link.fault_count outside.new.door) (N.Link.told caller.new) (N.Link.fault_count caller.new))
         (exit_status result) }
@@ -212,22 +213,22 @@ where
     // It ends as is due to what the words ask for, a desk, a submission or a vetting; where there was no memory for the
     // words nothing is done.
     ensures runs { RunsGiven given (λ words. Runs (task_of words) (C.told outside.old.clock)
-        (world (F.told outside.old.files) (F.fault_count outside.old.files) (O.taken outside.old.out)
-        (O.fault_count outside.old.out)
+        (world (F.told outside.old.files) (F.fault_count outside.old.files) (F.heard outside.old.files)
+        (O.taken outside.old.out) (O.fault_count outside.old.out) (O.handed outside.old.out)
         (K.Kept.told outside.old.keeper) (K.Kept.fault_count outside.old.keeper) (D.Link.told outside.old.door)
         (D.Link.fault_count outside.old.door) (N.Link.told caller.old) (N.Link.fault_count caller.old))
-        (world (F.told outside.new.files) (F.fault_count outside.new.files) (O.taken outside.new.out)
-        (O.fault_count outside.new.out)
+        (world (F.told outside.new.files) (F.fault_count outside.new.files) (F.heard outside.new.files)
+        (O.taken outside.new.out) (O.fault_count outside.new.out) (O.handed outside.new.out)
         (K.Kept.told outside.new.keeper) (K.Kept.fault_count outside.new.keeper) (D.Link.told outside.new.door)
         (D.Link.fault_count outside.new.door) (N.Link.told caller.new) (N.Link.fault_count caller.new))
         (exit_status result))
         ((exit_status result ≡ 7) ×
-        (world (F.told outside.new.files) (F.fault_count outside.new.files) (O.taken outside.new.out)
-        (O.fault_count outside.new.out)
+        (world (F.told outside.new.files) (F.fault_count outside.new.files) (F.heard outside.new.files)
+        (O.taken outside.new.out) (O.fault_count outside.new.out) (O.handed outside.new.out)
         (K.Kept.told outside.new.keeper) (K.Kept.fault_count outside.new.keeper) (D.Link.told outside.new.door)
         (D.Link.fault_count outside.new.door) (N.Link.told caller.new) (N.Link.fault_count caller.new)
-        ≡ world (F.told outside.old.files) (F.fault_count outside.old.files) (O.taken outside.old.out)
-        (O.fault_count outside.old.out)
+        ≡ world (F.told outside.old.files) (F.fault_count outside.old.files) (F.heard outside.old.files)
+        (O.taken outside.old.out) (O.fault_count outside.old.out) (O.handed outside.old.out)
         (K.Kept.told outside.old.keeper) (K.Kept.fault_count outside.old.keeper) (D.Link.told outside.old.door)
         (D.Link.fault_count outside.old.door) (N.Link.told caller.old) (N.Link.fault_count caller.old))) }
     ensures docket { TellsDocket (K.Kept.told outside.new.keeper) }
@@ -259,8 +260,8 @@ where
 {
     let alloc = rt.alloc();
     let mut outside = Outside {
-        files: HostFiles::new(rt),
-        out: StandardSink::new(rt),
+        files: Hearing::over(HostFiles::new(rt)),
+        out: Handing::over(StandardSink::new(rt)),
         keeper,
         door: TcpDoor::new(rt),
         clock: HostClock::new(rt),

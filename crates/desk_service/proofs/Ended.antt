@@ -6,6 +6,7 @@ use Rattle.std.specs.declared.alloc.Global.{Global}
 use Rattle.sha2.specs.Sha256.{sha256}
 use Rattle.vet_base.specs.Outside.{HasRisen}
 use Rattle.vet_base.specs.Outside.{Told as FilesTold}
+use Rattle.heard_files.specs.Outside.{Entry}
 use Rattle.vet_base.specs.declared.memory.Memory.{Memory as NoMemory}
 use Rattle.desk_links.specs.Links.{Told as LinkTold}
 use Rattle.desk_links.specs.declared.door.DoorFault.{DoorFault}
@@ -20,7 +21,7 @@ use Rattle.desk_service.specs.declared.lists_judge.OfficeLists.{OfficeLists}
 use Rattle.desk_service.specs.declared.opening.Halt.{Halt}
 use Rattle.desk_service.specs.declared.opening.Halt.TheVariants as halts
 use Rattle.desk_service.specs.declared.outside.Status.{Status}
-use Rattle.desk_service.specs.Opening.{opened_of, OpensDesk, Leaves, paper_path}
+use Rattle.desk_service.specs.Opening.{opened_of, OpensDesk, GaveOffice, Leaves, paper_path}
 use Rattle.desk_service.specs.Saying.{PutsText, Says, HaltSays, TakenSays, SaysAs}
 use Rattle.desk_service.specs.Serving.{Seen, seen, ServesDesk, Serves, ComesToSay, RunsOut, Ends}
 use Rattle.desk_service.specs.Texts.{refused_text, read_fault_text, served_text, door_fault_text}
@@ -54,14 +55,16 @@ module _ (asked : Serve) (today : Option ℕ) where
       (result : Result (Status × Vec ℕ Global) NoMemory)
       → OpensDesk old.files asked.office (Ok desk)
       → Leaves {X = Desk OfficeLists} old.files new.files old.file_faults new.file_faults asked.office (Ok desk)
+      → GaveOffice old.heard new.heard asked.office (opened_of desk)
       → ServesDesk (opened_of desk) today asked.most old.desk new.desk r
       → (r ≡ Err doors.Failed → HasRisen old.desk.link_faults new.desk.link_faults)
       → SaysAs (TakenSays r) result → Says asked today old new result
-  said_of_desk old new desk r result opens leaves serves risen says =
+  said_of_desk old new desk r result opens leaves gave serves risen says =
       says_taken old new r result
       (record {
         opened = opened_of desk;
         opens = opens.0;
+        gave = gave;
         files = record { files = leaves.0; faults = leaves.1 };
         desk = serves;
       })
@@ -87,19 +90,20 @@ module _ (asked : Serve) (today : Option ℕ) where
   said_of_halt old new halts.Memory (Err e) opens leaves same says =
       RunsOut.unopened (record { files = leaves.0; faults = leaves.1 }) same
 
-  module _ (old : Seen) (files : Option FilesTold) (file_faults : ℕ) (a b : Option (List ℕ)) (i j : ℕ)
+  module _ (old : Seen) (files : Option FilesTold) (file_faults : ℕ) (heard : List Entry) (a b : Option (List ℕ)) (i j : ℕ) (x y : List ℕ)
       (cases : Option (List Case)) (store_faults : ℕ) (talk : Option LinkTold) (link_faults : ℕ) where
     abbrev Mid : Seen
-    Mid = seen files file_faults a i cases store_faults talk link_faults
+    Mid = seen files file_faults heard a i x cases store_faults talk link_faults
 
     abbrev New : Seen
-    New = seen files file_faults b j cases store_faults talk link_faults
+    New = seen files file_faults heard b j y cases store_faults talk link_faults
 
     -- what is printed is not looked at
     serves_on : (r : Result ℕ DoorFault) → Serves asked today old Mid r → Serves asked today old New r
     serves_on r s = record {
       opened = s.opened;
       opens = s.opens;
+      gave = s.gave;
       files = record { files = s.files.files; faults = s.files.faults };
       desk = s.desk;
     }
@@ -114,35 +118,37 @@ module _ (asked : Serve) (today : Option ℕ) where
     as_status : (due result : Status) → result ≡ due → Ends asked today old New due.0 → Ends asked today old New result.0
     as_status due result same ends = subst (λ (s : Status). Ends asked today old New s.0) (sym same) ends
 
-    ends_with : (due result : Status) (text : List ℕ) → old.printed ≡ a → old.print_faults ≡ i
-        → ComesToSay asked today old Mid due.0 text → PutsText a b i j due text result → Ends asked today old New result.0
-    ends_with due result text same count comes (inl h) =
+    ends_with : (due result : Status) (text : List ℕ) → old.printed ≡ a → old.print_faults ≡ i → old.handed ≡ x
+        → ComesToSay asked today old Mid due.0 text → PutsText a b i j x y due text result → Ends asked today old New result.0
+    ends_with due result text same count hands comes (inl h) =
         as_status due result h.0
         (Ends.said due.0 text (comes_on due.0 text comes)
         (record {
           printed = subst (λ (o : Option (List ℕ)). b ≡ option_map (λ taken. taken ++ text) o) (sym same) h.1;
           count = h.2 ∙ sym count;
+          handed = subst (λ (o : List ℕ). y ≡ o ++ text) (sym hands) h.3;
         }))
-    ends_with due result text same count comes (inr (inl h)) =
+    ends_with due result text same count hands comes (inr (inl h)) =
         as_status (record { 0 = 6 }) result h.0
         (Ends.put_failed due.0 text (comes_on due.0 text comes)
         (record {
           length = h.1.0;
           printed = subst (λ (o : Option (List ℕ)). b ≡ option_map (λ taken. taken ++ take h.1.0 text) o) (sym same) h.1.1;
           risen = subst (λ (k : ℕ). HasRisen k j) (sym count) h.2;
+          handed = subst (λ (o : List ℕ). y ≡ o ++ text) (sym hands) h.3;
         }))
-    ends_with due result text same count comes (inr (inr h)) =
+    ends_with due result text same count hands comes (inr (inr h)) =
         as_status (record { 0 = 7 }) result h.0
         (Ends.memory (RunsOut.unsaid due.0 text (comes_on due.0 text comes))
-        (record { printed = h.1 ∙ sym same; count = h.2 ∙ sym count }))
+        (record { printed = h.1 ∙ sym same; count = h.2 ∙ sym count; handed = h.3 ∙ sym hands }))
 
     -- the text was put
-    pub ends_put : (due result : Status) (text shown : List ℕ) → shown ≡ text → old.printed ≡ a → old.print_faults ≡ i
-        → ComesToSay asked today old Mid due.0 text → PutsText a b i j due shown result
+    pub ends_put : (due result : Status) (text shown : List ℕ) → shown ≡ text → old.printed ≡ a → old.print_faults ≡ i → old.handed ≡ x
+        → ComesToSay asked today old Mid due.0 text → PutsText a b i j x y due shown result
         → Ends asked today old New result.0
-    ends_put due result text shown is same count comes puts =
-        ends_with due result text same count comes
-        (subst (λ (t : List ℕ). PutsText a b i j due t result) is puts)
+    ends_put due result text shown is same count hands comes puts =
+        ends_with due result text same count hands comes
+        (subst (λ (t : List ℕ). PutsText a b i j x y due t result) is puts)
 
 -- what taking connections gives
 pub serves_desk : RunsStaySafe → (desk : Desk OfficeLists) (today : Option ℕ) (most : ℕ) (old new : Outside)

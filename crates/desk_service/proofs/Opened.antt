@@ -1,8 +1,9 @@
 -- A folder gives one thing.
-use Rattle.std.proofs.Common.{◌≡◌, ◌<◌, ℕ, List, length, Option, Some, IsSomeAnd, Result, Ok, Err, refl, sym, ap, subst, ◌∙◌, arith}
+use Rattle.std.proofs.Common.{◌≡◌, ◌<◌, ℕ, List, [], ◌∷◌, ◌++◌, append_assoc, length, Option, Some, IsSomeAnd, Result, Ok, Err, refl, sym, ap, subst, ◌∙◌, arith}
 use Rattle.std.specs.Prelude.{IsTrue, is_some}
 use Rattle.std.proofs.lemmas.Option.{none-some, same_Some}
 use Rattle.vet_base.specs.Outside.{Told}
+use Rattle.heard_files.specs.Outside.{Entry}
 use Rattle.store_office.specs.declared.office.Office.{Office as SaidOffice}
 use Rattle.form_fields.specs.declared.told.FormFault.{FormFault}
 use Rattle.form_fields.specs.Form.{IsForm, FirstFormFault}
@@ -19,7 +20,7 @@ use Rattle.desk_service.specs.declared.opening.Halt.{Halt}
 use Rattle.desk_service.specs.declared.opening.Halt.TheVariants.{Refused, ReadFault, Memory}
 use Rattle.verdict_report.specs.declared.unfit.Unfit.{Unfit}
 use Rattle.verdict_report.specs.declared.unfit.Unfit.TheVariants.{Absent, TooLong, Form}
-use Rattle.desk_service.specs.Opening.{HasBytes, IsAbsent, IsTooLong, IsUnfit, IsUnfitOffice, IsUnfitLists, SaysOffice, HasLists, Opened, Refusal, Opens, unfit_office, unfit_lists, both_fit, OpensAs, OpensOffice, OpensLists, OpensDesk}
+use Rattle.desk_service.specs.Opening.{GaveSaid, GaveOffice, paper_path, HasBytes, IsAbsent, IsTooLong, IsUnfit, IsUnfitOffice, IsUnfitLists, SaysOffice, HasLists, Opened, Refusal, Opens, unfit_office, unfit_lists, both_fit, OpensAs, OpensOffice, OpensLists, OpensDesk}
 
 -- what there is of a file
 some_with : {A : Type 0} (o : Option A) (x : A) (P : A → Type 0) → o ≡ Some x → IsSomeAnd o P → P x
@@ -161,3 +162,15 @@ desk_opens forms told mid folder office lists judge same says has bytes edition 
           (subst (λ (b : List ℕ). HasLists told folder b) (sym bytes) here),
       edition ∙ ap sha256 (sym bytes),
     )
+
+-- the two files were read, one behind the other
+pub gave_office : (folder : List ℕ) (office : SaidOffice) (lists : Vec ℕ Global) (judge : OfficeLists) (old mid new : List Entry)
+    → GaveSaid old mid folder office → new ≡ mid ++ (paper_path folder Lists, lists.items) ∷ [] → judge.lists ≡ lists.items
+    → GaveOffice old new folder (record { office = office; lists = judge.lists })
+gave_office folder office lists judge old mid new said rest same = record {
+  text = said.0;
+  form = said.1;
+  heard = rest ∙ (ap (λ (es : List Entry). es ++ (paper_path folder Lists, lists.items) ∷ []) said.2
+      ∙ (append_assoc old ((paper_path folder Office, said.0) ∷ []) ((paper_path folder Lists, lists.items) ∷ [])
+      ∙ ap (λ (bytes : List ℕ). old ++ (paper_path folder Office, said.0) ∷ (paper_path folder Lists, bytes) ∷ []) (sym same)));
+}

@@ -1,9 +1,10 @@
 -- What the folder of an office gives: a desk, or the first refusal.
-use Rattle.std.specs.Prelude.{◌≡◌, ◌≢◌, ◌<◌, ◌≤◌, ℕ, List, ◌++◌, length, Option, Some, None, Result, Ok, Err, Vec, IsTrue, IsSomeAnd, is_some, codes}
+use Rattle.std.specs.Prelude.{◌≡◌, ◌≢◌, ◌<◌, ◌≤◌, ℕ, List, [], ◌∷◌, ◌++◌, length, Option, Some, None, Result, Ok, Err, Vec, IsTrue, IsSomeAnd, is_some, codes}
 use Rattle.std.specs.declared.alloc.Global.{Global}
 use Rattle.sha2.specs.Sha256.{sha256}
 use Rattle.vet_base.specs.Outside.{HasRisen, Told, held_by}
 use Rattle.vet_base.specs.declared.outside.FailedCall.TheVariants.{Read}
+use Rattle.heard_files.specs.Outside.{Entry}
 use Rattle.store_lists.specs.declared.lists.StoreLists.{StoreLists as SaidLists}
 use Rattle.store_office.specs.declared.office.Office.{Office as SaidOffice}
 use Rattle.desk_serving.specs.declared.judge.Desk.{Desk}
@@ -89,6 +90,17 @@ pub data Opens (told : Option Told) (folder : List ℕ) : Result Opened Refusal 
 pub record OpensAs (told : Option Told) (folder : List ℕ) (result : Result Opened Refusal) : Type 0 where
   pub opens : Opens told folder result
   pub only : IsTrue (is_some told) → (other : Result Opened Refusal) → Opens told folder other → other ≡ result
+
+-- Reads in between gave the office file, which says this.
+abbrev pub GaveSaid : List Entry → List Entry → List ℕ → SaidOffice → Type 0
+GaveSaid old new folder office =
+    (text : List ℕ) × IsForm office_form text office × (new ≡ old ++ (paper_path folder Office, text) ∷ [])
+
+-- Reads in between gave the office file, which says what was opened, and then its lists.
+pub record GaveOffice (old new : List Entry) (folder : List ℕ) (opened : Opened) : Type 0 where
+  pub text : List ℕ
+  pub form : IsForm office_form text opened.office
+  pub heard : new ≡ old ++ (paper_path folder Office, text) ∷ (paper_path folder Lists, opened.lists) ∷ []
 
 -- what reading a file returned
 abbrev pub ReadsPaper : Option Told → List ℕ → Paper → Result (Vec ℕ Global) Halt → Type 0

@@ -4,6 +4,7 @@ use Rattle.std.specs.Option.{option_map}
 use Rattle.sha2.specs.Sha256.{sha256}
 use Rattle.vet_base.specs.Outside.{HasRisen}
 use Rattle.vet_base.specs.Outside.{Told as FilesTold}
+use Rattle.heard_files.specs.Outside.{Entry}
 use Rattle.desk_links.specs.Links.{Told as LinkTold}
 use Rattle.desk_links.specs.declared.door.DoorFault.{DoorFault}
 use Rattle.desk_links.specs.declared.door.DoorFault.TheVariants as doors
@@ -13,25 +14,29 @@ use Rattle.desk_serving.specs.Run.{Runs, IsMachineRun, CountsAll}
 use Rattle.desk_service.specs.declared.opening.Paper.{Paper}
 use Rattle.desk_service.specs.declared.outside.Status.{Status}
 use Rattle.desk_service.specs.Judging.{FindsBy}
-use Rattle.desk_service.specs.Opening.{Opened, Refusal, OpensAs, ReadFails, paper_path}
+use Rattle.desk_service.specs.Opening.{Opened, Refusal, OpensAs, GaveOffice, ReadFails, paper_path}
 use Rattle.desk_service.specs.Safety.{StaysSafe}
 use Rattle.desk_service.specs.Texts.{refused_text, read_fault_text, served_text, door_fault_text}
 use Rattle.desk_words.specs.Serve.{Serve}
 
--- what is told of the outside at one moment, and how often its calls failed
+-- what is told of the outside at one moment, how often its calls failed, what was heard of the files and handed to the sink
 pub record Seen : Type 0 where
   pub files : Option FilesTold
   pub file_faults : ℕ
+  pub heard : List Entry
   pub printed : Option (List ℕ)
   pub print_faults : ℕ
+  pub handed : List ℕ
   pub desk : Outside
 
-abbrev pub seen : Option FilesTold → ℕ → Option (List ℕ) → ℕ → Option (List Case) → ℕ → Option LinkTold → ℕ → Seen
-seen files file_faults printed print_faults cases store_faults talk link_faults = record {
+abbrev pub seen : Option FilesTold → ℕ → List Entry → Option (List ℕ) → ℕ → List ℕ → Option (List Case) → ℕ → Option LinkTold → ℕ → Seen
+seen files file_faults heard printed print_faults handed cases store_faults talk link_faults = record {
   files = files;
   file_faults = file_faults;
+  heard = heard;
   printed = printed;
   print_faults = print_faults;
+  handed = handed;
   desk = outside cases store_faults talk link_faults;
 }
 
@@ -49,10 +54,11 @@ pub record ServesDesk (opened : Opened) (today : Option ℕ) (most : ℕ) (old n
   pub counts : CountsAll most old result
   pub safe : StaysSafe opened.lists old new
 
--- Connections were taken at the desk that the folder gives.
+-- Connections were taken at the desk that the folder gives. The reads in between gave its two files, whatever the files are.
 pub record Serves (asked : Serve) (today : Option ℕ) (old new : Seen) (result : Result ℕ DoorFault) : Type 0 where
   pub opened : Opened
   pub opens : OpensAs old.files asked.office (Ok opened)
+  pub gave : GaveOffice old.heard new.heard asked.office opened
   pub files : KeepsFiles old new
   pub desk : ServesDesk opened today asked.most old.desk new.desk result
 
@@ -74,20 +80,23 @@ pub data RunsOut (asked : Serve) (today : Option ℕ) (old new : Seen) : Type 0 
   at_door : Serves asked today old new (Err doors.Memory) → RunsOut asked today old new
   unsaid : (n : ℕ) (text : List ℕ) → ComesToSay asked today old new n text → RunsOut asked today old new
 
--- the whole text was printed
+-- the whole text was handed to the sink, and printed
 pub record Prints (text : List ℕ) (old new : Seen) : Type 0 where
   pub printed : new.printed ≡ option_map (λ taken. taken ++ text) old.printed
   pub count : new.print_faults ≡ old.print_faults
+  pub handed : new.handed ≡ old.handed ++ text
 
--- the sink failed, having taken a front of the text
+-- the whole text was handed to the sink, which failed, having taken a front of it
 pub record PrintsFront (text : List ℕ) (old new : Seen) : Type 0 where
   pub length : ℕ
   pub printed : new.printed ≡ option_map (λ taken. taken ++ take length text) old.printed
   pub risen : HasRisen old.print_faults new.print_faults
+  pub handed : new.handed ≡ old.handed ++ text
 
 pub record PrintsNothing (old new : Seen) : Type 0 where
   pub printed : new.printed ≡ old.printed
   pub count : new.print_faults ≡ old.print_faults
+  pub handed : new.handed ≡ old.handed
 
 -- How a run ends, and with which status: what it came to say was printed; or the sink failed meanwhile; or memory ran out.
 pub data Ends (asked : Serve) (today : Option ℕ) (old new : Seen) : ℕ → Type 0 where

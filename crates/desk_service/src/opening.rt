@@ -1,16 +1,19 @@
 //! The files of an office, read in their order: the office file, and then the lists.
-ghost use Rattle.std.specs.Prelude.{◌≡◌, string_bytes, IfOk};
+ghost use Rattle.std.specs.Prelude.{◌≡◌, [], ◌∷◌, ◌++◌, string_bytes, IfOk};
 ghost use Rattle.desk_service.specs.Opening.{paper_name, paper_path, ReadsPaper, Leaves};
+ghost use Rattle.desk_service.specs.Opening.{GaveSaid, GaveOffice, opened_of};
+ghost use Rattle.desk_service.specs.declared.opening.Paper.TheVariants.{Lists};
 ghost use Rattle.desk_service.specs.Opening.{HaltsForm, OpensOffice, OpensLists, OpensDesk};
 
 use crate::lists_judge::OfficeLists;
 use desk_serving::Desk;
+use heard_files::Files;
 use office_forms::{FormFault, one_form_or_fault, read_lists, read_office};
 use printed_text::FILE_LIMIT;
 use std::alloc::{AllocError, Global};
 use store_office::Office;
 use verdict_report::Unfit;
-use vet_base::{FileFault, Files, Memory};
+use vet_base::{FileFault, Memory};
 
 /// A file of the office.
 #[derive(Clone, Copy)]
@@ -79,6 +82,8 @@ fn paper_in<F: Files>(
     ensures reads { ReadsPaper (F.told files.old) office.now paper result }
     ensures leaves { Leaves (F.told files.old) (F.told files.new) (F.fault_count files.old) (F.fault_count files.new)
         office.now result }
+    ensures heard { IfOk result (λ bytes. F.heard files.new
+        ≡ F.heard files.old ++ (paper_path office.now paper, bytes.items) ∷ []) }
 {
     let path = path_of(alloc, office, paper)?;
     match files.read(alloc, path.as_str(), FILE_LIMIT) {
@@ -104,6 +109,7 @@ fn office_in<F: Files>(alloc: Global, files: &mut F, folder: &str) -> Result<Off
     ensures opens { OpensOffice (F.told files.old) folder.now result }
     ensures leaves { Leaves (F.told files.old) (F.told files.new) (F.fault_count files.old) (F.fault_count files.new)
         folder.now result }
+    ensures heard { IfOk result (λ office. GaveSaid (F.heard files.old) (F.heard files.new) folder.now office) }
 {
     let text = paper_in(alloc, files, folder, Paper::Office)?;
     match read_office(alloc, &text) {
@@ -117,6 +123,8 @@ fn lists_in<F: Files>(alloc: Global, files: &mut F, folder: &str) -> Result<Vec<
     ensures opens { OpensLists (F.told files.old) folder.now result }
     ensures leaves { Leaves (F.told files.old) (F.told files.new) (F.fault_count files.old) (F.fault_count files.new)
         folder.now result }
+    ensures heard { IfOk result (λ bytes. F.heard files.new
+        ≡ F.heard files.old ++ (paper_path folder.now Lists, bytes.items) ∷ []) }
 {
     let text = paper_in(alloc, files, folder, Paper::Lists)?;
     match read_lists(alloc, &text) {
@@ -135,6 +143,8 @@ pub(crate) fn desk_in<F: Files>(
     ensures opens { OpensDesk (F.told files.old) folder.now result }
     ensures leaves { Leaves (F.told files.old) (F.told files.new) (F.fault_count files.old) (F.fault_count files.new)
         folder.now result }
+    ensures gave { IfOk result (λ desk. GaveOffice (F.heard files.old) (F.heard files.new) folder.now
+        (opened_of desk)) }
 {
     one_form_or_fault();
     let office = office_in(alloc, files, folder)?;

@@ -10,15 +10,17 @@ use crate::saying::said;
 use case_keeper::Keeper;
 use desk_links::{Clock, Door};
 use desk_words::{Serving, serving_in};
+use heard_files::{Files, Sink};
 use std::alloc::Global;
 use std::marker::Sync;
 use std::sync::Wait;
 use std::thread::Threads;
-use vet_base::{Files, Memory, PutFault, Sink};
+use vet_base::{Memory, PutFault};
 use worker_pool::{Crew, Lookout};
 
 fn printed<O: Sink>(alloc: Global, out: &mut O, status: Status, text: &[u8]) -> Status
-    ensures { PutsText (O.taken out.old) (O.taken out.new) (O.fault_count out.old) (O.fault_count out.new) status
+    ensures { PutsText (O.taken out.old) (O.taken out.new) (O.fault_count out.old) (O.fault_count out.new)
+        (O.handed out.old) (O.handed out.new) status
         text.now result }
 {
     match out.put(alloc, text) {
@@ -45,12 +47,12 @@ where
     L: Lookout,
     requires { TellsDocket (K.told outside.old.keeper) }
     ensures ends { Ends (asked_words asked.now) (C.told outside.old.clock)
-        (seen (F.told outside.old.files) (F.fault_count outside.old.files) (O.taken outside.old.out)
-        (O.fault_count outside.old.out)
+        (seen (F.told outside.old.files) (F.fault_count outside.old.files) (F.heard outside.old.files)
+        (O.taken outside.old.out) (O.fault_count outside.old.out) (O.handed outside.old.out)
         (K.told outside.old.keeper) (K.fault_count outside.old.keeper) (D.Link.told outside.old.door)
         (D.Link.fault_count outside.old.door))
-        (seen (F.told outside.new.files) (F.fault_count outside.new.files) (O.taken outside.new.out)
-        (O.fault_count outside.new.out)
+        (seen (F.told outside.new.files) (F.fault_count outside.new.files) (F.heard outside.new.files)
+        (O.taken outside.new.out) (O.fault_count outside.new.out) (O.handed outside.new.out)
         (K.told outside.new.keeper) (K.fault_count outside.new.keeper) (D.Link.told outside.new.door)
         (D.Link.fault_count outside.new.door)) result.0 }
     ensures docket { TellsDocket (K.told outside.new.keeper) }
@@ -106,12 +108,12 @@ where
     // The status, the printed text and what became of cases and connections are those that are due to the words, unless
     // a read, the door or the put failed in this very call, or memory ran out.
     ensures answers { Answers (parse (map string_bytes words.now)) (C.told outside.old.clock)
-        (seen (F.told outside.old.files) (F.fault_count outside.old.files) (O.taken outside.old.out)
-        (O.fault_count outside.old.out)
+        (seen (F.told outside.old.files) (F.fault_count outside.old.files) (F.heard outside.old.files)
+        (O.taken outside.old.out) (O.fault_count outside.old.out) (O.handed outside.old.out)
         (K.told outside.old.keeper) (K.fault_count outside.old.keeper) (D.Link.told outside.old.door)
         (D.Link.fault_count outside.old.door))
-        (seen (F.told outside.new.files) (F.fault_count outside.new.files) (O.taken outside.new.out)
-        (O.fault_count outside.new.out)
+        (seen (F.told outside.new.files) (F.fault_count outside.new.files) (F.heard outside.new.files)
+        (O.taken outside.new.out) (O.fault_count outside.new.out) (O.handed outside.new.out)
         (K.told outside.new.keeper) (K.fault_count outside.new.keeper) (D.Link.told outside.new.door)
         (D.Link.fault_count outside.new.door)) result }
     ensures docket { TellsDocket (K.told outside.new.keeper) }

@@ -19,12 +19,13 @@ use case_keeper::Keeper;
 use desk_links::{Clock, Door, DoorFault};
 use desk_serving::{Desk, serve_door};
 use desk_words::Serving;
+use heard_files::{Files, Sink};
 use std::alloc::Global;
 use std::marker::Sync;
 use std::sync::Wait;
 use std::thread::Threads;
 use verdict::{Judged as JudgedApp, Parts};
-use vet_base::{Files, Memory, Sink};
+use vet_base::Memory;
 use worker_pool::{Crew, Lookout};
 
 /// The status and the text where no desk could be opened.
@@ -120,12 +121,12 @@ where
     L: Lookout,
     requires { TellsDocket (K.told outside.old.keeper) }
     ensures says { Says (asked_words asked.now) (C.told outside.old.clock)
-        (seen (F.told outside.old.files) (F.fault_count outside.old.files) (O.taken outside.old.out)
-        (O.fault_count outside.old.out)
+        (seen (F.told outside.old.files) (F.fault_count outside.old.files) (F.heard outside.old.files)
+        (O.taken outside.old.out) (O.fault_count outside.old.out) (O.handed outside.old.out)
         (K.told outside.old.keeper) (K.fault_count outside.old.keeper) (D.Link.told outside.old.door)
         (D.Link.fault_count outside.old.door))
-        (seen (F.told outside.new.files) (F.fault_count outside.new.files) (O.taken outside.new.out)
-        (O.fault_count outside.new.out)
+        (seen (F.told outside.new.files) (F.fault_count outside.new.files) (F.heard outside.new.files)
+        (O.taken outside.new.out) (O.fault_count outside.new.out) (O.handed outside.new.out)
         (K.told outside.new.keeper) (K.fault_count outside.new.keeper) (D.Link.told outside.new.door)
         (D.Link.fault_count outside.new.door)) result }
     ensures docket { TellsDocket (K.told outside.new.keeper) }

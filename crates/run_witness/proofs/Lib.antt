@@ -1,5 +1,6 @@
 pub mod Commanding
 pub mod Connecting
+pub mod Hearing
 pub mod Judging
 pub mod Planning
 pub mod Posting

@@ -1,5 +1,6 @@
 pub mod Commands
 pub mod Connections
+pub mod Hearings
 pub mod Judgements
 pub mod Plans
 pub mod Postings

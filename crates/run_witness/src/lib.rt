@@ -5,6 +5,7 @@
 
 ghost use Rattle.run_witness.specs.Commands.{CommandsTell};
 ghost use Rattle.run_witness.specs.Connections.{ConnectionsEnd};
+ghost use Rattle.run_witness.specs.Hearings.{HearingsTell};
 ghost use Rattle.run_witness.specs.Judgements.{JudgementsTell};
 ghost use Rattle.run_witness.specs.Plans.{PlansTell};
 ghost use Rattle.run_witness.specs.Postings.{OnePosting};
@@ -42,6 +43,11 @@ pub fn the_vettings_end()
 /// How the program does not end, and what its words ask for.
 pub fn the_programs_end()
     ensures { ProgramsEnd }
+{}
+
+/// What reads gave and what was handed over is not forgotten.
+pub fn the_hearings_tell()
+    ensures { HearingsTell }
 {}
 
 /// What judging by the lists of an office does not give.

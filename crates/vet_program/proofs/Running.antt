@@ -21,10 +21,10 @@ of_submitting (Some asked) words old new code is = is
 
 -- none was, and the words were vetted
 pub of_vetting : (asked : Option Submit) (words : Option Words) (old between new : Seen) (code : ℕ)
-    → Answers asked old between None → Vets words (vetted_of between) (vetted_of new) code → new.io.dials ≡ between.io.dials
+    → Answers asked old between None → Vets words (vetted_of between) (vetted_of new) between.heard new.heard code → new.io.dials ≡ between.io.dials
     → Runs (task_in asked words) old new code
 of_vetting None words old between new code same vets dials =
-    let Ran : Seen → Type 0 = λ seen. Vets words (vetted_of seen) (vetted_of new) code × (new.io.dials ≡ seen.io.dials) in
+    let Ran : Seen → Type 0 = λ seen. Vets words (vetted_of seen) (vetted_of new) seen.heard new.heard code × (new.io.dials ≡ seen.io.dials) in
     subst Ran same (vets, dials)
 of_vetting (Some asked) words old between new code is vets dials = absurd is
 

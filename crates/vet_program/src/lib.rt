@@ -9,7 +9,7 @@ ghost use Rattle.std.specs.Process.{exit_status};
 ghost use Rattle.desk_words.specs.Words.{parse};
 ghost use Rattle.vetting_desk.specs.Answer.{SaysClear, IsSafe, SaysFound};
 ghost use Rattle.app_folder.specs.Outside.{outside};
-ghost use Rattle.vetting_desk.specs.Top.{EndsAsDue, EndsAsOnlyDue, PrintsFullReport, TakesClear};
+ghost use Rattle.vetting_desk.specs.Top.{EndsAsDue, EndsAsOnlyDue, PrintsFullReport, HandsClear, TakesClear};
 ghost use Rattle.client_service.specs.Saying.{status};
 ghost use Rattle.client_service.specs.Submitting.{seen, Answers};
 ghost use Rattle.client_service.specs.Words.{parse as parse_submit};
@@ -18,6 +18,7 @@ ghost use Rattle.vet_program.specs.Program.{task_of, Runs, RunsGiven};
 use caller_host::TcpCaller;
 use client_service::{Status as ClientStatus, submit};
 use desk_callers::Caller;
+use heard_files::{Files, Handing, Hearing, Sink};
 use std::alloc::Global;
 use std::env::Env;
 use std::marker::Sync;
@@ -29,7 +30,6 @@ use std::sync::Wait;
 use std::thread::Threads;
 use std::time::Clock;
 use std::{env, io};
-use vet_base::{Files, Sink};
 use vetting_desk::{HostFiles, StandardSink, Status, vet, words_given};
 use worker_pool::{Crew, NoLookout};
 
@@ -64,32 +64,51 @@ pub fn vetted<F: Files, O: Sink, T: Threads + Wait + Sync>(
     // The exit status, the printed text and the files are those that are due to the words, unless a read or the put
     // failed in this very call, or memory ran out.
     ensures ends { EndsAsDue (parse (map string_bytes words.now))
-        (outside (F.told files.old) (F.fault_count files.old) (O.taken out.old) (O.fault_count out.old))
-        (outside (F.told files.new) (F.fault_count files.new) (O.taken out.new) (O.fault_count out.new))
+        (outside (F.told files.old) (F.fault_count files.old) (O.taken out.old) (O.fault_count out.old)
+        (O.handed out.old))
+        (outside (F.told files.new) (F.fault_count files.new) (O.taken out.new) (O.fault_count out.new)
+        (O.handed out.new))
         (exit_status result) }
 
     // Nothing else is due, where the files tell what they hold, but that a finding may have several right stories.
     ensures only { EndsAsOnlyDue (parse (map string_bytes words.now))
-        (outside (F.told files.old) (F.fault_count files.old) (O.taken out.old) (O.fault_count out.old))
-        (outside (F.told files.new) (F.fault_count files.new) (O.taken out.new) (O.fault_count out.new))
+        (outside (F.told files.old) (F.fault_count files.old) (O.taken out.old) (O.fault_count out.old)
+        (O.handed out.old))
+        (outside (F.told files.new) (F.fault_count files.new) (O.taken out.new) (O.fault_count out.new)
+        (O.handed out.new))
         (exit_status result) }
 
-    // Clear is a theorem about the very bytes handed in.
+    // Clear is a theorem about the very bytes that the first reads of this call gave, of any files.
     ensures sound { SaysClear (parse (map string_bytes words.now)) (exit_status result) →
-        IsSafe (parse (map string_bytes words.now)) (record { files = F.told files.old; printed = O.taken out.old }) }
+        IsSafe (parse (map string_bytes words.now)) (record { files = F.told files.old; printed = O.taken out.old })
+        (F.heard files.old) (F.heard files.new) }
 
     // So it is wherever the word `clear` was printed, also where the put failed behind it.
     ensures clear { TakesClear (parse (map string_bytes words.now))
-        (outside (F.told files.old) (F.fault_count files.old) (O.taken out.old) (O.fault_count out.old))
-        (outside (F.told files.new) (F.fault_count files.new) (O.taken out.new) (O.fault_count out.new)) →
-        IsSafe (parse (map string_bytes words.now)) (record { files = F.told files.old; printed = O.taken out.old }) }
+        (outside (F.told files.old) (F.fault_count files.old) (O.taken out.old) (O.fault_count out.old)
+        (O.handed out.old))
+        (outside (F.told files.new) (F.fault_count files.new) (O.taken out.new) (O.fault_count out.new)
+        (O.handed out.new)) →
+        IsSafe (parse (map string_bytes words.now)) (record { files = F.told files.old; printed = O.taken out.old })
+        (F.heard files.old) (F.heard files.new) }
+
+    // So it is wherever that word was handed to the output, of any output.
+    ensures handed { HandsClear (parse (map string_bytes words.now))
+        (outside (F.told files.old) (F.fault_count files.old) (O.taken out.old) (O.fault_count out.old)
+        (O.handed out.old))
+        (outside (F.told files.new) (F.fault_count files.new) (O.taken out.new) (O.fault_count out.new)
+        (O.handed out.new)) →
+        IsSafe (parse (map string_bytes words.now)) (record { files = F.told files.old; printed = O.taken out.old })
+        (F.heard files.old) (F.heard files.new) }
 
     // Flagged and undecided leave out nothing that a run of the app does, unless the app is too large.
     ensures full { SaysFound (parse (map string_bytes words.now)) (exit_status result) →
         PrintsFullReport (parse (map string_bytes words.now))
-        (outside (F.told files.old) (F.fault_count files.old) (O.taken out.old) (O.fault_count out.old))
-        (outside (F.told files.new) (F.fault_count files.new) (O.taken out.new) (O.fault_count out.new))
-        (exit_status result) }
+        (outside (F.told files.old) (F.fault_count files.old) (O.taken out.old) (O.fault_count out.old)
+        (O.handed out.old))
+        (outside (F.told files.new) (F.fault_count files.new) (O.taken out.new) (O.fault_count out.new)
+        (O.handed out.new))
+        (F.heard files.old) (F.heard files.new) (exit_status result) }
 {
     let crew = Crew {
         rt,
@@ -113,10 +132,10 @@ pub fn submitted<F: Files, O: Sink, N: Caller>(
     // The exit status, the printed text and what was dialled and written are those that are due to the words, unless a
     // read or the put failed in this very call, or memory ran out. Where the words are no `submit` nothing is dialled.
     ensures answers { Answers (parse_submit (map string_bytes words.now))
-        (seen (F.told files.old) (F.fault_count files.old) (O.taken out.old) (O.fault_count out.old)
-        (N.told caller.old) (N.fault_count caller.old))
-        (seen (F.told files.new) (F.fault_count files.new) (O.taken out.new) (O.fault_count out.new)
-        (N.told caller.new) (N.fault_count caller.new))
+        (seen (F.told files.old) (F.fault_count files.old) (F.heard files.old) (O.taken out.old)
+        (O.fault_count out.old) (O.handed out.old) (N.told caller.old) (N.fault_count caller.old))
+        (seen (F.told files.new) (F.fault_count files.new) (F.heard files.new) (O.taken out.new)
+        (O.fault_count out.new) (O.handed out.new) (N.told caller.new) (N.fault_count caller.new))
         (option_map (λ code. status (exit_status code)) result) }
 {
     let ClientStatus(status) = submit(alloc, words, files, out, caller)?;
@@ -136,10 +155,10 @@ pub fn answered_without_desk<F: Files, O: Sink, N: Caller, T: Threads + Wait + S
 ) -> ExitCode
     // It ends as is due to what the words ask for.
     ensures { Runs (task_of (map string_bytes words.now))
-        (seen (F.told files.old) (F.fault_count files.old) (O.taken out.old) (O.fault_count out.old)
-        (N.told caller.old) (N.fault_count caller.old))
-        (seen (F.told files.new) (F.fault_count files.new) (O.taken out.new) (O.fault_count out.new)
-        (N.told caller.new) (N.fault_count caller.new))
+        (seen (F.told files.old) (F.fault_count files.old) (F.heard files.old) (O.taken out.old)
+        (O.fault_count out.old) (O.handed out.old) (N.told caller.old) (N.fault_count caller.old))
+        (seen (F.told files.new) (F.fault_count files.new) (F.heard files.new) (O.taken out.new)
+        (O.fault_count out.new) (O.handed out.new) (N.told caller.new) (N.fault_count caller.new))
         (exit_status result) }
 {
     match submitted(alloc, words, files, out, caller) {
@@ -161,15 +180,15 @@ pub fn program<F: Files, O: Sink, N: Caller, T: RandomSource + Threads + Wait + 
 ) -> ExitCode
     // It ends as is due to what the words ask for; where there was no memory for them nothing is done.
     ensures { RunsGiven given (λ words. Runs (task_of words)
-        (seen (F.told files.old) (F.fault_count files.old) (O.taken out.old) (O.fault_count out.old)
-        (N.told caller.old) (N.fault_count caller.old))
-        (seen (F.told files.new) (F.fault_count files.new) (O.taken out.new) (O.fault_count out.new)
-        (N.told caller.new) (N.fault_count caller.new))
+        (seen (F.told files.old) (F.fault_count files.old) (F.heard files.old) (O.taken out.old)
+        (O.fault_count out.old) (O.handed out.old) (N.told caller.old) (N.fault_count caller.old))
+        (seen (F.told files.new) (F.fault_count files.new) (F.heard files.new) (O.taken out.new)
+        (O.fault_count out.new) (O.handed out.new) (N.told caller.new) (N.fault_count caller.new))
         (exit_status result))
-        ((exit_status result ≡ 7) × (seen (F.told files.new) (F.fault_count files.new) (O.taken out.new)
-        (O.fault_count out.new) (N.told caller.new) (N.fault_count caller.new)
-        ≡ seen (F.told files.old) (F.fault_count files.old) (O.taken out.old) (O.fault_count out.old)
-        (N.told caller.old) (N.fault_count caller.old))) }
+        ((exit_status result ≡ 7) × (seen (F.told files.new) (F.fault_count files.new) (F.heard files.new)
+        (O.taken out.new) (O.fault_count out.new) (O.handed out.new) (N.told caller.new) (N.fault_count caller.new)
+        ≡ seen (F.told files.old) (F.fault_count files.old) (F.heard files.old) (O.taken out.old)
+        (O.fault_count out.old) (O.handed out.old) (N.told caller.old) (N.fault_count caller.old))) }
 {
     match words_given(alloc, given) {
         Ok(words) => answered_without_desk(alloc, &words, files, out, caller, rt, seed_of(rt)),
@@ -194,8 +213,8 @@ where
         + Drop,
 {
     let alloc = rt.alloc();
-    let mut files = HostFiles::new(rt);
-    let mut out = StandardSink::new(rt);
+    let mut files = Hearing::over(HostFiles::new(rt));
+    let mut out = Handing::over(StandardSink::new(rt));
     let mut caller = TcpCaller::new(rt);
     program(
         alloc,

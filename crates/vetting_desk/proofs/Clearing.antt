@@ -3,6 +3,7 @@ use Rattle.std.proofs.Common.{◌≡◌, ℕ, suc, zero, ◌<◌, List, [], ◌�
 use Rattle.std.specs.Option.{option_map}
 use Rattle.std.proofs.lemmas.Option.{same_Some}
 use Rattle.vet_base.specs.Outside.{Told}
+use Rattle.heard_files.specs.Outside.{Entry}
 use Rattle.desk_words.specs.Words.{Words, Check, Certify, Recheck, Story, Make}
 use Rattle.cert_report.specs.declared.refusal.CertRefusal.{CertRefusal}
 use Rattle.cert_report.specs.Refusal.{refusal_text}
@@ -22,7 +23,7 @@ use Rattle.vetting_desk.specs.Due.{read_fault_text, absent_text, storied_text, t
 use Rattle.vetting_desk.specs.Found.{TheDue}
 use Rattle.vetting_desk.specs.PartsDue.{Certifies, Rechecks, RechecksBy, Retells}
 use Rattle.flow_story.specs.declared.line.StoryLine.{StoryLine}
-use Rattle.vetting_desk.specs.Top.{ComesToSay, Ends, TakesClear}
+use Rattle.vetting_desk.specs.Top.{ComesToSay, Ends, HandsClear, TakesClear}
 
 -- The third byte of `clear` is an `e`, which is that of no other text.
 abbrev first : List ℕ → ℕ
@@ -125,13 +126,6 @@ clear_due words tells _ text (Answers.story dir due e is) told same =
 clear_due words tells _ text (Answers.make seed size n judged e is) told same =
     absurd (subst (λ (w : Option Words). TellsClear w text) e told)
 
--- the text that was to be said tells it
-clear_said : (words : Option Words) (old new : Outside) (n : ℕ) (said text : List ℕ) → ComesToSay (TheDue words old.tells) words old new n said
-    → TellsClear words text → third said ≡ 101 → IsSafe words old.tells
-clear_said words old new _ _ text (ComesToSay.answer due is went) told same =
-    is.safe (clear_due words old.tells due text is.answers told same)
-clear_said words old new _ _ text (ComesToSay.read_fault name fails) told same = absurd (no_fault name same)
-
 abbrev behind : List ℕ → List ℕ
 behind [] = []
 behind (b ∷ bytes) = bytes
@@ -157,6 +151,13 @@ pub not_clear : (words : Option Words) (old new : Outside) → new.tells.printed
 not_clear words old new same takes =
     nothing_taken takes.before takes.text old.tells.printed new.tells.printed takes.old_is takes.new_is same (tells_third words takes.text takes.tells)
 
+-- nor where nothing was handed over
+pub not_handed : (words : Option Words) (old new : Outside) → new.handed ≡ old.handed → HandsClear words old new → ⊥
+not_handed words old new same hands =
+    let none : old.handed ++ hands.text ≡ old.handed = sym hands.handed ∙ same in
+    let empty : hands.text ≡ [] = cancel old.handed hands.text [] (none ∙ sym (append-nil old.handed)) in
+    below 0 101 (lit< tt) (sym (ap third empty) ∙ tells_third words hands.text hands.tells)
+
 -- a front that has the third byte has it of the whole
 whole_third : (n : ℕ) (text : List ℕ) → third (take n text) ≡ 101 → third text ≡ 101
 whole_third zero text same = absurd (below 0 101 (lit< tt) same)
@@ -170,12 +171,33 @@ whole_third (suc (suc (suc n))) (a ∷ []) same = same
 whole_third (suc (suc (suc n))) (a ∷ b ∷ []) same = same
 whole_third (suc (suc (suc n))) (a ∷ b ∷ c ∷ text) same = same
 
-pub clear_end : (words : Option Words) (old new : Outside) (n : ℕ) → Ends (TheDue words old.tells) words old new n → TakesClear words old new → IsSafe words old.tells
-clear_end words old new _ (Ends.said n said says prints) takes =
-    let same : takes.text ≡ said = taken_is takes.before takes.text said old.tells.printed new.tells.printed takes.old_is takes.new_is prints.printed in
-    clear_said words old new n said takes.text says takes.tells (sym (ap third same) ∙ tells_third words takes.text takes.tells)
-clear_end words old new _ (Ends.put_failed n said says front) takes =
-    let same : takes.text ≡ take front.length said = taken_is takes.before takes.text (take front.length said) old.tells.printed new.tells.printed takes.old_is takes.new_is front.printed in
-    clear_said words old new n said takes.text says takes.tells (whole_third front.length said (sym (ap third same) ∙ tells_third words takes.text takes.tells))
-clear_end words old new _ (Ends.write_failed due file is has fails nothing) takes = absurd (not_clear words old new nothing.printed takes)
-clear_end words old new _ (Ends.memory out nothing) takes = absurd (not_clear words old new nothing.printed takes)
+-- so much was heard of the files before and after
+module _ (ho hn : List Entry) where
+  -- the text that was to be said tells it
+  clear_said : (words : Option Words) (old new : Outside) (n : ℕ) (said text : List ℕ) → ComesToSay (TheDue words old.tells ho hn) words old new n said
+      → TellsClear words text → third said ≡ 101 → IsSafe words old.tells ho hn
+  clear_said words old new _ _ text (ComesToSay.answer due is went) told same =
+      is.safe (clear_due words old.tells due text is.answers told same)
+  clear_said words old new _ _ text (ComesToSay.read_fault name fails) told same = absurd (no_fault name same)
+
+  pub clear_end : (words : Option Words) (old new : Outside) (n : ℕ) → Ends (TheDue words old.tells ho hn) words old new n → TakesClear words old new → IsSafe words old.tells ho hn
+  clear_end words old new _ (Ends.said n said says prints) takes =
+      let same : takes.text ≡ said = taken_is takes.before takes.text said old.tells.printed new.tells.printed takes.old_is takes.new_is prints.printed in
+      clear_said words old new n said takes.text says takes.tells (sym (ap third same) ∙ tells_third words takes.text takes.tells)
+  clear_end words old new _ (Ends.put_failed n said says front) takes =
+      let same : takes.text ≡ take front.length said = taken_is takes.before takes.text (take front.length said) old.tells.printed new.tells.printed takes.old_is takes.new_is front.printed in
+      clear_said words old new n said takes.text says takes.tells (whole_third front.length said (sym (ap third same) ∙ tells_third words takes.text takes.tells))
+  clear_end words old new _ (Ends.write_failed due file is has fails nothing) takes = absurd (not_clear words old new nothing.printed takes)
+  clear_end words old new _ (Ends.memory out nothing) takes = absurd (not_clear words old new nothing.printed takes)
+
+  clear_handed : (words : Option Words) (old new : Outside) (n : ℕ) (said : List ℕ) → ComesToSay (TheDue words old.tells ho hn) words old new n said
+      → HandsClear words old new → new.handed ≡ old.handed ++ said → IsSafe words old.tells ho hn
+  clear_handed words old new n said says hands puts =
+      let same : hands.text ≡ said = cancel old.handed hands.text said (sym hands.handed ∙ puts) in
+      clear_said words old new n said hands.text says hands.tells (sym (ap third same) ∙ tells_third words hands.text hands.tells)
+
+  pub handed_end : (words : Option Words) (old new : Outside) (n : ℕ) → Ends (TheDue words old.tells ho hn) words old new n → HandsClear words old new → IsSafe words old.tells ho hn
+  handed_end words old new _ (Ends.said n said says prints) hands = clear_handed words old new n said says hands prints.handed
+  handed_end words old new _ (Ends.put_failed n said says front) hands = clear_handed words old new n said says hands front.handed
+  handed_end words old new _ (Ends.write_failed due file is has fails nothing) hands = absurd (not_handed words old new nothing.handed hands)
+  handed_end words old new _ (Ends.memory out nothing) hands = absurd (not_handed words old new nothing.handed hands)

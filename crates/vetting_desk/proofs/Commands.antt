@@ -1,5 +1,5 @@
 -- From what is found of a folder to what is due to the words.
-use Rattle.std.proofs.Common.{◌≡◌, ◌≤◌, ◌⊎◌, inl, inr, ℕ, List, [], Option, Some, None, Result, Ok, Err, append-nil, refl, sym, subst, arith}
+use Rattle.std.proofs.Common.{◌≡◌, ◌≤◌, ◌⊎◌, inl, inr, ℕ, List, [], ◌++◌, Option, Some, None, Result, Ok, Err, append-nil, refl, sym, ◌∙◌, ap, subst, append_assoc, arith}
 use Rattle.std.specs.Prelude.{IfOk, IsTrue, is_some, string_bytes}
 use Rattle.vet_base.specs.Outside.{Told, held_by}
 use Rattle.vet_base.specs.declared.memory.Memory.{Memory as NoMemory}
@@ -15,6 +15,8 @@ use Rattle.app_folder.specs.declared.folder.Halt.{Halt}
 use Rattle.app_folder.specs.declared.folder.Halt.TheVariants as halts
 use Rattle.desk_words.specs.Words.{Words, Check, Certify, Recheck, Story}
 use Rattle.app_folder.specs.Folder.{IsFileIn}
+use Rattle.app_folder.specs.Heard.{entries_of, GaveParts}
+use Rattle.heard_files.specs.Outside.{Entry}
 use Rattle.vetting_desk.specs.Answer.{Answers, Alike, HasSafeApp, SaysClear, IsSafe, HasFullReport, SaysFound, IsFullReport, IsFileOf}
 use Rattle.app_folder.specs.Due.{Due, reported}
 use Rattle.vetting_desk.specs.Due.{SameButStories, usage, due_of}
@@ -33,14 +35,14 @@ tells_of told printed = record { files = told; printed = printed }
 
 -- Words that ask something of the parts in a folder: what is due to them is what is due to the folder, and what they say of the app
 -- is said of that of the folder.
-pub record AsksOf (words : Option Words) (dir : List ℕ) (told : Option Told) (PartsDue : Parts → Due → Type 0) : Type 0 where
+pub record AsksOf (words : Option Words) (dir : List ℕ) (told : Option Told) (ho hn : List Entry) (PartsDue : Parts → Due → Type 0) : Type 0 where
   pub answers : (printed : Option (List ℕ)) (due : Due) → FolderDue PartsDue dir told due → Answers words (tells_of told printed) due
   pub only : (printed : Option (List ℕ)) (due : Due) → Answers words (tells_of told printed) due → FolderDue PartsDue dir told due
   pub alike : (printed : Option (List ℕ)) (due other : Due) → FolderDue PartsDue dir told due → other ≡ due → Alike words (tells_of told printed) due other
   pub clear : (status : ℕ) → SaysClear words status → status ≡ 0
-  pub safe : (printed : Option (List ℕ)) → HasSafeApp dir told → IsSafe words (tells_of told printed)
+  pub safe : (printed : Option (List ℕ)) → HasSafeApp dir told ho hn → IsSafe words (tells_of told printed) ho hn
   pub found : (status : ℕ) → SaysFound words status → (status ≡ 1) ⊎ (status ≡ 2)
-  pub full : (printed : Option (List ℕ)) (status : ℕ) (text : List ℕ) → HasFullReport dir told status text → IsFullReport words (tells_of told printed) status text
+  pub full : (printed : Option (List ℕ)) (status : ℕ) (text : List ℕ) → HasFullReport dir told ho hn status text → IsFullReport words (tells_of told printed) ho hn status text
   pub file : (name : List ℕ) → IsFileIn dir name → IsFileOf words name
 
 only_check : (dir : List ℕ) (n : ℕ) (told : Option Told) (printed : Option (List ℕ)) (due : Due) → Answers (Some (Check dir n)) (tells_of told printed) due → FolderDue Checks dir told due
@@ -88,8 +90,8 @@ like_itself dir told _ other (FolderDue.refused refusal is) same =
 like_itself dir told _ other (FolderDue.given parts _ gathers (Retells.stories outcome stories tells)) same =
     record { outcome = outcome; first = stories; second = stories; one_is = refl; other_is = same; as_many = refl }
 
-pub check_asks : (dir : List ℕ) (n : ℕ) (told : Option Told) → AsksOf (Some (Check dir n)) dir told Checks
-check_asks dir n told = record {
+pub check_asks : (dir : List ℕ) (n : ℕ) (told : Option Told) (ho hn : List Entry) → AsksOf (Some (Check dir n)) dir told ho hn Checks
+check_asks dir n told ho hn = record {
   answers = λ printed due is. Answers.check dir n due refl is;
   only = only_check dir n told;
   alike = λ printed due other is same. sym same;
@@ -100,8 +102,8 @@ check_asks dir n told = record {
   file = λ name is. is;
 }
 
-pub certify_asks : (dir path : List ℕ) (told : Option Told) → AsksOf (Some (Certify dir path)) dir told (Certifies path)
-certify_asks dir path told = record {
+pub certify_asks : (dir path : List ℕ) (told : Option Told) (ho hn : List Entry) → AsksOf (Some (Certify dir path)) dir told ho hn (Certifies path)
+certify_asks dir path told ho hn = record {
   answers = λ printed due is. Answers.certify dir path due refl is;
   only = only_certify dir path told;
   alike = λ printed due other is same. sym same;
@@ -112,8 +114,8 @@ certify_asks dir path told = record {
   file = λ name is. is;
 }
 
-pub recheck_asks : (dir path : List ℕ) (told : Option Told) → AsksOf (Some (Recheck dir path)) dir told (Rechecks path told)
-recheck_asks dir path told = record {
+pub recheck_asks : (dir path : List ℕ) (told : Option Told) (ho hn : List Entry) → AsksOf (Some (Recheck dir path)) dir told ho hn (Rechecks path told)
+recheck_asks dir path told ho hn = record {
   answers = λ printed due is. Answers.recheck dir path due refl is;
   only = only_recheck dir path told;
   alike = λ printed due other is same. sym same;
@@ -124,8 +126,8 @@ recheck_asks dir path told = record {
   file = λ name is. inl is;
 }
 
-pub story_asks : (dir : List ℕ) (told : Option Told) → AsksOf (Some (Story dir)) dir told Retells
-story_asks dir told = record {
+pub story_asks : (dir : List ℕ) (told : Option Told) (ho hn : List Entry) → AsksOf (Some (Story dir)) dir told ho hn Retells
+story_asks dir told ho hn = record {
   answers = λ printed due is. Answers.story dir due refl is;
   only = only_story dir told;
   alike = λ printed due other is same. (is, like_itself dir told due other is same);
@@ -137,18 +139,19 @@ story_asks dir told = record {
 }
 
 -- what is found of the parts that the folder gives is due
-finds_due : (forms : OneFormOrFault) (words : Option Words) (dir : List ℕ) (told : Option Told) (PartsDue : Parts → Due → Type 0) → AsksOf words dir told PartsDue
-    → (Sure : Type 0) → (IsTrue (is_some told) → Sure) → (parts : Parts) (due : Due) → GathersTold told dir (Ok parts) → FindsOfParts Sure PartsDue parts due → FindsDue words told due
-finds_due forms words dir told PartsDue asks Sure sure parts due gathers finds = λ printed. record {
+finds_due : (forms : OneFormOrFault) (words : Option Words) (dir : List ℕ) (told : Option Told) (ho hn : List Entry) (PartsDue : Parts → Due → Type 0) → AsksOf words dir told ho hn PartsDue
+    → (Sure : Type 0) → (IsTrue (is_some told) → Sure) → (parts : Parts) (due : Due) → GaveParts ho hn dir parts → GathersTold told dir (Ok parts) → FindsOfParts Sure PartsDue parts due
+    → FindsDue words told ho hn due
+finds_due forms words dir told ho hn PartsDue asks Sure sure parts due gave gathers finds = λ printed. record {
   answers = asks.answers printed due (FolderDue.given parts due gathers finds.is);
   only = λ tells other is.
       asks.alike printed due other (FolderDue.given parts due gathers finds.is)
       (only_of_parts forms dir told PartsDue parts due gathers tells (finds.only (sure tells)) other (asks.only printed other is));
-  safe = λ clear. asks.safe printed (record { parts = parts; holds = λ tells. holds_parts (held_by told) dir parts (gathers tells); safe = finds.safe (asks.clear due.status clear) });
+  safe = λ clear. asks.safe printed (record { parts = parts; gave = gave; holds = λ tells. holds_parts (held_by told) dir parts (gathers tells); safe = finds.safe (asks.clear due.status clear) });
   full = λ found.
       let all = finds.full (asks.found due.status found) in
       asks.full printed due.status due.text
-      (record { parts = parts; holds = λ tells. holds_parts (held_by told) dir parts (gathers tells); outcome = all.outcome; status = all.status; text = all.text; tells = all.tells });
+      (record { parts = parts; gave = gave; holds = λ tells. holds_parts (held_by told) dir parts (gathers tells); outcome = all.outcome; status = all.status; text = all.text; tells = all.tells });
 }
 
 -- a status from 3 on is none of a finding
@@ -156,9 +159,9 @@ no_finding : (n : ℕ) → 3 ≤ n → (n ≡ 1) ⊎ (n ≡ 2) → ⊥
 no_finding n above (inl one) = omega (arith, above, one)
 no_finding n above (inr two) = omega (arith, above, two)
 
-finds_refusal : (forms : OneFormOrFault) (words : Option Words) (dir : List ℕ) (told : Option Told) (PartsDue : Parts → Due → Type 0) → AsksOf words dir told PartsDue
-    → (part : Part) (reason : Reason) → GathersTold told dir (Err (part, reason)) → FindsDue words told (reported (outcomes.Refused part reason))
-finds_refusal forms words dir told PartsDue asks part reason gathers = λ printed. record {
+finds_refusal : (forms : OneFormOrFault) (words : Option Words) (dir : List ℕ) (told : Option Told) (ho hn : List Entry) (PartsDue : Parts → Due → Type 0) → AsksOf words dir told ho hn PartsDue
+    → (part : Part) (reason : Reason) → GathersTold told dir (Err (part, reason)) → FindsDue words told ho hn (reported (outcomes.Refused part reason))
+finds_refusal forms words dir told ho hn PartsDue asks part reason gathers = λ printed. record {
   answers = asks.answers printed (reported (outcomes.Refused part reason)) (FolderDue.refused (part, reason) gathers);
   only = λ tells other is.
       asks.alike printed (reported (outcomes.Refused part reason)) other (FolderDue.refused (part, reason) gathers)
@@ -176,17 +179,17 @@ only_usage tells _ (Answers.recheck dir path due e is) = absurd cc
 only_usage tells _ (Answers.story dir due e is) = absurd cc
 only_usage tells _ (Answers.make seed size workers judged e is) = absurd cc
 
-pub finds_usage : (told : Option Told) → FindsDue None told usage
-finds_usage told = λ printed. record { answers = Answers.no_command refl; only = λ tells other is. sym (only_usage (tells_of told printed) other is); safe = λ clear. clear; full = λ found. found }
+pub finds_usage : (told : Option Told) (ho hn : List Entry) → FindsDue None told ho hn usage
+finds_usage told ho hn = λ printed. record { answers = Answers.no_command refl; only = λ tells other is. sym (only_usage (tells_of told printed) other is); safe = λ clear. clear; full = λ found. found }
 
 -- what was found of the parts
-pub found_said : (forms : OneFormOrFault) (words : Option Words) (dir : List ℕ) (told : Option Told) (PartsDue : Parts → Due → Type 0) → AsksOf words dir told PartsDue
+pub found_said : (forms : OneFormOrFault) (words : Option Words) (dir : List ℕ) (told : Option Told) (ho hn : List Entry) (PartsDue : Parts → Due → Type 0) → AsksOf words dir told ho hn PartsDue
     → (parts : Parts) (new : Option Told) (before after : ℕ) (answer : Result Answer NoMemory)
-    → GathersTold told dir (Ok parts) → IfOk answer (λ a. FindsOfParts (Unit {0}) PartsDue parts (due_of a)) → new ≡ told → after ≡ before
-    → IsFound words told new before after (said answer)
-found_said forms words dir told PartsDue asks parts new before after (Ok answer) gathers finds same count =
-    (finds_due forms words dir told PartsDue asks (Unit {0}) (λ tells. tt) parts (due_of answer) gathers finds, same, count)
-found_said forms words dir told PartsDue asks parts new before after (Err e) gathers finds same count = (same, count)
+    → GaveParts ho hn dir parts → GathersTold told dir (Ok parts) → IfOk answer (λ a. FindsOfParts (Unit {0}) PartsDue parts (due_of a))
+    → new ≡ told → after ≡ before → IsFound words told new before after ho hn (said answer)
+found_said forms words dir told ho hn PartsDue asks parts new before after (Ok answer) gave gathers finds same count =
+    (finds_due forms words dir told ho hn PartsDue asks (Unit {0}) (λ tells. tt) parts (due_of answer) gave gathers finds, same, count)
+found_said forms words dir told ho hn PartsDue asks parts new before after (Err e) gave gathers finds same count = (same, count)
 
 -- what is due to a folder where stories are asked for is so of the parts that it gives
 of_parts : (forms : OneFormOrFault) (dir : List ℕ) (told : Option Told) (parts : Parts) (due : Due)
@@ -199,57 +202,70 @@ of_parts forms dir told parts due gathers tells only _ (FolderDue.given parts2 d
     only due2 (subst (λ (p : Parts). Retells p due2) (sym same) has)
 
 -- the stories of the parts that the folder gives are due
-finds_story : (forms : OneFormOrFault) (dir : List ℕ) (told : Option Told) (parts : Parts) (due : Due) → GathersTold told dir (Ok parts) → FindsStories parts due → FindsDue (Some (Story dir)) told due
-finds_story forms dir told parts due gathers finds = λ printed. record {
+finds_story : (forms : OneFormOrFault) (dir : List ℕ) (told : Option Told) (ho hn : List Entry) (parts : Parts) (due : Due) → GaveParts ho hn dir parts → GathersTold told dir (Ok parts) → FindsStories parts due
+    → FindsDue (Some (Story dir)) told ho hn due
+finds_story forms dir told ho hn parts due gave gathers finds = λ printed. record {
   answers = Answers.story dir due refl (FolderDue.given parts due gathers finds.is);
   only = λ tells other is. (FolderDue.given parts due gathers finds.is, of_parts forms dir told parts due gathers tells finds.only other (only_story dir told printed other is));
-  safe = λ clear. record { parts = parts; holds = λ tells. holds_parts (held_by told) dir parts (gathers tells); safe = finds.safe clear };
+  safe = λ clear. record { parts = parts; gave = gave; holds = λ tells. holds_parts (held_by told) dir parts (gathers tells); safe = finds.safe clear };
   full = λ found.
       let all = finds.full found in
       record {
         report = report_text all.outcome;
         rest = all.rest;
         text = all.text;
-        full = record { parts = parts; holds = λ tells. holds_parts (held_by told) dir parts (gathers tells); outcome = all.outcome; status = all.status; text = refl; tells = all.tells };
+        full = record { parts = parts; gave = gave; holds = λ tells. holds_parts (held_by told) dir parts (gathers tells); outcome = all.outcome; status = all.status; text = refl; tells = all.tells };
       };
 }
 
 -- what stories were found of the parts
-pub found_stories : (forms : OneFormOrFault) (dir : List ℕ) (told : Option Told) (parts : Parts) (new : Option Told) (before after : ℕ) (answer : Result Answer NoMemory)
-    → GathersTold told dir (Ok parts) → IfOk answer (λ a. FindsStories parts (due_of a)) → new ≡ told → after ≡ before
-    → IsFound (Some (Story dir)) told new before after (said answer)
-found_stories forms dir told parts new before after (Ok answer) gathers finds same count = (finds_story forms dir told parts (due_of answer) gathers finds, same, count)
-found_stories forms dir told parts new before after (Err e) gathers finds same count = (same, count)
+pub found_stories : (forms : OneFormOrFault) (dir : List ℕ) (told : Option Told) (ho hn : List Entry) (parts : Parts) (new : Option Told) (before after : ℕ) (answer : Result Answer NoMemory)
+    → GaveParts ho hn dir parts → GathersTold told dir (Ok parts) → IfOk answer (λ a. FindsStories parts (due_of a)) → new ≡ told → after ≡ before
+    → IsFound (Some (Story dir)) told new before after ho hn (said answer)
+found_stories forms dir told ho hn parts new before after (Ok answer) gave gathers finds same count =
+    (finds_story forms dir told ho hn parts (due_of answer) gave gathers finds, same, count)
+found_stories forms dir told ho hn parts new before after (Err e) gave gathers finds same count = (same, count)
 
 -- the parts could not be had
-pub found_halted : (forms : OneFormOrFault) (words : Option Words) (dir : List ℕ) (told : Option Told) (PartsDue : Parts → Due → Type 0) → AsksOf words dir told PartsDue
+pub found_halted : (forms : OneFormOrFault) (words : Option Words) (dir : List ℕ) (told : Option Told) (ho hn : List Entry) (PartsDue : Parts → Due → Type 0) → AsksOf words dir told ho hn PartsDue
     → (new : Option Told) (before after : ℕ) (halt : Halt)
     → GathersAs told dir (Err halt) → Leaves {X = Parts} told new before after (Err halt) → FailsAt {X = Parts} (IsFileIn dir) (Err halt)
-    → IsFound words told new before after (halted halt)
-found_halted forms words dir told PartsDue asks new before after (halts.Refused part reason) gathers leaves fails =
-    (finds_refusal forms words dir told PartsDue asks part reason gathers, leaves.0, leaves.1)
-found_halted forms words dir told PartsDue asks new before after (halts.ReadFault name) gathers leaves fails =
+    → IsFound words told new before after ho hn (halted halt)
+found_halted forms words dir told ho hn PartsDue asks new before after (halts.Refused part reason) gathers leaves fails =
+    (finds_refusal forms words dir told ho hn PartsDue asks part reason gathers, leaves.0, leaves.1)
+found_halted forms words dir told ho hn PartsDue asks new before after (halts.ReadFault name) gathers leaves fails =
     record { of_command = asks.file (string_bytes name) fails; risen = leaves.0; last = leaves.1; kept = leaves.2 }
-found_halted forms words dir told PartsDue asks new before after halts.Memory gathers leaves fails = (leaves.0, leaves.1)
+found_halted forms words dir told ho hn PartsDue asks new before after halts.Memory gathers leaves fails = (leaves.0, leaves.1)
 
-by_file : (forms : OneFormOrFault) (dir path : List ℕ) (told : Option Told) (parts : Parts) (new : Option Told) (before after : ℕ) (found : Found)
-    → GathersTold told dir (Ok parts) → FindsByFile path parts told new before after found → IsFound (Some (Recheck dir path)) told new before after found
-by_file forms dir path told parts new before after (Said answer) gathers finds =
-    (finds_due forms (Some (Recheck dir path)) dir told (Rechecks path told) (recheck_asks dir path told) (IsTrue (is_some told)) (λ tells. tells) parts (due_of answer) gathers finds.0, finds.1, finds.2)
-by_file forms dir path told parts new before after (ReadFault name) gathers finds = record { of_command = inr finds.0; risen = finds.1; last = finds.2; kept = finds.3 }
-by_file forms dir path told parts new before after Memory gathers finds = finds
+-- what is read behind the files of the folder changes nothing of them
+gave_more : (dir : List ℕ) (ho hm hn more : List Entry) (parts : Parts) → GaveParts ho hm dir parts → hn ≡ hm ++ more → GaveParts ho hn dir parts
+gave_more dir ho hm hn more parts gave rest = record {
+  more = gave.more ++ more;
+  heard = rest ∙ (ap (λ (es : List Entry). es ++ more) gave.heard ∙ append_assoc (ho ++ entries_of dir parts) gave.more more);
+  says = gave.says;
+  form = gave.form;
+  count = gave.count;
+}
+
+by_file : (forms : OneFormOrFault) (dir path : List ℕ) (told : Option Told) (ho hn : List Entry) (parts : Parts) (new : Option Told) (before after : ℕ) (found : Found)
+    → GaveParts ho hn dir parts → GathersTold told dir (Ok parts) → FindsByFile path parts told new before after found
+    → IsFound (Some (Recheck dir path)) told new before after ho hn found
+by_file forms dir path told ho hn parts new before after (Said answer) gave gathers finds =
+    (finds_due forms (Some (Recheck dir path)) dir told ho hn (Rechecks path told) (recheck_asks dir path told ho hn) (IsTrue (is_some told)) (λ tells. tells) parts (due_of answer) gave gathers finds.0, finds.1, finds.2)
+by_file forms dir path told ho hn parts new before after (ReadFault name) gave gathers finds = record { of_command = inr finds.0; risen = finds.1; last = finds.2; kept = finds.3 }
+by_file forms dir path told ho hn parts new before after Memory gave gathers finds = finds
 
 -- what was found of the parts by the certificate in a file, which is read when the folder has been read
-pub found_by_file : (forms : OneFormOrFault) (dir path : List ℕ) (told between : Option Told) (parts : Parts) (new : Option Told) (before middle after : ℕ) (found : Found)
-    → GathersTold told dir (Ok parts) → between ≡ told → middle ≡ before → FindsByFile path parts between new middle after found
-    → IsFound (Some (Recheck dir path)) told new before after found
-found_by_file forms dir path told between parts new before middle after found gathers same count finds =
+pub found_by_file : (forms : OneFormOrFault) (dir path : List ℕ) (told between : Option Told) (ho hm hn more : List Entry) (parts : Parts) (new : Option Told) (before middle after : ℕ) (found : Found)
+    → GaveParts ho hm dir parts → hn ≡ hm ++ more → GathersTold told dir (Ok parts) → between ≡ told → middle ≡ before
+    → FindsByFile path parts between new middle after found → IsFound (Some (Recheck dir path)) told new before after ho hn found
+found_by_file forms dir path told between ho hm hn more parts new before middle after found gave rest gathers same count finds =
     let AtTold : Option Told → Type 0 = λ t. FindsByFile path parts t new middle after found in
     let AtCount : ℕ → Type 0 = λ n. FindsByFile path parts told new n after found in
-    by_file forms dir path told parts new before after found gathers (subst AtCount count (subst AtTold same finds))
+    by_file forms dir path told ho hn parts new before after found (gave_more dir ho hm hn more parts gave rest) gathers (subst AtCount count (subst AtTold same finds))
 
 -- what was found without the files
-pub found_alone : (words : Option Words) (told : Option Told) (count : ℕ) (answer : Result Answer NoMemory)
-    → IfOk answer (λ a. (t : Option Told) → FindsDue words t (due_of a)) → IsFound words told told count count (said answer)
-found_alone words told count (Ok answer) finds = (finds told, refl, refl)
-found_alone words told count (Err e) finds = (refl, refl)
+pub found_alone : (words : Option Words) (told : Option Told) (count : ℕ) (ho hn : List Entry) (answer : Result Answer NoMemory)
+    → IfOk answer (λ a. (t : Option Told) (old new : List Entry) → FindsDue words t old new (due_of a)) → IsFound words told told count count ho hn (said answer)
+found_alone words told count ho hn (Ok answer) finds = (finds told ho hn, refl, refl)
+found_alone words told count ho hn (Err e) finds = (refl, refl)

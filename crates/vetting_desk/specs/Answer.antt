@@ -2,6 +2,7 @@
 use Rattle.std.specs.Prelude.{◌≡◌, ◌⊎◌, ◌++◌, ℕ, List, length, Option, Some, None, IsTrue, is_some, codes}
 use Rattle.std.specs.Option.{option_map}
 use Rattle.vet_base.specs.Outside.{Told, held_by}
+use Rattle.heard_files.specs.Outside.{Entry}
 use Rattle.verdict.specs.declared.outcome.Judged.{Judged}
 use Rattle.verdict.specs.declared.outcome.Outcome.{Outcome}
 use Rattle.verdict.specs.declared.outcome.Outcome.TheVariants.{Clear, Flagged, Undecided, Refused}
@@ -14,6 +15,7 @@ use Rattle.desk_words.specs.Words.{Words, Check, Certify, Recheck, Story, Make}
 use Rattle.app_folder.specs.Due.{Due, reported}
 use Rattle.vetting_desk.specs.Due.{SameButStories, summarised, usage}
 use Rattle.app_folder.specs.Folder.{Holds, IsFileIn}
+use Rattle.app_folder.specs.Heard.{GaveParts}
 use Rattle.app_folder.specs.FolderDue.{FolderDue, Checks}
 use Rattle.vetting_desk.specs.PartsDue.{Certifies, Rechecks, Retells}
 use Rattle.vetting_desk.specs.Made.{made_parts}
@@ -46,9 +48,11 @@ Alike (Some (Recheck dir cert)) tells one other = one ≡ other
 Alike (Some (Story dir)) tells one other = FolderDue Retells dir tells.files one × SameButStories one other
 Alike (Some (Make seed size n)) tells one other = one ≡ other
 
--- The soundness of `clear`: these parts make a safe app. Where the files of the folder are told, they hold these parts.
-pub record HasSafeApp (dir : List ℕ) (told : Option Told) : Type 0 where
+-- The soundness of `clear`: these parts make a safe app. The first reads of this call gave them, whatever the files are; and where
+-- the files of the folder are told, they hold these parts.
+pub record HasSafeApp (dir : List ℕ) (told : Option Told) (old new : List Entry) : Type 0 where
   pub parts : Parts
+  pub gave : GaveParts old new dir parts
   pub holds : IsTrue (is_some told) → Holds (held_by told) dir parts
   pub safe : IsSafeApp parts
 
@@ -74,19 +78,20 @@ TellsClear (Some (Recheck dir cert)) text = BeginsWith (codes "clear") text
 TellsClear (Some (Story dir)) text = BeginsWith (codes "clear") text
 TellsClear (Some (Make seed size n)) text = ⊥
 
--- the words name a safe app
-abbrev pub IsSafe : Option Words → Tells → Type 0
-IsSafe None tells = ⊥
-IsSafe (Some (Check dir n)) tells = HasSafeApp dir tells.files
-IsSafe (Some (Certify dir cert)) tells = HasSafeApp dir tells.files
-IsSafe (Some (Recheck dir cert)) tells = HasSafeApp dir tells.files
-IsSafe (Some (Story dir)) tells = HasSafeApp dir tells.files
-IsSafe (Some (Make seed size n)) tells = IsSafeApp (made_parts seed size)
+-- The words name a safe app, where so much was heard of the files before and after.
+abbrev pub IsSafe : Option Words → Tells → List Entry → List Entry → Type 0
+IsSafe None tells old new = ⊥
+IsSafe (Some (Check dir n)) tells old new = HasSafeApp dir tells.files old new
+IsSafe (Some (Certify dir cert)) tells old new = HasSafeApp dir tells.files old new
+IsSafe (Some (Recheck dir cert)) tells old new = HasSafeApp dir tells.files old new
+IsSafe (Some (Story dir)) tells old new = HasSafeApp dir tells.files old new
+IsSafe (Some (Make seed size n)) tells old new = IsSafeApp (made_parts seed size)
 
 -- The text is the report of an outcome of these parts, which leaves out nothing that a run of their app does, unless the app is
--- too large. Where the files of the folder are told, they hold these parts.
-pub record HasFullReport (dir : List ℕ) (told : Option Told) (n : ℕ) (printed : List ℕ) : Type 0 where
+-- too large. The first reads of this call gave these parts; and where the files of the folder are told, they hold them.
+pub record HasFullReport (dir : List ℕ) (told : Option Told) (old new : List Entry) (n : ℕ) (printed : List ℕ) : Type 0 where
   pub parts : Parts
+  pub gave : GaveParts old new dir parts
   pub holds : IsTrue (is_some told) → Holds (held_by told) dir parts
   pub outcome : Outcome
   pub status : n ≡ status_of outcome
@@ -94,11 +99,11 @@ pub record HasFullReport (dir : List ℕ) (told : Option Told) (n : ℕ) (printe
   pub tells : IsFollowed outcome → TellsOfApp parts outcome
 
 -- the text begins with such a report
-pub record BeginsWithFullReport (dir : List ℕ) (told : Option Told) (n : ℕ) (printed : List ℕ) : Type 0 where
+pub record BeginsWithFullReport (dir : List ℕ) (told : Option Told) (old new : List Entry) (n : ℕ) (printed : List ℕ) : Type 0 where
   pub report : List ℕ
   pub rest : List ℕ
   pub text : printed ≡ report ++ rest
-  pub full : HasFullReport dir told n report
+  pub full : HasFullReport dir told old new n report
 
 -- the status says that the app of the words is flagged or undecided, and a report is printed
 abbrev pub SaysFound : Option Words → ℕ → Type 0
@@ -110,13 +115,13 @@ SaysFound (Some (Story dir)) status = (status ≡ 1) ⊎ (status ≡ 2)
 SaysFound (Some (Make seed size n)) status = ⊥
 
 -- the text leaves out nothing of the app that the words name
-abbrev pub IsFullReport : Option Words → Tells → ℕ → List ℕ → Type 0
-IsFullReport None tells status text = ⊥
-IsFullReport (Some (Check dir n)) tells status text = HasFullReport dir tells.files status text
-IsFullReport (Some (Certify dir cert)) tells status text = HasFullReport dir tells.files status text
-IsFullReport (Some (Recheck dir cert)) tells status text = HasFullReport dir tells.files status text
-IsFullReport (Some (Story dir)) tells status text = BeginsWithFullReport dir tells.files status text
-IsFullReport (Some (Make seed size n)) tells status text = ⊥
+abbrev pub IsFullReport : Option Words → Tells → List Entry → List Entry → ℕ → List ℕ → Type 0
+IsFullReport None tells old new status text = ⊥
+IsFullReport (Some (Check dir n)) tells old new status text = HasFullReport dir tells.files old new status text
+IsFullReport (Some (Certify dir cert)) tells old new status text = HasFullReport dir tells.files old new status text
+IsFullReport (Some (Recheck dir cert)) tells old new status text = HasFullReport dir tells.files old new status text
+IsFullReport (Some (Story dir)) tells old new status text = BeginsWithFullReport dir tells.files old new status text
+IsFullReport (Some (Make seed size n)) tells old new status text = ⊥
 
 -- the command reads the file of this name
 abbrev pub IsFileOf : Option Words → List ℕ → Type 0

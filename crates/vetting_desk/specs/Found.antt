@@ -2,6 +2,7 @@
 use Rattle.std.specs.Prelude.{◌≡◌, ◌⊎◌, ◌++◌, ℕ, List, Option, Some, None, Result, Ok, Err, String, string_bytes, IsTrue, is_some}
 use Rattle.std.specs.declared.alloc.Global.{Global}
 use Rattle.vet_base.specs.Outside.{HasRisen, Told}
+use Rattle.heard_files.specs.Outside.{Entry}
 use Rattle.vet_base.specs.declared.outside.FileFault.{FileFault}
 use Rattle.vet_base.specs.declared.outside.FileFault.TheVariants as faults
 use Rattle.fact_rows.specs.declared.row.Row.{Row}
@@ -68,16 +69,17 @@ abbrev pub CertifiedAs : List ℕ → Parts → Outcome → Option (List Row) �
 CertifiedAs path parts outcome None due = due ≡ reported outcome
 CertifiedAs path parts outcome (Some rows) due = (bytes : List ℕ) × IsCert bytes (digest_of parts) rows × (due ≡ certified outcome path bytes)
 
--- the due to the words, with that each is alike, and with what it says of the app
-pub record TheDue (words : Option Words) (tells : Tells) (due : Due) : Type 0 where
+-- the due to the words, with that each is alike, and with what it says of the app, where so much was heard of the files before and after
+pub record TheDue (words : Option Words) (tells : Tells) (old new : List Entry) (due : Due) : Type 0 where
   pub answers : Answers words tells due
   pub only : TellsInput tells → (other : Due) → Answers words tells other → Alike words tells due other
-  pub safe : SaysClear words due.status → IsSafe words tells
-  pub full : SaysFound words due.status → IsFullReport words tells due.status due.text
+  pub safe : SaysClear words due.status → IsSafe words tells old new
+  pub full : SaysFound words due.status → IsFullReport words tells old new due.status due.text
 
 -- whatever was printed before
-abbrev pub FindsDue : Option Words → Option Told → Due → Type 0
-FindsDue words told due = (printed : Option (List ℕ)) → TheDue words (record { files = told; printed = printed }) due
+abbrev pub FindsDue : Option Words → Option Told → List Entry → List Entry → Due → Type 0
+FindsDue words told old new due =
+    (printed : Option (List ℕ)) → TheDue words (record { files = told; printed = printed }) old new due
 
 -- A read of a file of this command failed in this very call, and is the call that failed last. No file changed.
 pub record ReadFails (words : Option Words) (old new : Option Told) (before after : ℕ) (name : List ℕ) : Type 0 where
@@ -86,10 +88,10 @@ pub record ReadFails (words : Option Words) (old new : Option Told) (before afte
   pub last : TellsRead new name
   pub kept : SameFiles old new
 
-abbrev pub IsFound : Option Words → Option Told → Option Told → ℕ → ℕ → Found → Type 0
-IsFound words old new before after (Said answer) = FindsDue words old (due_of answer) × (new ≡ old) × (after ≡ before)
-IsFound words old new before after (ReadFault name) = ReadFails words old new before after (string_bytes name)
-IsFound words old new before after Memory = (new ≡ old) × (after ≡ before)
+abbrev pub IsFound : Option Words → Option Told → Option Told → ℕ → ℕ → List Entry → List Entry → Found → Type 0
+IsFound words old new before after ho hn (Said answer) = FindsDue words old ho hn (due_of answer) × (new ≡ old) × (after ≡ before)
+IsFound words old new before after ho hn (ReadFault name) = ReadFails words old new before after (string_bytes name)
+IsFound words old new before after ho hn Memory = (new ≡ old) × (after ≡ before)
 
 -- what is found of parts by the certificate in a file
 abbrev pub FindsByFile : List ℕ → Parts → Option Told → Option Told → ℕ → ℕ → Found → Type 0

@@ -2,6 +2,7 @@
 use Rattle.std.specs.Prelude.{◌≡◌, ◌⊎◌, ℕ, List, ◌++◌, take, Option, Some, None, Result, Ok, Err}
 use Rattle.std.specs.Option.{option_map}
 use Rattle.vet_base.specs.Outside.{HasRisen, Told, WritesFile}
+use Rattle.heard_files.specs.Outside.{Entry}
 use Rattle.vet_base.specs.declared.outside.FileFault.{FileFault}
 use Rattle.vet_base.specs.declared.outside.FileFault.TheVariants as faults
 use Rattle.vetting_desk.specs.declared.answer.Status.{Status}
@@ -45,20 +46,23 @@ pub data RunsOut (IsDue : Due → Type 0) (words : Option Words) (old new : Outs
   written : (due : Due) → IsDue due → NoFault due.written old new → RunsOut IsDue words old new
   read_fault : (name : List ℕ) → ReadFault words old new name → RunsOut IsDue words old new
 
--- the whole text was printed
+-- the whole text was handed to the sink, and printed
 pub record Prints (text : List ℕ) (old new : Outside) : Type 0 where
   pub printed : new.tells.printed ≡ option_map (λ taken. taken ++ text) old.tells.printed
   pub count : new.faults.sink ≡ old.faults.sink
+  pub handed : new.handed ≡ old.handed ++ text
 
--- the sink failed, having taken a front of the text
+-- the whole text was handed to the sink, which failed, having taken a front of it
 pub record PrintsFront (text : List ℕ) (old new : Outside) : Type 0 where
   pub length : ℕ
   pub printed : new.tells.printed ≡ option_map (λ taken. taken ++ take length text) old.tells.printed
   pub risen : HasRisen old.faults.sink new.faults.sink
+  pub handed : new.handed ≡ old.handed ++ text
 
 pub record PrintsNothing (old new : Outside) : Type 0 where
   pub printed : new.tells.printed ≡ old.tells.printed
   pub count : new.faults.sink ≡ old.faults.sink
+  pub handed : new.handed ≡ old.handed
 
 -- How a run ends, and with which status, where this is due: what it came to say was printed; or the sink failed meanwhile; or
 -- the write of the file that is due failed, and nothing was printed; or memory ran out.
@@ -77,12 +81,18 @@ abbrev pub EndsAsOnlyDue : Option Words → Outside → Outside → ℕ → Type
 EndsAsOnlyDue words old new n = TellsInput old.tells → (due : Due) → Answers words old.tells due → Ends (λ d. Alike words old.tells d due) words old new n
 
 -- the text that was printed leaves out nothing
-pub record PrintsFullReport (words : Option Words) (old new : Outside) (status : ℕ) : Type 0 where
+pub record PrintsFullReport (words : Option Words) (old new : Outside) (ho hn : List Entry) (status : ℕ) : Type 0 where
   pub text : List ℕ
   pub prints : Prints text old new
-  pub full : IsFullReport words old.tells status text
+  pub full : IsFullReport words old.tells ho hn status text
 
--- In between the sink took a text that tells that the app of the words is clear, where the sink tells.
+-- In between a text was handed to the sink that tells that the app of the words is clear.
+pub record HandsClear (words : Option Words) (old new : Outside) : Type 0 where
+  pub text : List ℕ
+  pub handed : new.handed ≡ old.handed ++ text
+  pub tells : TellsClear words text
+
+-- In between the sink took such a text, where it tells.
 pub record TakesClear (words : Option Words) (old new : Outside) : Type 0 where
   pub before : List ℕ
   pub text : List ℕ
@@ -92,11 +102,12 @@ pub record TakesClear (words : Option Words) (old new : Outside) : Type 0 where
 
 -- What a put of a text came to: the text went out and the status stands; or the sink failed, having taken a front of the text; or
 -- memory ran out.
-abbrev pub PutsText : Option (List ℕ) → Option (List ℕ) → ℕ → ℕ → Status → List ℕ → Status → Type 0
-PutsText old new before after due text result =
-    ((result ≡ due) × (new ≡ option_map (λ taken. taken ++ text) old) × (after ≡ before))
-    ⊎ ((result ≡ status 6) × ((n : ℕ) × (new ≡ option_map (λ taken. taken ++ take n text) old)) × HasRisen before after)
-    ⊎ ((result ≡ status 7) × (new ≡ old) × (after ≡ before))
+abbrev pub PutsText : Option (List ℕ) → Option (List ℕ) → ℕ → ℕ → List ℕ → List ℕ → Status → List ℕ → Status → Type 0
+PutsText old new before after hands handed due text result =
+    ((result ≡ due) × (new ≡ option_map (λ taken. taken ++ text) old) × (after ≡ before) × (handed ≡ hands ++ text))
+    ⊎ ((result ≡ status 6) × ((n : ℕ) × (new ≡ option_map (λ taken. taken ++ take n text) old)) × HasRisen before after
+    × (handed ≡ hands ++ text))
+    ⊎ ((result ≡ status 7) × (new ≡ old) × (after ≡ before) × (handed ≡ hands))
 
 -- the status of a write that failed
 abbrev pub status_of_write : FileFault → Status
@@ -120,6 +131,6 @@ WritesDue file old new before after (Err result) = NotWritten file old new befor
 -- What was found comes to this end: its file was written, if any, and its text put; or the write failed, or memory ran out there; or
 -- memory ran out before anything was written.
 pub data Finishes (found : Found) (old new : Outside) (result : Status) : Type 0 where
-  put : (due : Status) (text : List ℕ) → Says found due.0 text → NoFault (file_of found) old new → PutsText old.tells.printed new.tells.printed old.faults.sink new.faults.sink due text result → Finishes found old new result
+  put : (due : Status) (text : List ℕ) → Says found due.0 text → NoFault (file_of found) old new → PutsText old.tells.printed new.tells.printed old.faults.sink new.faults.sink old.handed new.handed due text result → Finishes found old new result
   unwritten : NotWritten (file_of found) old.tells.files new.tells.files old.faults.files new.faults.files result → PrintsNothing old new → Finishes found old new result
   memory : result ≡ status 7 → NoFault None old new → PrintsNothing old new → Finishes found old new result

@@ -1,7 +1,8 @@
 //! What the words and the files come to, before anything is written or printed.
 
-ghost use Rattle.std.specs.Prelude.{◌≡◌, ◌<◌, ◌≤◌, ℕ, Option, Some, map, string_bytes};
+ghost use Rattle.std.specs.Prelude.{◌≡◌, ◌<◌, ◌≤◌, ◌++◌, ℕ, List, Option, Some, map, string_bytes};
 ghost use Rattle.vet_base.specs.Outside.{Told};
+ghost use Rattle.heard_files.specs.Outside.{Entry};
 ghost use Rattle.desk_words.specs.Words.{Check, Certify, Recheck, Story, Make, parse};
 ghost use Rattle.vetting_desk.specs.Found.{IsFound, FindsByFile, said, halted, unread};
 ghost use Rattle.app_folder.specs.Reading.{AreShort};
@@ -11,13 +12,14 @@ use crate::asked::{certified, checked, rechecked, storied};
 use crate::making::made;
 use app_folder::{Halt, parts_in};
 use desk_words::{Vetting, vetting_in};
+use heard_files::Files;
 use office_forms::one_form_or_fault;
 use std::alloc::Global;
 use std::marker::Sync;
 use std::sync::Wait;
 use std::thread::Threads;
 use verdict::{Outcome, Parts};
-use vet_base::{FileFault, Files, Memory};
+use vet_base::{FileFault, Memory};
 use worker_pool::{Crew, Lookout};
 
 /// A certificate has at most so many bytes.
@@ -62,7 +64,7 @@ fn found_by_check<F: Files, T: Threads + Wait + Sync, L: Lookout>(
     crew: &Crew<'_, T, L>,
 ) -> Found
     ensures { IsFound (Some (Check dir.now workers)) (F.told files.old) (F.told files.new)
-        (F.fault_count files.old) (F.fault_count files.new) result }
+        (F.fault_count files.old) (F.fault_count files.new) (F.heard files.old) (F.heard files.new) result }
 {
     one_form_or_fault();
     match parts_in(alloc, files, dir) {
@@ -80,7 +82,7 @@ fn found_by_certify<F: Files, T: Threads + Wait + Sync, L: Lookout>(
     crew: &Crew<'_, T, L>,
 ) -> Found
     ensures { IsFound (Some (Certify dir.now path.now)) (F.told files.old) (F.told files.new)
-        (F.fault_count files.old) (F.fault_count files.new) result }
+        (F.fault_count files.old) (F.fault_count files.new) (F.heard files.old) (F.heard files.new) result }
 {
     one_form_or_fault();
     match parts_in(alloc, files, dir) {
@@ -109,8 +111,9 @@ fn found_by_file<F: Files>(
     seed: u64,
 ) -> Found
     requires { AreShort parts.now }
-    ensures { FindsByFile (string_bytes path) parts.now (F.told files.old) (F.told files.new)
+    ensures finds { FindsByFile (string_bytes path) parts.now (F.told files.old) (F.told files.new)
         (F.fault_count files.old) (F.fault_count files.new) result }
+    ensures heard { (more : List Entry) × (F.heard files.new ≡ F.heard files.old ++ more) }
 {
     match files.read(alloc, path.as_str(), CERTIFICATE_LIMIT) {
         Ok(bytes) => said(rechecked(alloc, parts, &bytes, seed)),
@@ -127,7 +130,7 @@ fn found_by_recheck<F: Files>(
     seed: u64,
 ) -> Found
     ensures { IsFound (Some (Recheck dir.now path.now)) (F.told files.old) (F.told files.new)
-        (F.fault_count files.old) (F.fault_count files.new) result }
+        (F.fault_count files.old) (F.fault_count files.new) (F.heard files.old) (F.heard files.new) result }
 {
     one_form_or_fault();
     let Ok(path) = String::from_str(alloc, path) else {
@@ -147,7 +150,7 @@ fn found_by_story<F: Files, T: Threads + Wait + Sync, L: Lookout>(
     crew: &Crew<'_, T, L>,
 ) -> Found
     ensures { IsFound (Some (Story dir.now)) (F.told files.old) (F.told files.new)
-        (F.fault_count files.old) (F.fault_count files.new) result }
+        (F.fault_count files.old) (F.fault_count files.new) (F.heard files.old) (F.heard files.new) result }
 {
     one_form_or_fault();
     match parts_in(alloc, files, dir) {
@@ -167,8 +170,8 @@ fn found_by_make<T: Threads + Wait + Sync, L: Lookout>(
     requires app_seed { app_seed < 2147483648 }
     requires some { 1 ≤ size }
     requires most { size ≤ 2000 }
-    ensures { (told : Option Told) (count : ℕ) → IsFound (Some (Make app_seed size workers)) told told count count
-        result }
+    ensures { (told : Option Told) (count : ℕ) (old new : List Entry)
+        → IsFound (Some (Make app_seed size workers)) told told count count old new result }
 {
     said(made(alloc, app_seed, size, workers, crew))
 }
@@ -181,7 +184,7 @@ pub fn found_in<F: Files, T: Threads + Wait + Sync, L: Lookout>(
     crew: &Crew<'_, T, L>,
 ) -> Found
     ensures { IsFound (parse (map string_bytes words.now)) (F.told files.old) (F.told files.new)
-        (F.fault_count files.old) (F.fault_count files.new) result }
+        (F.fault_count files.old) (F.fault_count files.new) (F.heard files.old) (F.heard files.new) result }
 {
     match vetting_in(words) {
         None => Found::Said(Answer::Usage),

@@ -1,8 +1,9 @@
 //! What a generated app comes to.
 
-ghost use Rattle.std.specs.Prelude.{◌≡◌, ◌<◌, ◌≤◌, Option, IfOk, length, Some};
+ghost use Rattle.std.specs.Prelude.{◌≡◌, ◌<◌, ◌≤◌, List, Option, IfOk, length, Some};
 ghost use Rattle.std.specs.Option.{option_map};
 ghost use Rattle.vet_base.specs.Outside.{Told};
+ghost use Rattle.heard_files.specs.Outside.{Entry};
 ghost use Rattle.desk_words.specs.Words.{Make};
 ghost use Rattle.vetting_desk.specs.Answer.{due_to_made};
 ghost use Rattle.vetting_desk.specs.Due.{due_of};
@@ -87,7 +88,8 @@ pub fn made<T: Threads + Wait + Sync, L: Lookout>(
     requires app_seed { app_seed < 2147483648 }
     requires some { 1 ≤ size }
     requires most { size ≤ 2000 }
-    ensures { IfOk result (λ a. (told : Option Told) → FindsDue (Some (Make app_seed size workers)) told (due_of a)) }
+    ensures { IfOk result (λ a. (told : Option Told) (old new : List Entry)
+        → FindsDue (Some (Make app_seed size workers)) told old new (due_of a)) }
 {
     let parts = made_parts(alloc, app_seed, size)?;
     let judged = judge(alloc, &parts, &crew.of(workers))?;

@@ -7,15 +7,16 @@ ghost use Rattle.vetting_desk.specs.Due.{due_of};
 ghost use Rattle.vetting_desk.specs.Found.{TheDue, Says, file_of};
 ghost use Rattle.app_folder.specs.Outside.{outside};
 ghost use Rattle.vetting_desk.specs.Top.{PutsText, WritesDue, status_of_write, Finishes};
-ghost use Rattle.vetting_desk.specs.Top.{Ends, EndsAsDue, EndsAsOnlyDue, PrintsFullReport, TakesClear};
+ghost use Rattle.vetting_desk.specs.Top.{Ends, EndsAsDue, EndsAsOnlyDue, PrintsFullReport, HandsClear, TakesClear};
 
 use crate::answer::{Answer, Status, read_fault, status_saying, text_saying};
 use crate::finding::{Found, found_in};
+use heard_files::{Files, Sink};
 use std::alloc::Global;
 use std::marker::Sync;
 use std::sync::Wait;
 use std::thread::Threads;
-use vet_base::{FileFault, Files, Memory, PutFault, Sink};
+use vet_base::{FileFault, Memory, PutFault};
 use worker_pool::{Crew, Lookout};
 
 /// The status and the text that say what was found.
@@ -46,8 +47,9 @@ fn write_file<F: Files>(
     path: &str,
     bytes: &[u8],
 ) -> Result<(), Status>
-    ensures { WritesDue (Some (path.now, bytes.now)) (F.told files.old) (F.told files.new) (F.fault_count files.old)
-        (F.fault_count files.new) result }
+    ensures writes { WritesDue (Some (path.now, bytes.now)) (F.told files.old) (F.told files.new)
+        (F.fault_count files.old) (F.fault_count files.new) result }
+    ensures heard { F.heard files.new ≡ F.heard files.old }
 {
     match files.write(alloc, path, bytes) {
         Ok(()) => Ok(()),
@@ -57,8 +59,9 @@ fn write_file<F: Files>(
 
 /// Writes the file that is due with the answer, if any.
 fn write_due<F: Files>(alloc: Global, files: &mut F, answer: &Answer) -> Result<(), Status>
-    ensures { WritesDue (due_of answer.now).written (F.told files.old) (F.told files.new) (F.fault_count files.old)
-        (F.fault_count files.new) result }
+    ensures writes { WritesDue (due_of answer.now).written (F.told files.old) (F.told files.new)
+        (F.fault_count files.old) (F.fault_count files.new) result }
+    ensures heard { F.heard files.new ≡ F.heard files.old }
 {
     match answer {
         Answer::Usage => Ok(()),
@@ -76,8 +79,9 @@ fn write_due<F: Files>(alloc: Global, files: &mut F, answer: &Answer) -> Result<
 
 /// Writes the file that is due with what was found, if any.
 fn written<F: Files>(alloc: Global, files: &mut F, found: &Found) -> Result<(), Status>
-    ensures { WritesDue (file_of found.now) (F.told files.old) (F.told files.new) (F.fault_count files.old)
-        (F.fault_count files.new) result }
+    ensures writes { WritesDue (file_of found.now) (F.told files.old) (F.told files.new)
+        (F.fault_count files.old) (F.fault_count files.new) result }
+    ensures heard { F.heard files.new ≡ F.heard files.old }
 {
     match found {
         Found::Said(answer) => write_due(alloc, files, answer),
@@ -87,8 +91,8 @@ fn written<F: Files>(alloc: Global, files: &mut F, found: &Found) -> Result<(), 
 }
 
 fn printed<O: Sink>(alloc: Global, out: &mut O, status: Status, text: &[u8]) -> Status
-    ensures { PutsText (O.taken out.old) (O.taken out.new) (O.fault_count out.old) (O.fault_count out.new) status
-        text.now result }
+    ensures { PutsText (O.taken out.old) (O.taken out.new) (O.fault_count out.old) (O.fault_count out.new)
+        (O.handed out.old) (O.handed out.new) status text.now result }
 {
     match out.put(alloc, text) {
         Ok(()) => status,
@@ -99,9 +103,12 @@ fn printed<O: Sink>(alloc: Global, out: &mut O, status: Status, text: &[u8]) -> 
 
 /// Writes the file that is due with what was found, if any, and prints the text that says what was found.
 fn finished<F: Files, O: Sink>(alloc: Global, files: &mut F, out: &mut O, found: &Found) -> Status
-    ensures { Finishes found.now
-        (outside (F.told files.old) (F.fault_count files.old) (O.taken out.old) (O.fault_count out.old))
-        (outside (F.told files.new) (F.fault_count files.new) (O.taken out.new) (O.fault_count out.new)) result }
+    ensures finishes { Finishes found.now
+        (outside (F.told files.old) (F.fault_count files.old) (O.taken out.old) (O.fault_count out.old)
+        (O.handed out.old))
+        (outside (F.told files.new) (F.fault_count files.new) (O.taken out.new) (O.fault_count out.new)
+        (O.handed out.new)) result }
+    ensures heard { F.heard files.new ≡ F.heard files.old }
 {
     match saying(alloc, found) {
         Ok((status, text)) => match written(alloc, files, found) {
@@ -122,10 +129,12 @@ fn run<F: Files, O: Sink, T: Threads + Wait + Sync, L: Lookout>(
     crew: &Crew<'_, T, L>,
 ) -> Status
     ensures { Ends (TheDue (parse (map string_bytes words.now))
-        (record { files = F.told files.old; printed = O.taken out.old }))
+        (record { files = F.told files.old; printed = O.taken out.old }) (F.heard files.old) (F.heard files.new))
         (parse (map string_bytes words.now))
-        (outside (F.told files.old) (F.fault_count files.old) (O.taken out.old) (O.fault_count out.old))
-        (outside (F.told files.new) (F.fault_count files.new) (O.taken out.new) (O.fault_count out.new)) result.0 }
+        (outside (F.told files.old) (F.fault_count files.old) (O.taken out.old) (O.fault_count out.old)
+        (O.handed out.old))
+        (outside (F.told files.new) (F.fault_count files.new) (O.taken out.new) (O.fault_count out.new)
+        (O.handed out.new)) result.0 }
 {
     let found = found_in(alloc, words, files, crew);
     finished(alloc, files, out, &found)
@@ -171,29 +180,48 @@ pub fn vet<F: Files, O: Sink, T: Threads + Wait + Sync, L: Lookout>(
     // The status, the printed text and the files are those that are due to the words, unless a read or the put failed
     // in this very call, or memory ran out.
     ensures ends { EndsAsDue (parse (map string_bytes words.now))
-        (outside (F.told files.old) (F.fault_count files.old) (O.taken out.old) (O.fault_count out.old))
-        (outside (F.told files.new) (F.fault_count files.new) (O.taken out.new) (O.fault_count out.new)) result.0 }
+        (outside (F.told files.old) (F.fault_count files.old) (O.taken out.old) (O.fault_count out.old)
+        (O.handed out.old))
+        (outside (F.told files.new) (F.fault_count files.new) (O.taken out.new) (O.fault_count out.new)
+        (O.handed out.new)) result.0 }
 
     // Nothing else is due, where the files tell what they hold, but that a finding may have several right stories.
     ensures only { EndsAsOnlyDue (parse (map string_bytes words.now))
-        (outside (F.told files.old) (F.fault_count files.old) (O.taken out.old) (O.fault_count out.old))
-        (outside (F.told files.new) (F.fault_count files.new) (O.taken out.new) (O.fault_count out.new)) result.0 }
+        (outside (F.told files.old) (F.fault_count files.old) (O.taken out.old) (O.fault_count out.old)
+        (O.handed out.old))
+        (outside (F.told files.new) (F.fault_count files.new) (O.taken out.new) (O.fault_count out.new)
+        (O.handed out.new)) result.0 }
 
-    // Clear is a theorem about the very bytes handed in.
+    // Clear is a theorem about the very bytes that the first reads of this call gave, of any files.
     ensures sound { SaysClear (parse (map string_bytes words.now)) result.0 →
-        IsSafe (parse (map string_bytes words.now)) (record { files = F.told files.old; printed = O.taken out.old }) }
+        IsSafe (parse (map string_bytes words.now)) (record { files = F.told files.old; printed = O.taken out.old })
+        (F.heard files.old) (F.heard files.new) }
 
     // So it is wherever the word `clear` was printed, also where the put failed behind it.
     ensures clear { TakesClear (parse (map string_bytes words.now))
-        (outside (F.told files.old) (F.fault_count files.old) (O.taken out.old) (O.fault_count out.old))
-        (outside (F.told files.new) (F.fault_count files.new) (O.taken out.new) (O.fault_count out.new)) →
-        IsSafe (parse (map string_bytes words.now)) (record { files = F.told files.old; printed = O.taken out.old }) }
+        (outside (F.told files.old) (F.fault_count files.old) (O.taken out.old) (O.fault_count out.old)
+        (O.handed out.old))
+        (outside (F.told files.new) (F.fault_count files.new) (O.taken out.new) (O.fault_count out.new)
+        (O.handed out.new)) →
+        IsSafe (parse (map string_bytes words.now)) (record { files = F.told files.old; printed = O.taken out.old })
+        (F.heard files.old) (F.heard files.new) }
+
+    // So it is wherever that word was handed to the output, of any output.
+    ensures handed { HandsClear (parse (map string_bytes words.now))
+        (outside (F.told files.old) (F.fault_count files.old) (O.taken out.old) (O.fault_count out.old)
+        (O.handed out.old))
+        (outside (F.told files.new) (F.fault_count files.new) (O.taken out.new) (O.fault_count out.new)
+        (O.handed out.new)) →
+        IsSafe (parse (map string_bytes words.now)) (record { files = F.told files.old; printed = O.taken out.old })
+        (F.heard files.old) (F.heard files.new) }
 
     // Flagged and undecided leave out nothing that a run of the app does, unless the app is too large.
     ensures full { SaysFound (parse (map string_bytes words.now)) result.0 →
         PrintsFullReport (parse (map string_bytes words.now))
-        (outside (F.told files.old) (F.fault_count files.old) (O.taken out.old) (O.fault_count out.old))
-        (outside (F.told files.new) (F.fault_count files.new) (O.taken out.new) (O.fault_count out.new)) result.0 }
+        (outside (F.told files.old) (F.fault_count files.old) (O.taken out.old) (O.fault_count out.old)
+        (O.handed out.old))
+        (outside (F.told files.new) (F.fault_count files.new) (O.taken out.new) (O.fault_count out.new)
+        (O.handed out.new)) (F.heard files.old) (F.heard files.new) result.0 }
 {
     run(alloc, words, files, out, crew)
 }

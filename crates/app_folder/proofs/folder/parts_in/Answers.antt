@@ -1,5 +1,6 @@
 use Rattle.std.proofs.lemmas.Result.{err_from_is_err_and}
 use Rattle.app_folder.proofs.Folders.{of_no_manifest, of_bad_manifest, of_others}
+use Rattle.app_folder.proofs.Hearing.{gave_all}
 use Rattle.app_folder.proofs.folder.parts_in.Goals as goal
 
 pub returns-in_err-manifest-clause-value : goal.returns-in_err-manifest-clause-value
@@ -10,3 +11,8 @@ returns-in_err-count-clause-value g c = let p = err_from_is_err_and c.from_resid
 
 pub returns-clause-value : goal.returns-clause-value
 returns-clause-value g c = of_others _ _ _ _ _ _ _ c.in_ok-manifest.ensures.leaves.0 c.as_slice.ensures c.in_ok-manifest.ensures.value c.in_ok-count.ensures.counts c.parts_with.ensures.value
+
+pub returns-clause-gave : goal.returns-clause-gave
+returns-clause-gave g c =
+    gave_all _ _ _ _ _ _ _ _ c.as_slice.ensures c.in_ok-manifest.ensures.heard c.in_ok-count.ensures.counts
+    c.parts_with.ensures.manifest c.parts_with.ensures.count c.parts_with.ensures.heard

@@ -1,5 +1,5 @@
 use Rattle.std.proofs.lemmas.Result.{err_from_is_err_and}
-use Rattle.desk_service.proofs.Opened.{office_halts, lists_halt, desk_opens}
+use Rattle.desk_service.proofs.Opened.{office_halts, lists_halt, desk_opens, gave_office}
 use Rattle.desk_service.proofs.opening.desk_in.Goals as goal
 
 pub returns-in_err-office-clause-opens : goal.returns-in_err-office-clause-opens
@@ -19,3 +19,8 @@ returns-clause-opens g c =
     desk_opens c.one_form_or_fault.ensures _ _ _ c.in_ok-office.office c.in_ok-lists.lists c.in_ok-judge.judge
     c.in_ok-office.ensures.leaves.0 c.in_ok-office.ensures.opens c.in_ok-lists.ensures.opens
     c.in_ok-judge.ensures.lists c.in_ok-judge.ensures.edition
+
+pub returns-clause-gave : goal.returns-clause-gave
+returns-clause-gave g c =
+    gave_office _ c.in_ok-office.office c.in_ok-lists.lists c.in_ok-judge.judge _ _ _ c.in_ok-office.ensures.heard
+    c.in_ok-lists.ensures.heard c.in_ok-judge.ensures.lists
