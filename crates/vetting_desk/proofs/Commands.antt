@@ -151,7 +151,7 @@ finds_due forms words dir told ho hn PartsDue asks Sure sure parts due gave gath
   full = λ found.
       let all = finds.full (asks.found due.status found) in
       asks.full printed due.status due.text
-      (record { parts = parts; gave = gave; holds = λ tells. holds_parts (held_by told) dir parts (gathers tells); outcome = all.outcome; status = all.status; text = all.text; tells = all.tells });
+      (record { parts = parts; gave = gave; holds = λ tells. holds_parts (held_by told) dir parts (gathers tells); outcome = all.outcome; comes = all.comes; status = all.status; text = all.text; tells = all.tells });
 }
 
 -- a status from 3 on is none of a finding
@@ -214,7 +214,7 @@ finds_story forms dir told ho hn parts due gave gathers finds = λ printed. reco
         report = report_text all.outcome;
         rest = all.rest;
         text = all.text;
-        full = record { parts = parts; gave = gave; holds = λ tells. holds_parts (held_by told) dir parts (gathers tells); outcome = all.outcome; status = all.status; text = refl; tells = all.tells };
+        full = record { parts = parts; gave = gave; holds = λ tells. holds_parts (held_by told) dir parts (gathers tells); outcome = all.outcome; comes = all.comes; status = all.status; text = refl; tells = all.tells };
       };
 }
 

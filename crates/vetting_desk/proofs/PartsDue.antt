@@ -23,6 +23,7 @@ use Rattle.verdict.specs.Tells.{IsFollowed, TellsOfApp}
 use Rattle.verdict.specs.Verdict.{Judgement, IsSafeApp}
 use Rattle.vetting_desk.specs.declared.answer.Answer.{Answer}
 use Rattle.app_folder.specs.Due.{Due, reported}
+use Rattle.vetting_desk.specs.Answer.{by_judgement, by_rows}
 use Rattle.vetting_desk.specs.Due.{certified, uncertified, due_of}
 use Rattle.app_folder.specs.FolderDue.{Checks}
 use Rattle.vetting_desk.specs.PartsDue.{Certifies, digest_of, rechecked, RechecksBy}
@@ -56,7 +57,7 @@ finds_checked {E} parts judged is safe tells one = record {
   is = Checks.report judged.outcome (judged.table, is);
   only = λ sure. only_checked parts judged (one_judged {E = E} parts judged one);
   safe = λ zero. safe (is_clear judged.outcome zero);
-  full = λ found. record { outcome = judged.outcome; status = refl; text = refl; tells = tells };
+  full = λ found. record { outcome = judged.outcome; comes = by_judgement (judged.table, is); status = refl; text = refl; tells = tells };
 }
 
 certifies : (path : List ℕ) (parts : Parts) (outcome : Outcome) (table : Option (List Row)) (due : Due)
@@ -94,7 +95,7 @@ finds_certified {E} path parts judged due is safe tells one same = record {
   is = certifies path parts judged.outcome judged.table due is same;
   only = λ sure. only_certified path parts judged due (one_judged {E = E} parts judged one) same;
   safe = λ zero. safe (is_clear judged.outcome (sym (status_as path parts judged.outcome judged.table due same) ∙ zero));
-  full = λ found. record { outcome = judged.outcome; status = status_as path parts judged.outcome judged.table due same; text = text_as path parts judged.outcome judged.table due same; tells = tells };
+  full = λ found. record { outcome = judged.outcome; comes = by_judgement (judged.table, is); status = status_as path parts judged.outcome judged.table due same; text = text_as path parts judged.outcome judged.table due same; tells = tells };
 }
 
 -- a status from 3 on is none of a finding
@@ -154,10 +155,10 @@ safe_by parts (rechecks.Refused part reason) safe zero = absurd (omega (arith, z
 safe_by parts (rechecks.Defect defect) safe zero = absurd (omega (arith, zero))
 safe_by parts (rechecks.By outcome) safe zero = safe (ap (λ (o : Outcome). rechecks.By o) (is_clear outcome zero))
 
-full_by : (parts : Parts) (by : Rechecked) → TellsBy parts by → ((rechecked by).status ≡ 1) ⊎ ((rechecked by).status ≡ 2) → ReportsAll parts (rechecked by)
-full_by parts (rechecks.Refused part reason) tells found = absurd (no_finding 3 (omega arith) found)
-full_by parts (rechecks.Defect defect) tells found = absurd (no_finding 9 (omega arith) found)
-full_by parts (rechecks.By outcome) tells found = record { outcome = outcome; status = refl; text = refl; tells = λ followed. tells }
+full_by : (parts : Parts) (rows : List Row) (by : Rechecked) → Rejudgement parts rows by → TellsBy parts by → ((rechecked by).status ≡ 1) ⊎ ((rechecked by).status ≡ 2) → ReportsAll parts (rechecked by)
+full_by parts rows (rechecks.Refused part reason) is tells found = absurd (no_finding 3 (omega arith) found)
+full_by parts rows (rechecks.Defect defect) is tells found = absurd (no_finding 9 (omega arith) found)
+full_by parts rows (rechecks.By outcome) is tells found = record { outcome = outcome; comes = by_rows rows is; status = refl; text = refl; tells = λ followed. tells }
 
 -- what its rows make of the parts
 pub finds_rechecked : {E : Type 0} (laws : CertLaws) (bytes : List ℕ) (parts : Parts) (digest of_parts : List ℕ) (rows : List Row) (by : Rechecked) (due : Due)
@@ -172,7 +173,7 @@ finds_rechecked {E} laws bytes parts digest of_parts rows by due reads same_part
       is = RechecksBy.judged rows by reads_parts is;
       only = λ sure. only_rechecked laws bytes parts rows by reads_parts (one_rejudged {E = E} parts rows by one);
       safe = safe_by parts by safe;
-      full = full_by parts by tells;
+      full = full_by parts rows by is tells;
     })
 
 -- what is answered where the bytes are no certificate

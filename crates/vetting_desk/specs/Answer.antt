@@ -10,7 +10,10 @@ use Rattle.verdict.specs.declared.parts.Parts.{Parts}
 use Rattle.verdict.specs.Outcome.{status_of}
 use Rattle.verdict_report.specs.Report.{report_text}
 use Rattle.verdict.specs.Tells.{IsFollowed, TellsOfApp}
-use Rattle.verdict.specs.Verdict.{Judgement, IsSafeApp}
+use Rattle.verdict.specs.Verdict.{Judgement, IsSafeApp, Verdict}
+use Rattle.verdict.specs.Recheck.{Rejudgement}
+use Rattle.verdict.specs.declared.outcome.Rechecked.TheVariants.{By}
+use Rattle.fact_rows.specs.declared.row.Row.{Row}
 use Rattle.desk_words.specs.Words.{Words, Check, Certify, Recheck, Story, Make}
 use Rattle.app_folder.specs.Due.{Due, reported}
 use Rattle.vetting_desk.specs.Due.{SameButStories, summarised, usage}
@@ -87,13 +90,19 @@ IsSafe (Some (Recheck dir cert)) tells old new = HasSafeApp dir tells.files old 
 IsSafe (Some (Story dir)) tells old new = HasSafeApp dir tells.files old new
 IsSafe (Some (Make seed size n)) tells old new = IsSafeApp (made_parts seed size)
 
--- The text is the report of an outcome of these parts, which leaves out nothing that a run of their app does, unless the app is
+-- what the parts come to, by the judgement of their app, or by rows that someone gave
+pub data IsOutcomeOf (parts : Parts) (outcome : Outcome) : Type 0 where
+  by_judgement : Verdict parts outcome → IsOutcomeOf parts outcome
+  by_rows : (rows : List Row) → Rejudgement parts rows (By outcome) → IsOutcomeOf parts outcome
+
+-- The text is the report of what these parts come to, which leaves out nothing that a run of their app does, unless the app is
 -- too large. The first reads of this call gave these parts; and where the files of the folder are told, they hold them.
 pub record HasFullReport (dir : List ℕ) (told : Option Told) (old new : List Entry) (n : ℕ) (printed : List ℕ) : Type 0 where
   pub parts : Parts
   pub gave : GaveParts old new dir parts
   pub holds : IsTrue (is_some told) → Holds (held_by told) dir parts
   pub outcome : Outcome
+  pub comes : IsOutcomeOf parts outcome
   pub status : n ≡ status_of outcome
   pub text : printed ≡ report_text outcome
   pub tells : IsFollowed outcome → TellsOfApp parts outcome

@@ -26,16 +26,17 @@ use Rattle.vetting_desk.specs.declared.finding.Found.TheVariants.{Said, ReadFaul
 use Rattle.app_folder.specs.declared.folder.Halt.{Halt}
 use Rattle.app_folder.specs.declared.folder.Halt.TheVariants as halts
 use Rattle.desk_words.specs.Words.{Words}
-use Rattle.vetting_desk.specs.Answer.{Answers, Alike, SaysClear, IsSafe, SaysFound, IsFullReport, IsFileOf}
+use Rattle.vetting_desk.specs.Answer.{IsOutcomeOf, Answers, Alike, SaysClear, IsSafe, SaysFound, IsFullReport, IsFileOf}
 use Rattle.app_folder.specs.Due.{Due, NewFile, reported}
 use Rattle.vetting_desk.specs.Due.{SameButStories, certified, due_of, read_fault_text}
 use Rattle.vetting_desk.specs.PartsDue.{digest_of, Rechecks, Retells}
 use Rattle.app_folder.specs.Outside.{Tells, TellsInput}
 use Rattle.app_folder.specs.Reading.{TellsRead, SameFiles}
 
--- The text is the report of an outcome which leaves out nothing that a run of the app of the parts does, unless it is too large.
+-- The text is the report of what the parts come to, which leaves out nothing that a run of their app does, unless it is too large.
 pub record ReportsAll (parts : Parts) (due : Due) : Type 0 where
   pub outcome : Outcome
+  pub comes : IsOutcomeOf parts outcome
   pub status : due.status ≡ status_of outcome
   pub text : due.text ≡ report_text outcome
   pub tells : IsFollowed outcome → TellsOfApp parts outcome
@@ -51,6 +52,7 @@ pub record FindsOfParts (Sure : Type 0) (PartsDue : Parts → Due → Type 0) (p
 -- the text begins with such a report
 pub record BeginsReportingAll (parts : Parts) (due : Due) : Type 0 where
   pub outcome : Outcome
+  pub comes : IsOutcomeOf parts outcome
   pub rest : List ℕ
   pub status : due.status ≡ status_of outcome
   pub text : due.text ≡ report_text outcome ++ rest
