@@ -4,7 +4,7 @@ use Rattle.desk_program.proofs.Running.{of_no_memory}
 use Rattle.desk_program.proofs.answered_by.Goals as goal
 
 pub answered-requires : goal.answered-requires
-answered-requires g c = rw c.placed.ensures.told c.requires
+answered-requires g c = rw c.placed.ensures.told c.requires.docket
 
 pub returns-in-Ok-clause-runs : goal.returns-in-Ok-clause-runs
 returns-in-Ok-clause-runs g c = rw (c.placed.ensures.told, c.placed.ensures.faults) at c.answered.ensures.runs
@@ -15,4 +15,4 @@ returns-in-Err-clause-runs g c =
     (rw (c.placed.ensures.told, c.placed.ensures.faults) refl) c.from.ensures
 
 pub returns-in-Err-clause-docket : goal.returns-in-Err-clause-docket
-returns-in-Err-clause-docket g c = rw c.placed.ensures.told c.requires
+returns-in-Err-clause-docket g c = rw c.placed.ensures.told c.requires.docket
