@@ -43,7 +43,7 @@ seven_clear (Some (Recheck dir path)) zero = omega (arith, zero)
 seven_clear (Some (Story dir)) zero = omega (arith, zero)
 seven_clear (Some (Make seed size n)) zero = omega (arith, zero)
 
-one_or_two : (7 ≡ 1) ⊎ (7 ≡ 2) → ⊥
+one_or_two : (◌≡◌ {A = ℕ} 7 1) ⊎ (◌≡◌ {A = ℕ} 7 2) → ⊥
 one_or_two (inl one) = omega (arith, one)
 one_or_two (inr two) = omega (arith, two)
 

@@ -4,7 +4,7 @@ use Rattle.desk_program.proofs.Running.{of_no_memory}
 use Rattle.desk_program.proofs.answered_by.Goals as goal
 
 pub answered-requires : goal.answered-requires
-answered-requires g c = rw c.placed.ensures.told c.requires.docket
+answered-requires g c = (c.type_bounds.sync-T, rw c.placed.ensures.told c.requires.docket)
 
 pub returns-in-Ok-clause-runs : goal.returns-in-Ok-clause-runs
 returns-in-Ok-clause-runs g c = rw (c.placed.ensures.told, c.placed.ensures.faults) at c.answered.ensures.runs
