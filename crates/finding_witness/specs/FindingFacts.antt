@@ -18,7 +18,7 @@ unfoldable pub no_app : App
 no_app = record { classes = []; methods = []; keys = []; statics = []; components = []; clicks = []; providers = []; layout_classes = [] }
 
 abbrev pub two_categories : Lists
-two_categories = record { rows = 9; categories = codes "id" ∷ codes "net" ∷ []; classes = []; shared = []; methods = []; callbacks = [] }
+two_categories = record { rows = 9; categories = codes "id" ∷ codes "net" ∷ []; classes = []; shared = []; methods = []; callbacks = []; statics = [] }
 
 abbrev pub undeclared : Declaration
 undeclared = record { pairs = [] }
