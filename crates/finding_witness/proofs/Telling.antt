@@ -4,6 +4,8 @@ use Rattle.std.specs.Prelude.{codes}
 use Rattle.std.proofs.lemmas.Option.{none-some, same_Some}
 use Rattle.app_machine.specs.declared.papers.Declaration.{Declaration}
 use Rattle.app_machine.specs.State.{Arrival}
+use Rattle.fact_rows.specs.declared.context.Ctx.{Ctx}
+use Rattle.fact_rows.specs.declared.context.Ctx.TheVariants as ctx
 use Rattle.fact_rows.specs.declared.row.Row.{Row}
 use Rattle.fact_rows.specs.declared.row.Row.TheVariants.{Arrive}
 use Rattle.flow_story.specs.declared.line.StoryLine.{StoryLine}
@@ -50,12 +52,21 @@ of_declared tells =
     let no : false ≡ true = sym (not_free 4) ∙ yes in
     absurd cc
 
+-- the event of an arrival's context
+event_of : Ctx → ℕ
+event_of (ctx.Row c e) = e
+event_of _ = 0
+
+event_in : Row → ℕ
+event_in (Arrive label sink n) = event_of n.by.ctx
+event_in _ = 0
+
 later_context : IsFirstArrival no_app two_categories undeclared (arrives 1 4 ∷ arrives 2 4 ∷ []) (sent_at 4) (arrives 2 4) → ⊥
 later_context first = by_place first.place first.there.there first.before
   where
     by_place : (place : ℕ) → slice_get (arrives 1 4 ∷ arrives 2 4 ∷ []) place ≡ Some (arrives 2 4) →
         ((earlier : ℕ) (other : Row) → earlier < place → IsAt (arrives 1 4 ∷ arrives 2 4 ∷ []) earlier other → Tells no_app two_categories undeclared (sent_at 4) other → ⊥) → ⊥
-    by_place zero is before = let e : arrives 1 4 ≡ arrives 2 4 = same_Some (arrives 1 4) (arrives 2 4) is in absurd cc
+    by_place zero is before = let e : arrives 1 4 ≡ arrives 2 4 = same_Some (arrives 1 4) (arrives 2 4) is in let n : 1 ≡ 2 = ap event_in e in absurd (omega (arith, n))
     by_place (suc place) is before = before 0 (arrives 1 4) (omega arith) (record { there = refl }) (tells_itself 1 4 (free 4))
 
 left_out : (rows : List Row) (story : List StoryLine) → AreStoriesOf no_app two_categories undeclared rows (sent_at 0 ∷ sent_at 4 ∷ []) (story ∷ []) → ⊥
