@@ -53,11 +53,11 @@ of_declared tells =
     absurd cc
 
 -- the event of an arrival's context
-event_of : Ctx → ℕ
+abbrev event_of : Ctx → ℕ
 event_of (ctx.Row c e) = e
 event_of _ = 0
 
-event_in : Row → ℕ
+abbrev event_in : Row → ℕ
 event_in (Arrive label sink n) = event_of n.by.ctx
 event_in _ = 0
 

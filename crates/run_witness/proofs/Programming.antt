@@ -23,9 +23,9 @@ no_program dir cert today old new due = record {
       subst AtFile is (ends_written (Some (Certify dir cert)) (vetted_of (without_desk old)) (vetted_of (without_desk new)) due n low (runs.0.0.only told due answers)).files;
 }
 
-no_words : (e : Error) (today : Option ℕ) (old new : World) → error_kind e ≡ OutOfMemory
-    → RunsGiven (Err e) (λ words. Runs (task_of words) today old new 4) ((4 ≡ 7) × (new ≡ old)) → ⊥
-no_words e today old new is given = let seven : 4 ≡ 7 = (given.0 is).0 in omega (arith, seven)
+no_words : (e : Error) (today : Option ℕ) (old new : World) (status : ℕ) → error_kind e ≡ OutOfMemory → status ≡ 4
+    → RunsGiven (Err e) (λ words. Runs (task_of words) today old new status) ((status ≡ 7) × (new ≡ old)) → ⊥
+no_words e today old new status is four given = let seven : status ≡ 7 = (given.0 is).0 in omega (arith, four, seven)
 
 pub programs_end : ProgramsEnd
 unfolding is_serve is_file_name count_of positive number spelled is_check is_certify is_recheck is_submit

@@ -39,5 +39,5 @@ pub record ProgramsEnd : Type 0 where
   pub submits : task_of submit_words ≡ Without (Submitting (record { dir = codes "d"; reference = codes "r" }))
   pub no_command : task_of [] ≡ Without (Vetting None)
   -- words for which memory ran out end with 7 (else with 4, as a usage)
-  pub no_words : (e : Error) (today : Option ℕ) (old new : World) → error_kind e ≡ OutOfMemory
-      → RunsGiven (Err e) (λ words. Runs (task_of words) today old new 4) ((4 ≡ 7) × (new ≡ old)) → ⊥
+  pub no_words : (e : Error) (today : Option ℕ) (old new : World) (status : ℕ) → error_kind e ≡ OutOfMemory → status ≡ 4
+      → RunsGiven (Err e) (λ words. Runs (task_of words) today old new status) ((status ≡ 7) × (new ≡ old)) → ⊥
