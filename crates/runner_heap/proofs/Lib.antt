@@ -1,0 +1,4 @@
+mod Added
+mod Gotten
+mod Places
+pub mod Under

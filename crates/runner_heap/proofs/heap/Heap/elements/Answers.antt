@@ -1,0 +1,13 @@
+use Rattle.std.proofs.Common.{sym, ap, ◌∙◌}
+use Rattle.std.specs.Option.{option_copied}
+use Rattle.app_machine.specs.Lookups.{elem_key}
+use Rattle.runner_heap.proofs.Places.{values_of_place, no_values}
+use Rattle.runner_heap.proofs.heap.Heap.elements.Goals as goal
+
+pub returns-in-Some : goal.returns-in-Some
+returns-in-Some c =
+    c.elements.ensures
+    ∙ values_of_place c.args.self.now.objects.items c.args.place c.in-Some.entity.now (ap (λ o. option_copied o) (sym c.in-Some.is) ∙ c.entity.ensures) elem_key
+
+pub returns-in-None : goal.returns-in-None
+returns-in-None c = sym (no_values c.args.self.now.objects.items c.args.place (ap (λ o. option_copied o) (sym c.in-None.is) ∙ c.entity.ensures) elem_key)
