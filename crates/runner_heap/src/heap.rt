@@ -140,7 +140,8 @@ impl<'a> Heap<'a> {
 
     /// Puts the value of a field of the object at the place. After want of memory the heap is as before.
     fn put_field(&mut self, place: u32, number: u32, value: Held) -> Result<(), Memory>
-        ensures ok { OnOk result (AlikeHeap (put_at (heap_of self.old) place (field_key number) (value_of value)) (heap_of self.new)) }
+        ensures ok { OnOk result (AlikeHeap (put_at (heap_of self.old) place (field_key number) (value_of value))
+            (heap_of self.new)) }
         ensures err { OnErr result (heap_of self.new ≡ heap_of self.old) }
     {
         let place = place as usize;

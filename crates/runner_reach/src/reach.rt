@@ -34,7 +34,8 @@ fn add_object(
     value: Held,
 ) -> Result<(), Memory>
     requires { IsMet (length (heap_of heap.now)) met.old }
-    ensures { OnOk result (AddsObject (heap_of heap.now) (value_of value) met.old met.new waiting.old.items waiting.new.items) }
+    ensures { OnOk result (AddsObject (heap_of heap.now) (value_of value) met.old met.new waiting.old.items
+        waiting.new.items) }
 {
     match value.place {
         None => Ok(()),
