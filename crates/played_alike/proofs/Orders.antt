@@ -57,7 +57,7 @@ climbs_sorted : (xs : List ℕ) → Climbs (sorted xs)
 climbs_sorted [] = tt
 climbs_sorted (x ∷ xs) = climbs_inserted x (sorted xs) (climbs_sorted xs)
 
-rises_filter : (p : ℕ → Bool) (xs : List ℕ) → Rises xs → Rises (filter p xs)
+pub rises_filter : (p : ℕ → Bool) (xs : List ℕ) → Rises xs → Rises (filter p xs)
 rises_filter p [] rises = tt
 rises_filter p (x ∷ xs) rises = by_test (p x) (rises_filter p xs rises.1)
   where
@@ -80,7 +80,7 @@ rises_once (x ∷ xs) climbs = (above, rises_filter (λ y. not (y == x)) (once x
         let other : y ≡ x → ⊥ = differs y (y == x) refl kept.1 in
         omega (arith, least, other)
 
-rises_ascending : (xs : List ℕ) → Rises (ascending xs)
+pub rises_ascending : (xs : List ℕ) → Rises (ascending xs)
 unfolding ascending
 rises_ascending xs = rises_once (sorted xs) (climbs_sorted xs)
 
@@ -115,7 +115,7 @@ filter_put test p (y ∷ ys) = by_tests (p == y) (test p) (test y) refl refl ref
     by_tests false false true e f g later = simp (e, f, g, later)
     by_tests false false false e f g later = simp (e, f, g, later)
 
-once_put : (xs : List ℕ) (p : ℕ) → once (xs ++ p ∷ []) ≡ put_once p (once xs)
+pub once_put : (xs : List ℕ) (p : ℕ) → once (xs ++ p ∷ []) ≡ put_once p (once xs)
 once_put [] p = refl
 once_put (x ∷ xs) p =
     ap (λ zs. x ∷ filter (λ y. not (y == x)) zs) (once_put xs p)
