@@ -1,12 +1,12 @@
 #!/usr/bin/env python3
-"""Runs the desk over journals that are empty, cut, foreign, bad, in the way, or for which the disk has no room, and with peers
-that send one byte or do not read.
+"""Runs the desk over journals that are empty, cut, foreign, bad, in the way, or for which the disk has no room, and
+with peers that send one byte or do not read.
 
 usage: bench/journal_cases.py PROGRAM
 
-PROGRAM is the built program, as crates/vet/out/vet. Each row starts the desk in a copy of examples/office with what is to be
-in the place of the journal, and compares the replies and the files that are left. Ends with status 1 at the first row that is
-not as it is to be.
+PROGRAM is the built program, as crates/vet/out/vet. Each row starts the desk in a copy of examples/office with what
+is to be in the place of the journal, and compares the replies and the files that are left. Ends with status 1 at the
+first row that is not as it is to be.
 """
 
 import base64
@@ -46,7 +46,8 @@ class Row:
     def __init__(self, program, title, limit=None):
         self.title, self.folder, port = title, tempfile.mkdtemp(), free_port()
         office_in(self.folder, port)
-        self.desk = Desk(program, self.folder, port) if limit is None else LimitedDesk(program, self.folder, port, limit)
+        words = (program, self.folder, port)
+        self.desk = Desk(*words) if limit is None else LimitedDesk(*words, limit)
         self.journal = f"{self.folder}/desk.journal"
 
     def __enter__(self):
@@ -124,8 +125,8 @@ def both(program):
 
 
 def whole_case(program):
-    """The whole way of a case, with a start behind each step; and the journal cut at each 97th byte of the record of the
-    app, and at every byte behind that."""
+    """The whole way of a case, with a start behind each step; and the journal cut at each 97th byte of the record of
+    the app, and at every byte behind that."""
     with Row(program, "the whole way of a case") as row:
         row.put(b"")
         app = {**flagged_app(), "reference": "r1"}
@@ -150,7 +151,8 @@ def whole_case(program):
             row.desk.kill()
             state = "none" if reply[0] == 404 else reply[1].split(b'"state":"')[1].split(b'"')[0].decode()
             states += [] if states[-1:] == [state] else [state]
-        row.same(states, ["none", "queued", "decided", "appealed", "ruled"], "what is shown of longer and longer fronts")
+        due = ["none", "queued", "decided", "appealed", "ruled"]
+        row.same(states, due, "what is shown of longer and longer fronts")
 
 
 def full_disk(program):

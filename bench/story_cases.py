@@ -1,14 +1,14 @@
 #!/usr/bin/python3
 """Looks over the stories of drawn apps, apart from the program.
 
-usage: story_cases.py PROGRAM FOLDER [COUNT [SEED]] (the built program, a folder to work in, how many apps, 200 where none is
-named, and the first seed, 1 where none is; needs Debian's smali and androguard)
+usage: story_cases.py PROGRAM FOLDER [COUNT [SEED]] (the built program, a folder to work in, how many apps, 200 where
+none is named, and the first seed, 1 where none is; needs Debian's smali and androguard)
 
-Each app is drawn from a seed (`drawn_app.py`) and has two to four classes. Its report has to be that of `check`, with the
-same status, and a story has to stand behind it for each finding: without a fault by the pages of rules and formats
-(`tools/tests/story_check.py`), each of its rows in the table that `certify` writes, and the last the first arrival there of
-the finding's pair at its place. Ends with status 1 at the first app of which that is not so. Prints how many apps were
-flagged, how many stories they have, and the length of the longest.
+Each app is drawn from a seed (`drawn_app.py`), where it is not there yet, and has two to four classes. Its report has
+to be that of `check`, with the same status, and a story has to stand behind it for each finding: without a fault by
+the pages of rules and formats (`tools/tests/story_check.py`), each of its rows in the table that `certify` writes,
+and the last the first arrival there of the finding's pair at its place. Ends with status 1 at the first app of which
+that is not so. Prints how many apps were flagged, how many stories they have, and the length of the longest.
 """
 import subprocess
 import sys
@@ -47,7 +47,7 @@ def looked_over(program, folder):
     status, said = answer(program, "check", folder, 1)
     told, text = answer(program, "story", folder)
     if status != told or not text.startswith(said):
-        raise SystemExit(f"{folder}: story ended with {told} and began {text[:200]!r}, check with {status}: {said[:200]!r}")
+        raise SystemExit(f"{folder}: story ended with {told}: {text[:200]!r}, check with {status}: {said[:200]!r}")
     blocks = blocks_of(text[len(said):])
     findings = [str(one) for one in report.parse(said).findings]
     if len(blocks) != len(findings):
@@ -71,7 +71,8 @@ def main():
     lengths = []
     for seed in range(first, first + count):
         folder = f"{work}/{seed}"
-        drawn(folder, seed, 2 + seed % 3)
+        if not Path(folder, "classes.dex").exists():
+            drawn(folder, seed, 2 + seed % 3)
         lengths.append(looked_over(program, folder))
     flagged = [one for one in lengths if one]
     print(f"{count} apps, {len(flagged)} flagged, {sum(map(len, flagged))} stories, "

@@ -1,13 +1,14 @@
 #!/usr/bin/env python3
-"""Times `story` beside `check` on an app of a million rows with 1,000 findings, which nearly all rows have nothing to do with.
+"""Times `story` beside `check` on an app of a million rows with 1,000 findings, with which few of the rows have to
+do.
 
-usage: story_time.py PROGRAM FOLDER [FILLERS] (the built program, a folder to work in, and how many methods fill the table, 290
-where no number is named; needs Debian's smali)
+usage: story_time.py PROGRAM FOLDER [FILLERS] (the built program, a folder to work in, and how many methods fill the
+table, 290 where no number is named; needs Debian's smali)
 
-The app has 1,000 methods of which each takes the device id and posts it. An event calls 32 methods, each of which calls 32
-of them, so that no story is long; and it calls methods that hold eight objects over 350 instructions and do nothing with
-them. Prints the rows, the findings, the lines of all stories, the least processor time of three runs of each word, their
-ratio, and how many bytes a row `story` takes at its peak beyond what `check` does.
+The app has 1,000 methods of which each takes the device id and posts it. An event calls 32 methods, each of which
+calls 32 of them, so that no story is long; and it calls methods that hold eight objects over 350 instructions and do
+nothing with them. Prints the rows, the findings, the lines of all stories, the least processor time of three runs of
+each word, their ratio, and how many bytes a row `story` takes at its peak beyond what `check` does.
 """
 import os
 import re
@@ -33,7 +34,8 @@ def senders():
             f'invoke-static {{v0}}, Lvendor/Net;->post({OBJECT})V']
     yield from (method(f'static send{number}()V', 1, send) for number in range(FINDINGS))
     for group in range(0, FINDINGS, GROUP):
-        yield method(f'static group{group}()V', 0, [called(f'send{n}') for n in range(group, min(group + GROUP, FINDINGS))])
+        sends = range(group, min(group + GROUP, FINDINGS))
+        yield method(f'static group{group}()V', 0, [called(f'send{n}') for n in sends])
 
 
 def fillers(count):
@@ -46,7 +48,8 @@ def fillers(count):
 
 def write_app(folder, count):
     os.makedirs(f'{folder}/smali', exist_ok=True)
-    event = [called(f'group{group}') for group in range(0, FINDINGS, GROUP)] + [called(f'fill{n}') for n in range(count)]
+    event = [called(f'group{group}') for group in range(0, FINDINGS, GROUP)]
+    event += [called(f'fill{n}') for n in range(count)]
     parts = ['.class public Lgen/Main;', '.super Landroid/app/Activity;',
              method('onCreate(Landroid/os/Bundle;)V', 2, event), *senders(), *fillers(count)]
     with open(f'{folder}/smali/Main.smali', 'w') as out:
