@@ -210,6 +210,8 @@ def killed(program, kills, seed, keeper):
             more += office.look(last)
             desk.kill()
         {"database": whole_database, "journal": whole_journal}[keeper](folder, office.states)
+        if not office.states:
+            raise SystemExit(f"{keeper}: the desk told of no case before it was killed; it is too slow to say anything")
         print(
             f"{keeper}: {kills} kills, {len(office.states)} cases: all that was told as kept was there, "
             f"{more} times one change more"
