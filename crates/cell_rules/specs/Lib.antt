@@ -1,0 +1,12 @@
+pub mod CallRules
+pub mod EventRules
+pub mod HandedRules
+pub mod HeapRules
+pub mod InApp
+pub mod KeptRules
+pub mod LibraryRules
+pub mod LocalRules
+pub mod Making
+pub mod Reading
+pub mod Rules
+pub mod Searching
