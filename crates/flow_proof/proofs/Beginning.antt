@@ -41,7 +41,7 @@ use Rattle.flow_proof.proofs.Framing.{entered_fits}
 use Rattle.flow_proof.proofs.Eventing.{Begun, initialiser_rows, initialiser_owns}
 
 -- a label of a position is one of its sources
-source_of : (sources : List (ℕ × ℕ)) (i l : ℕ) → In l (labels_at sources i) → In {A = ℕ × ℕ} (i, l) sources
+pub source_of : (sources : List (ℕ × ℕ)) (i l : ℕ) → In l (labels_at sources i) → In {A = ℕ × ℕ} (i, l) sources
 source_of [] i l h = absurd h
 source_of (s ∷ sources) i l h = go (s.0 == i) refl (source_of sources i l) h
   where
@@ -62,11 +62,11 @@ with_labels labels fits own = record {
 }
 
 -- the type of a parameter of an event
-record TypeAt (types : List Name) (i position : ℕ) : Type 0 where
-  index : ℕ
-  type : Name
-  there : slice_get types index ≡ Some type
-  is : position ≡ i + index
+pub record TypeAt (types : List Name) (i position : ℕ) : Type 0 where
+  pub index : ℕ
+  pub type : Name
+  pub there : slice_get types index ≡ Some type
+  pub is : position ≡ i + index
 
 type_at : (types : List Name) (i k position : ℕ) → slice_get (layout_from i types) k ≡ Some position → TypeAt types i position
 type_at [] i k position e = absurd (let none : ⊥ = cc in none)
@@ -94,16 +94,32 @@ type_at (type ∷ types) i k position e = by_width (is_wide type) (type_at types
         narrow (suc k) e = next (more k position e)
 
 -- what stands in the layout is the receiver or a parameter
-layout_at : (types : List Name) (k position : ℕ) → slice_get (layout types) k ≡ Some position → ((position ≡ 0) × (k ≡ 0)) ⊎ TypeAt types 1 position
+pub layout_at : (types : List Name) (k position : ℕ) → slice_get (layout types) k ≡ Some position → ((position ≡ 0) × (k ≡ 0)) ⊎ TypeAt types 1 position
 unfolding layout
 layout_at types zero position e = inl (sym (same_Some _ _ e), refl)
 layout_at types (suc k) position e = inr (type_at types 1 k position e)
 
-mapped_at : (value : ℕ → Value) (positions : List ℕ) (k : ℕ) (v : Value) → slice_get (map value positions) k ≡ Some v →
+pub mapped_at : (value : ℕ → Value) (positions : List ℕ) (k : ℕ) (v : Value) → slice_get (map value positions) k ≡ Some v →
     (position : ℕ) × (slice_get positions k ≡ Some position) × (v ≡ value position)
 mapped_at value [] k v e = absurd (let none : ⊥ = cc in none)
 mapped_at value (x ∷ xs) zero v e = (x, refl, let same : v ≡ value x = cc in same)
 mapped_at value (x ∷ xs) (suc k) v e = mapped_at value xs k v e
+
+-- the site of a parameter of an event has its type
+pub parameter_site : (app : App) (lists : Lists) (k : Ctx) (m : Method) → event_types app lists k ≡ m.at.proto.params → (i : ℕ) (type : Name) →
+    parameter_type m.at.proto.params i ≡ Some type → IsTrue (is_reference type) → SiteClass app lists (Param k i) type
+unfolding site_class
+parameter_site app lists k m types i type is_type reference = record { is_class = of_types (event_types app lists k) types }
+  where
+    referred : (b : Bool) → b ≡ true → cond b (Some type) None ≡ Some type
+    referred b e = rw e refl
+
+    of_types : (ts : List Name) → ts ≡ m.at.proto.params → reference_type (parameter_type ts i) ≡ Some type
+    of_types ts e = rw (e, is_type) (referred (is_reference type) reference)
+
+pub reference_parameter : {app : App} {body : ℕ} {m : Method} → HasCode app body m → (i : ℕ) (type : Name) →
+    parameter_type m.at.proto.params i ≡ Some type → IsTrue (is_reference type) → ReferenceParameter app body i type
+reference_parameter {m = m} code i type is_type reference = record { method = m; there = code.there; is_type = is_type; reference = reference }
 
 module _ (app : App) (lists : Lists) (has : Row → Type 0) (closed : Closed app lists has) (laws : PathLaws) where
   -- the rows at the entry know the value of a position
@@ -122,21 +138,6 @@ module _ (app : App) (lists : Lists) (has : Row → Type 0) (closed : Closed app
     own_label : (i l : ℕ) → In l (labels_at sources i) →
         Covered (λ q l. (z : ℕ) → EventRegister app body i z → has (Taint (entry (activation_in k body)) z q l)) [] l
     own_label i l h = record { path = empty_path; covers = laws.empty; row = λ z at. rows _ (begin_taint at (source_of sources i l h)) }
-
-    parameter_site : (i : ℕ) (type : Name) → parameter_type m.at.proto.params i ≡ Some type → IsTrue (is_reference type) →
-        SiteClass app lists (Param k i) type
-    unfolding site_class
-    parameter_site i type is_type reference = record { is_class = of_types (event_types app lists k) types }
-      where
-        referred : (b : Bool) → b ≡ true → cond b (Some type) None ≡ Some type
-        referred b e = rw e refl
-
-        of_types : (ts : List Name) → ts ≡ m.at.proto.params → reference_type (parameter_type ts i) ≡ Some type
-        of_types ts e = rw (e, is_type) (referred (is_reference type) reference)
-
-    reference_parameter : (i : ℕ) (type : Name) → parameter_type m.at.proto.params i ≡ Some type → IsTrue (is_reference type) →
-        ReferenceParameter app body i type
-    reference_parameter i type is_type reference = record { method = m; there = code.there; is_type = is_type; reference = reference }
 
     -- one parameter
     record ParameterKnown (i : ℕ) (value : Value) (site : ℕ → Site) (heap heap' : List Object) : Type 1 where
@@ -159,7 +160,7 @@ module _ (app : App) (lists : Lists) (has : Row → Type 0) (closed : Closed app
       world = world_grown app lists has closed laws fits new_one;
       stays = λ v P T old. fits_grown made (Param k i) fits.heap old;
       fits = new_fits heap site (Param k i) made (labels_at sources i) _ _
-          (λ z at. rows _ (begin_points at (reference_parameter i type is_type reference)))
+          (λ z at. rows _ (begin_points at (reference_parameter code i type is_type reference)))
           (λ l h. own_label i l h)
           (λ key v h ks l walk. element (labels_at sources i) (λ l h. source_of sources i l h) key v h ks l walk);
     }
@@ -177,7 +178,7 @@ module _ (app : App) (lists : Lists) (has : Row → Type 0) (closed : Closed app
         new_one = record {
           within = λ key v t h e. no_place (labels_at sources i) key v t h e;
           cell = λ key v t h e. no_place (labels_at sources i) key v t h e;
-          class = parameter_site i type is_type reference;
+          class = parameter_site app lists k m types i type is_type reference;
         }
 
         element : (labels : List ℕ) → ((l : ℕ) → In l labels → In {A = ℕ × ℕ} (i, l) sources) → (key : KeyId) (v : Value) →
@@ -192,15 +193,15 @@ module _ (app : App) (lists : Lists) (has : Row → Type 0) (closed : Closed app
             held : In l (x ∷ xs) →
                 Covered (λ q l. (z : ℕ) → EventRegister app body i z → has (Taint (entry (activation_in k body)) z q l)) (elem_key ∷ []) l
             held h =
-                record { path = cut elem_key empty_path; covers = laws.cut elem_key empty_path [] laws.empty; row = λ z at. rows _ (begin_element at (reference_parameter i type is_type reference) (listed l h)) }
+                record { path = cut elem_key empty_path; covers = laws.cut elem_key empty_path [] laws.empty; row = λ z at. rows _ (begin_element at (reference_parameter code i type is_type reference) (listed l h)) }
     parameter_known {i} {type} {heap} {heap'} {value} {site} is_type fits (is_given {p = p} {class = class} reference is_one of_class below) = record {
       sites = site;
       world = fits;
       stays = λ v P T old. old;
       fits = with_labels (labels_at sources i)
           (fits_map
-          (λ s same z at. rw same (evt app lists has closed laws (handed_parameter {b = activation_in k body} is_event at (reference_parameter i type is_type reference) of_site below) (reached, (h.row, tt))))
-          (λ q l t z at. evt app lists has closed laws (handed_parameter_taint {b = activation_in k body} is_event at (reference_parameter i type is_type reference) of_site below) (reached, (h.row, (t, tt))))
+          (λ s same z at. rw same (evt app lists has closed laws (handed_parameter {b = activation_in k body} is_event at (reference_parameter code i type is_type reference) of_site below) (reached, (h.row, tt))))
+          (λ q l t z at. evt app lists has closed laws (handed_parameter_taint {b = activation_in k body} is_event at (reference_parameter code i type is_type reference) of_site below) (reached, (h.row, (t, tt))))
           h.fits)
           (λ l h. own_label i l h);
     }

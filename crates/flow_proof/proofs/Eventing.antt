@@ -39,7 +39,7 @@ test_fails : (a b : ℕ) → IsFalse (a == b) → a ≢ b
 test_fails a b fails same = let passes : (a == b) ≡ true = eq-eqb a b same in cc
 
 -- a change of one component, by that one and the others
-changed_component : (P : ℕ → Component_state → Type 0) (components : ℕ → Component_state) (c : ℕ) (s : Component_state) → P c s →
+pub changed_component : (P : ℕ → Component_state → Type 0) (components : ℕ → Component_state) (c : ℕ) (s : Component_state) → P c s →
     ((d : ℕ) → d ≢ c → P d (components d)) → (d : ℕ) → P d (set_component components c s d)
 changed_component P components c s new old d = go (d == c) refl
   where
@@ -97,36 +97,43 @@ pub record Came (app : App) (lists : Lists) (has : Row → Type 0) (new : World)
   pub begins : (b : ℕ) → body ≡ Some b → InContext app lists has new sites place sources b
 
 -- the site of a component has its class
-component_site : {app : App} {lists : Lists} {c : ℕ} {component : ComponentOf} → IsAt app.components c component →
+pub component_site : {app : App} {lists : Lists} {c : ℕ} {component : ComponentOf} → IsAt app.components c component →
     SiteClass app lists (Component c) component.class
 unfolding site_class
 component_site at = record { is_class = rw at.there refl }
 
+-- A component that may come to life has its row, where the starts are there and once the application was created the others are.
+pub may_live_by : {app : App} {has : Row → Type 0} (w : World) {c : ℕ} {component : ComponentOf} → ((row : Row) → Starts app row → has row) →
+    ((a d : ℕ) (component : ComponentOf) → IsApplication app a → IsAt app.components d component → d ≢ a → has (Live a 2) → has (Live d 0)) →
+    ((d : ℕ) → (w.components d).state ≢ 0 → has (Live d (w.components d).state)) → MayBegin app w c → IsAt app.components c component →
+    has (Live c 0)
+may_live_by {app} {has} w {c} {component} starts others alive may at =
+    elim (find_application app.components) [ inl found ↦ with_one found (c == found.index) refl | inr none ↦ starts _ (a_component (λ a is. none a is.component is.there.there is.kind) at) ]
+  where
+    application : (found : ApplicationAmong app.components) → IsApplication app found.index
+    application found = record { component = found.component; there = record { there = found.there }; kind = found.kind }
+
+    is_it : (found : ApplicationAmong app.components) → found.index ≡ c → has (Live c 0)
+    is_it found same = subst (λ a. has (Live a 0)) same (starts _ (the_application (application found)))
+
+    with_one : (found : ApplicationAmong app.components) → (b : Bool) → (c == found.index) ≡ b → has (Live c 0)
+    with_one found true e = is_it found (sym (eqb-true c found.index e))
+    with_one found false e = elim (may found.index (application found)) [
+      | inl same ↦ is_it found same
+      | inr created ↦
+          let there : (w.components found.index).state ≢ 0 = λ absent. two_not_zero (sym created ∙ absent) in
+          let live : has (Live found.index 2) = subst (λ s. has (Live found.index s)) created (alive found.index there) in
+          others found.index c component (application found) at (test_fails c found.index e) live
+    ]
+      where
+        two_not_zero : ◌≡◌ {A = ℕ} 2 0 → ⊥
+        two_not_zero e = omega arith
+
 module _ (app : App) (lists : Lists) (has : Row → Type 0) (closed : Closed app lists has) (laws : PathLaws) (starts : (row : Row) → Starts app row → has row) where
-  -- a component that may come to life has its row
   may_live : {w : World} {site : ℕ → Site} {c : ℕ} {component : ComponentOf} → WorldFits app lists has w site → MayBegin app w c →
       IsAt app.components c component → has (Live c 0)
-  may_live {w} {site} {c} {component} fits may at =
-      elim (find_application app.components) [ inl found ↦ with_one found (c == found.index) refl | inr none ↦ starts _ (a_component (λ a is. none a is.component is.there.there is.kind) at) ]
-    where
-      application : (found : ApplicationAmong app.components) → IsApplication app found.index
-      application found = record { component = found.component; there = record { there = found.there }; kind = found.kind }
-
-      is_it : (found : ApplicationAmong app.components) → found.index ≡ c → has (Live c 0)
-      is_it found same = subst (λ a. has (Live a 0)) same (starts _ (the_application (application found)))
-
-      with_one : (found : ApplicationAmong app.components) → (b : Bool) → (c == found.index) ≡ b → has (Live c 0)
-      with_one found true e = is_it found (sym (eqb-true c found.index e))
-      with_one found false e = elim (may found.index (application found)) [
-        | inl same ↦ is_it found same
-        | inr created ↦
-            let alive : (w.components found.index).state ≢ 0 = λ absent. two_not_zero (sym created ∙ absent) in
-            let live : has (Live found.index 2) = subst (λ s. has (Live found.index s)) created (fits.live found.index alive) in
-            evt app lists has closed laws (application_live (application found) at (test_fails c found.index e)) (live, tt)
-      ]
-        where
-          two_not_zero : ◌≡◌ {A = ℕ} 2 0 → ⊥
-          two_not_zero e = omega arith
+  may_live {w} fits may at =
+      may_live_by w starts (λ a d component is_it at other live. evt app lists has closed laws (application_live is_it at other) (live, tt)) fits.live may at
 
   -- An event in a component's life: its object is the receiver, and is known at the state after.
   life_came : {w : World} {site : ℕ → Site} {c e : ℕ} {class : Name} {life : LifeEvent} {body : Option ℕ} (place : Option ℕ) →

@@ -93,15 +93,22 @@ entered_fits P m values blanks passed r = go (nat_le (m.registers - m.ins) r) re
         taken (slice_get values (r - (m.registers - m.ins))) refl (leb-true (m.registers - m.ins) r from) (ltb-true r m.registers to)
 
 -- an argument is the value of its register
-record ArgumentOf (f : Frame) (args : List ℕ) (i : ℕ) (v : Value) : Type 0 where
-  register : ℕ
-  is_at : IsAt args i register
-  same : v ≡ f.registers register
+pub record ArgumentOf (f : Frame) (args : List ℕ) (i : ℕ) (v : Value) : Type 0 where
+  pub register : ℕ
+  pub is_at : IsAt args i register
+  pub same : v ≡ f.registers register
 
-argument_of : (f : Frame) (args : List ℕ) (i : ℕ) (v : Value) → slice_get (arguments f args) i ≡ Some v → ArgumentOf f args i v
+pub argument_of : (f : Frame) (args : List ℕ) (i : ℕ) (v : Value) → slice_get (arguments f args) i ≡ Some v → ArgumentOf f args i v
 argument_of f [] i v e = absurd (let none : ⊥ = cc in none)
 argument_of f (x ∷ xs) zero v e = record { register = x; is_at = record { there = refl }; same = let same : v ≡ f.registers x = cc in same }
 argument_of f (x ∷ xs) (suc i) v e = let later = argument_of f xs i v e in record { register = later.register; is_at = record { there = later.is_at.there }; same = later.same }
+
+-- no argument is passed to an initialiser that may run before the call
+pub no_initialiser : {app : App} (c : Ctx) (f : Frame) {kind : CallKind} {at : MethodRef} {args : List ℕ} (class : Option Name) {body : ℕ} →
+    SoundApp app → ActAt app f.method f.pc (Call kind at args) → target app kind f.method at class ≡ Body body → (i x : ℕ) → IsAt args i x →
+    InitialisedBy app (node_of c f) (callee (node_of c f) body) → ⊥
+no_initialiser {app} c f class {body} sound act goes i x is_at by =
+    no_arguments class sound act goes (subst (λ b. Initialises app f.method f.pc b) (sym (ap (λ (a : Activation). a.method) by.same)) by.is_one) i x is_at
 
 module _ (app : App) (lists : Lists) (has : Row → Type 0) (closed : Closed app lists has) (laws : PathLaws) (sound : SoundApp app) where
   -- a handler of a frame goes on
@@ -213,13 +220,6 @@ module _ (app : App) (lists : Lists) (has : Row → Type 0) (closed : Closed app
           RegisterFits has (entry (callee (node_of c f) body)) w.heap site z v
       passed i z v e below is = let a = argument_of f args i v e in subst (λ y. RegisterFits has (entry (callee (node_of c f) body)) w.heap site z y) (sym a.same) (passed_at i z a.register a.is_at (register i z below is))
 
-  -- no argument is passed to an initialiser that may run before the call
-  no_initialiser : {w : World} {site : ℕ → Site} {c : Ctx} {f : Frame} {fs : List Frame} {kind : CallKind} {at : MethodRef} {args : List ℕ} (class : Option Name) {body : ℕ} →
-      Runs app lists has w site c f fs → ActAt app f.method f.pc (Call kind at args) → target app kind f.method at class ≡ Body body →
-      (i x : ℕ) → IsAt args i x → InitialisedBy app (node_of c f) (callee (node_of c f) body) → ⊥
-  no_initialiser {c = c} {f = f} class {body} known act goes i x is_at by =
-      no_arguments class sound act goes (subst (λ b. Initialises app f.method f.pc b) (sym (ap (λ (a : Activation). a.method) by.same)) by.is_one) i x is_at
-
   pub known_call : {w : World} {site : ℕ → Site} {c : Ctx} {f : Frame} {fs : List Frame} {kind : CallKind} {at : MethodRef} {args : List ℕ} {body : ℕ} {m : Method} {t : Target} →
       Runs app lists has w site c f fs → ActAt app f.method f.pc (Call kind at args) → Calls_to app w.heap f kind at args t → t ≡ Body body →
       HasCode app body m → Known app lists has w (frame_of body m (arguments f args) false ∷ f ∷ fs)
@@ -231,13 +231,13 @@ module _ (app : App) (lists : Lists) (has : Row → Type 0) (closed : Closed app
       enters row way = cal app lists has closed laws (enter_direct {n = node_of c f} act plain (is_target ∙ same) way) (known.reached, tt)
 
       not_initialised : (i x : ℕ) → IsAt args i x → InitialisedBy app (node_of c f) (callee (node_of c f) body) → ⊥
-      not_initialised = no_initialiser None known act (is_target ∙ same)
+      not_initialised = no_initialiser c f None sound act (is_target ∙ same)
   known_call {f = f} {kind = kind} {at = at} {body = body} known act (by_nothing virtual none is_target) same code =
       absurd (no_body app kind f.method at body virtual (is_target ∙ same))
   known_call {site = site} {c = c} {f = f} {kind = kind} {at = at} {args = args} {body = body} known act (by_class {x = x} {p = p} class virtual is_first there of_class is_target) same code =
       enter_call known act code
       (λ row way. cal app lists has closed laws (enter_class {n = node_of c f} act virtual is_first site_class (is_target ∙ same) way) (points, tt))
-      (no_initialiser (Some class) known act (is_target ∙ same))
+      (no_initialiser c f (Some class) sound act (is_target ∙ same))
       first
     where
       points : has (Points (node_of c f) x (site p))

@@ -1,5 +1,5 @@
 -- What stays known in a later heap, what a position holds, and which shared objects a row of the library names.
-use Rattle.std.proofs.Common.{◌≡◌, ℕ, List, [], ◌∷◌, ◌++◌, Bool, ◌⊎◌, inl, inr, Option, Some, None, refl, ap, sym}
+use Rattle.std.proofs.Common.{◌≡◌, ℕ, List, [], ◌∷◌, Bool, inl, inr, Option, Some, None, refl, ap, sym}
 use Rattle.std.specs.Prelude.{slice_get, map}
 use Rattle.access_path.specs.declared.path.Path.{Path}
 use Rattle.app_machine.specs.declared.summary.Gives.{Gives}
@@ -70,8 +70,3 @@ shared_result (Joined from) i h = absurd h
 shared_result Handed i h = absurd h
 shared_result (SharedResult j) i (inl same) = ap (λ k. SharedResult k) (sym same)
 shared_result (SharedResult j) i (inr h) = absurd h
-
-pub in_either : {A : Type 0} (x : A) (xs ys : List A) → In x (xs ++ ys) → In x xs ⊎ In x ys
-in_either x [] ys h = inr h
-in_either x (y ∷ xs) ys (inl e) = inl (inl e)
-in_either x (y ∷ xs) ys (inr h) = elim (in_either x xs ys h) [ inl a ↦ inl (inr a) | inr b ↦ inr b ]

@@ -16,6 +16,7 @@ use Rattle.app_machine.specs.declared.lists.Lists.{Lists}
 use Rattle.app_machine.specs.declared.lists.SummaryId.{SummaryId}
 use Rattle.app_machine.specs.declared.app.App.{App}
 use Rattle.vet_base.specs.Members.{In, IsAt}
+use Rattle.vet_base.proofs.Members.{in_either}
 use Rattle.app_machine.specs.Names.{Name, is_reference, is_void}
 use Rattle.app_machine.specs.Lookups.{Target, Library, elem_key, ActAt, Goes}
 use Rattle.app_machine.specs.Heap.{Value, Object, blank, labelled, EntryAt, ClassAt, Reaches, add_all, entry_of}
@@ -41,7 +42,7 @@ use Rattle.flow_proof.proofs.Growing.{with_site, NewFits, new_fits, fits_grown}
 use Rattle.flow_proof.proofs.Knowing.{node_of, Taints, RegisterFits, SharedOnly, StaticFits, HandedFits, handed_of, ArrivalKnown, Runs, RunsPending}
 use Rattle.flow_proof.proofs.Lasting.{lib, cal, eff, hnd, lift_at, running_after, running_grown}
 use Rattle.flow_proof.proofs.Stepping.{class_at, running_writing, gets_fit}
-use Rattle.flow_proof.proofs.Later.{Later, WithResult, waits_at, owns_at, position_fits, shared_site, stored, shared_result, in_either}
+use Rattle.flow_proof.proofs.Later.{Later, WithResult, waits_at, owns_at, position_fits, shared_site, stored, shared_result}
 
 module _ (app : App) (lists : Lists) (has : Row → Type 0) (closed : Closed app lists has) (laws : PathLaws) where
   -- a new object leaves all known

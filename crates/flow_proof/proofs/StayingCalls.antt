@@ -34,7 +34,7 @@ use Rattle.flow_rules.specs.Rules.{Each}
 use Rattle.flow_proof.proofs.Places.{entry_in, next_in, caught_in, argument_in}
 
 -- an instruction before which an initialiser may run is one at which methods are entered
-initialises_at : {app : App} {method pc body : ℕ} → Initialises app method pc body → EntersAt app method pc
+pub initialises_at : {app : App} {method pc body : ℕ} → Initialises app method pc body → EntersAt app method pc
 unfolding initialisers class_initialised
 initialises_at {app} {method} {pc} {body} is_one = by_act is_one.act is_one.at is_one.is_one
   where
@@ -79,19 +79,19 @@ module _ (app : App) (lists : Lists) (sound : SoundApp app) where
   callee_context (ctx.Call2 last at m at_m) method pc before enters = (enters, before.0)
   callee_context event method pc before enters = enters
 
-  callee_in : {n : Node} {body : ℕ} {m : Method} → NodeIn app lists n → EntersAt app n.by.method n.pc → HasCode app body m →
+  pub callee_in : {n : Node} {body : ℕ} {m : Method} → NodeIn app lists n → EntersAt app n.by.method n.pc → HasCode app body m →
       ActivationIn app lists (callee n body)
   callee_in {n} {body} {m} node at code =
       record { context = callee_context n.by.ctx n.by.method n.pc node.activation.context at; method = slice_get_within app.methods body m code.there }
 
-  entered_in : {n : Node} {body : ℕ} {row : Row} → NodeIn app lists n → EntersAt app n.by.method n.pc → rule.Enters app n body row →
+  pub entered_in : {n : Node} {body : ℕ} {row : Row} → NodeIn app lists n → EntersAt app n.by.method n.pc → rule.Enters app n body row →
       InApp app lists row
   entered_in node at (rule.calls_it code) = (node, (callee_in node at code, tt))
   entered_in node at (rule.is_called code) = (callee_in node at code, (node, tt))
   entered_in node at (rule.reaches_it code) = (entry_in sound (callee_in node at code) code, tt)
   entered_in node at (rule.is_native native) = (node, ((omega arith, omega arith), tt))
 
-  looked_in : {n : Node} {kind : CallKind} {at : MethodRef} {class : Name} {row : Row} → NodeIn app lists n →
+  pub looked_in : {n : Node} {kind : CallKind} {at : MethodRef} {class : Name} {row : Row} → NodeIn app lists n →
       rule.LooksUp app lists n kind at class row → InApp app lists row
   looked_in node (rule.finds_none none) = (node, ((omega arith, omega arith), tt))
   looked_in node (rule.finds_reflection is_key is_row reflects) = (node, ((omega arith, omega arith), tt))

@@ -11,7 +11,8 @@ use Rattle.app_machine.specs.declared.lists.Callback.{Callback}
 use Rattle.app_machine.specs.declared.lists.Lists.{Lists}
 use Rattle.app_machine.specs.declared.app.App.{App}
 use Rattle.app_machine.specs.Names.{Name, initialiser_proto}
-use Rattle.app_machine.specs.Lookups.{HasCode}
+use Rattle.app_machine.specs.Lookups.{HasCode, IsNative}
+use Rattle.app_machine.specs.Safe.{native}
 use Rattle.app_machine.specs.Events.{HandedAt, InitialiserAt, parameter_type}
 use Rattle.app_machine.specs.Sound.{SoundApp}
 use Rattle.app_machine.specs.SoundLists.{NamedPosition, SoundCallback, SoundLists}
@@ -19,7 +20,8 @@ use Rattle.fact_rows.specs.declared.context.Ctx.{Ctx}
 use Rattle.fact_rows.specs.declared.context.Ctx.TheVariants as ctx
 use Rattle.fact_rows.specs.declared.row.Row.{Row}
 use Rattle.fact_rows.specs.Contexts.{IsEvent, event_types}
-use Rattle.fact_rows.specs.InApp.{CtxIn, ActivationIn, NodeIn, of_native, InApp}
+use Rattle.fact_rows.specs.declared.row.Row.TheVariants.{Unknown}
+use Rattle.fact_rows.specs.InApp.{CtxIn, ActivationIn, NodeIn, of_native, ParameterIn, InApp}
 use Rattle.flow_rules.specs.Nodes.{activation_in, entry, ArgumentRegister}
 use Rattle.flow_rules.specs.EventRules as rule
 use Rattle.flow_rules.specs.Rules.{Each, Starts, the_application, a_component}
@@ -33,7 +35,7 @@ unfolding initialiser_proto
 no_parameters p same = ap (λ (q : Proto). q.params) same
 
 -- an initialiser runs without parameters
-initialiser_types : {app : App} (lists : Lists) {c body : ℕ} → InitialiserAt app c body → (m : Method) → slice_get app.methods body ≡ Some m →
+pub initialiser_types : {app : App} (lists : Lists) {c body : ℕ} → InitialiserAt app c body → (m : Method) → slice_get app.methods body ≡ Some m →
     event_types app lists (ctx.Init c) ≡ m.at.proto.params
 unfolding event_types
 initialiser_types {app} lists {c} {body} at m there =
@@ -42,77 +44,84 @@ initialiser_types {app} lists {c} {body} at m there =
     sym (no_parameters m.at.proto (ap (λ (x : Method). x.at.proto) (sym same) ∙ has_proto.is_proto))
 
 -- the categories of a callback row's sources are of the lists
-abbrev AreListed : Lists → List (ℕ × ℕ) → Type 0
+abbrev pub AreListed : Lists → List (ℕ × ℕ) → Type 0
 AreListed lists sources = (i l : ℕ) → In {A = ℕ × ℕ} (i, l) sources → l < length lists.categories
 
-none_listed : (lists : Lists) → AreListed lists []
+pub none_listed : (lists : Lists) → AreListed lists []
 none_listed lists i l h = absurd h
 
-sources_listed : {lists : Lists} (q : ℕ) {callback : Callback} {sources : List (ℕ × ℕ)} → SoundLists lists →
+pub sources_listed : {lists : Lists} (q : ℕ) {callback : Callback} {sources : List (ℕ × ℕ)} → SoundLists lists →
     slice_get lists.callbacks q ≡ Some callback → callback.sources ≡ sources → AreListed lists sources
 sources_listed {lists} q {callback} {sources} listed is_row same i l h =
     let sound =
     all_in (SoundCallback (length lists.categories)) lists.callbacks callback listed.callbacks (in_slice_get lists.callbacks q callback is_row) in
     (all_in (NamedPosition _ (length lists.categories)) callback.sources (i, l) sound.sources (subst (λ xs. In {A = ℕ × ℕ} (i, l) xs) (sym same) h)).1
 
+pub begun_activation : {app : App} {lists : Lists} {k : Ctx} {body : ℕ} {m : Method} → CtxIn app lists k → slice_get app.methods body ≡ Some m →
+    ActivationIn app lists (activation_in k body)
+begun_activation {app} {body = body} {m = m} context there = record { context = context; method = slice_get_within app.methods body m there }
+
+pub begun_in : {app : App} {lists : Lists} {k : Ctx} {body : ℕ} {m : Method} → SoundApp app → CtxIn app lists k → HasCode app body m →
+    NodeIn app lists (entry (activation_in k body))
+begun_in sound context code = entry_in sound (begun_activation context code.there) code
+
+-- of a native body nothing is known
+pub native_in : {app : App} {lists : Lists} {k : Ctx} {body : ℕ} → CtxIn app lists k → IsNative app body →
+    InApp app lists (Unknown (entry (activation_in k body)) native)
+native_in context is =
+    (record { activation = begun_activation context is.there; place = of_native is refl }, ((omega arith, omega arith), tt))
+
+-- a reference parameter of the body that begins is one of the event
+pub parameter_in : {app : App} {lists : Lists} {k : Ctx} {body i : ℕ} {type : Name} → IsEvent k → CtxIn app lists k →
+    ((m : Method) → slice_get app.methods body ≡ Some m → event_types app lists k ≡ m.at.proto.params) →
+    rule.ReferenceParameter app body i type → ParameterIn app lists k i
+parameter_in {i = i} {type = type} event context types parameter = record {
+  event = event;
+  context = context;
+  type = type;
+  is_type = subst (λ ts. parameter_type ts i ≡ Some type) (sym (types parameter.method parameter.there)) parameter.is_type;
+  reference = parameter.reference;
+}
+
+pub live_context : {app : App} (lists : Lists) {c body : ℕ} {sources : List (ℕ × ℕ)} {k : Ctx} → rule.ComesToLive app lists c k body sources →
+    CtxIn app lists k
+live_context lists {body = body} {sources = sources} (rule.by_callback at) = (sources, (body, at))
+live_context lists {body = body} (rule.by_click at) = (body, at)
+
+pub live_component : {app : App} {lists : Lists} {c body : ℕ} {sources : List (ℕ × ℕ)} {k : Ctx} → rule.ComesToLive app lists c k body sources →
+    c < length app.components
+live_component {app} {c = c} (rule.by_callback at) = slice_get_within app.components c at.component at.there.there
+live_component {app} {c = c} (rule.by_click at) = slice_get_within app.components c at.component at.there.there
+
+pub handed_context : {app : App} {lists : Lists} {q body : ℕ} {class : Name} {sources : List (ℕ × ℕ)} → HandedAt app lists q class sources body →
+    CtxIn app lists (ctx.Handed q)
+handed_context {lists = lists} {q = q} at = slice_get_within lists.callbacks q at.callback at.is_row.there
+
 module _ (app : App) (lists : Lists) (sound : SoundApp app) (laws : PathLaws) where
-  begun_activation : {k : Ctx} {body : ℕ} {m : Method} → CtxIn app lists k → slice_get app.methods body ≡ Some m →
-      ActivationIn app lists (activation_in k body)
-  begun_activation {body = body} {m = m} context there = record { context = context; method = slice_get_within app.methods body m there }
-
-  begun_in : {k : Ctx} {body : ℕ} {m : Method} → CtxIn app lists k → HasCode app body m → NodeIn app lists (entry (activation_in k body))
-  begun_in context code = entry_in sound (begun_activation context code.there) code
-
   begins_in : {k : Ctx} {body : ℕ} {sources : List (ℕ × ℕ)} {row : Row} → IsEvent k → CtxIn app lists k →
       ((m : Method) → slice_get app.methods body ≡ Some m → event_types app lists k ≡ m.at.proto.params) → AreListed lists sources →
       rule.Begins app k body sources row → InApp app lists row
-  begins_in event context types named (rule.begin_reached code) = (begun_in context code, tt)
-  begins_in event context types named (rule.begin_points {i = i} {type = type} register parameter) = (
-    begun_in context register.has,
-    (
-      event_register_in sound register,
-      (
-        record {
-          event = event;
-          context = context;
-          type = type;
-          is_type = subst (λ ts. parameter_type ts i ≡ Some type) (sym (types parameter.method parameter.there)) parameter.is_type;
-          reference = parameter.reference;
-        },
-        tt,
-      ),
-    ),
-  )
+  begins_in event context types named (rule.begin_reached code) = (begun_in sound context code, tt)
+  begins_in event context types named (rule.begin_points register parameter) =
+      (begun_in sound context register.has, (event_register_in sound register, (parameter_in event context types parameter, tt)))
   begins_in event context types named (rule.begin_taint {i = i} {l = l} register is_source) =
-      (begun_in context register.has, (event_register_in sound register, (empty_in app, (named i l is_source, tt))))
+      (begun_in sound context register.has, (event_register_in sound register, (empty_in app, (named i l is_source, tt))))
   begins_in event context types named (rule.begin_element {i = i} {l = l} register parameter is_source) =
-      (begun_in context register.has, (event_register_in sound register, (cut_in app laws _ _ (elem_in sound) (empty_in app), (named i l is_source, tt))))
+      (begun_in sound context register.has, (event_register_in sound register, (cut_in app laws _ _ (elem_in sound) (empty_in app), (named i l is_source, tt))))
   begins_in event context types named (rule.begin_receiver_element {l = l} register is_source) =
-      (begun_in context register.has, (event_register_in sound register, (cut_in app laws _ _ (elem_in sound) (empty_in app), (named 0 l is_source, tt))))
-  begins_in event context types named (rule.begin_native native) =
-      (record { activation = begun_activation context native.there; place = of_native native refl }, ((omega arith, omega arith), tt))
+      (begun_in sound context register.has, (event_register_in sound register, (cut_in app laws _ _ (elem_in sound) (empty_in app), (named 0 l is_source, tt))))
+  begins_in event context types named (rule.begin_native is) = native_in context is
 
 module _ (app : App) (lists : Lists) (sound : SoundApp app) (listed : SoundLists lists) (laws : PathLaws) where
-  live_context : {c body : ℕ} {sources : List (ℕ × ℕ)} {k : Ctx} → rule.ComesToLive app lists c k body sources → CtxIn app lists k
-  live_context {body = body} {sources = sources} (rule.by_callback at) = (sources, (body, at))
-  live_context {body = body} (rule.by_click at) = (body, at)
-
-  live_component : {c body : ℕ} {sources : List (ℕ × ℕ)} {k : Ctx} → rule.ComesToLive app lists c k body sources → c < length app.components
-  live_component {c = c} (rule.by_callback at) = slice_get_within app.components c at.component at.there.there
-  live_component {c = c} (rule.by_click at) = slice_get_within app.components c at.component at.there.there
-
-  handed_context : {q body : ℕ} {class : Name} {sources : List (ℕ × ℕ)} → HandedAt app lists q class sources body → CtxIn app lists (ctx.Handed q)
-  handed_context {q = q} at = slice_get_within lists.callbacks q at.callback at.is_row.there
-
   live_in : {c body : ℕ} {sources : List (ℕ × ℕ)} {k : Ctx} {row : Row} → rule.ComesToLive app lists c k body sources →
       rule.Begins app k body sources row → InApp app lists row
   live_in (rule.by_callback at) begins =
-      begins_in app lists sound laws tt (live_context (rule.by_callback at)) (callback_types_of lists at) (sources_listed _ listed at.is_row.there at.same_sources) begins
+      begins_in app lists sound laws tt (live_context lists (rule.by_callback at)) (callback_types_of lists at) (sources_listed _ listed at.is_row.there at.same_sources) begins
   live_in (rule.by_click at) begins =
-      begins_in app lists sound laws tt (live_context (rule.by_click at)) (click_types lists at) (none_listed lists) begins
+      begins_in app lists sound laws tt (live_context lists (rule.by_click at)) (click_types lists at) (none_listed lists) begins
 
   receiver_in : {k : Ctx} {body z : ℕ} → CtxIn app lists k → ArgumentRegister app body 0 z → NodeIn app lists (entry (activation_in k body))
-  receiver_in context argument = begun_in app lists sound laws context argument.has
+  receiver_in context argument = begun_in sound context argument.has
 
   pub event_in : {number : ℕ} {premises : List Row} {row : Row} → rule.EventRule app lists number premises row →
       Each (InApp app lists) premises → InApp app lists row
@@ -126,9 +135,9 @@ module _ (app : App) (lists : Lists) (sound : SoundApp app) (listed : SoundLists
       (receiver_in (class, (life, (body, at))) argument, (argument_in sound argument, (h.0.1.1.0, (h.0.1.1.1.0, tt))))
   event_in (rule.live_begins comes there begins) h = live_in comes begins
   event_in (rule.live_receiver comes there argument) h =
-      (receiver_in (live_context comes) argument, (argument_in sound argument, (live_component comes, tt)))
+      (receiver_in (live_context lists comes) argument, (argument_in sound argument, (live_component comes, tt)))
   event_in (rule.live_receiver_taint comes there argument) h =
-      (receiver_in (live_context comes) argument, (argument_in sound argument, (h.0.1.1.0, (h.0.1.1.1.0, tt))))
+      (receiver_in (live_context lists comes) argument, (argument_in sound argument, (h.0.1.1.0, (h.0.1.1.1.0, tt))))
   event_in (rule.handed_begins of_class at begins) h =
       begins_in app lists sound laws tt (handed_context at) (handed_types lists at) (sources_listed _ listed at.is_row.there at.same_sources) begins
   event_in (rule.handed_receiver of_class at argument) h = (receiver_in (handed_context at) argument, (argument_in sound argument, (h.0.0, tt)))

@@ -28,11 +28,11 @@ use Rattle.flow_rules.specs.Rules.{Each}
 use Rattle.flow_proof.proofs.Places.{next_in, elem_in, cut_in, rest_in, empty_in, static_of_shared}
 
 -- the categories and shared objects that a row names are of the lists
-record NamesListed (lists : Lists) (row : Summary) : Type 0 where
-  source : (l : ℕ) → row.source ≡ Some l → l < length lists.categories
-  sink : (k : ℕ) (positions : List ℕ) → row.sink ≡ Some (k, positions) → k < length lists.categories
-  shared : (i : ℕ) → row.gives ≡ Shared i → i < length lists.shared
-  stores : (i g : ℕ) → In {A = ℕ × ℕ} (i, g) row.stores → g < length lists.shared
+pub record NamesListed (lists : Lists) (row : Summary) : Type 0 where
+  pub source : (l : ℕ) → row.source ≡ Some l → l < length lists.categories
+  pub sink : (k : ℕ) (positions : List ℕ) → row.sink ≡ Some (k, positions) → k < length lists.categories
+  pub shared : (i : ℕ) → row.gives ≡ Shared i → i < length lists.shared
+  pub stores : (i g : ℕ) → In {A = ℕ × ℕ} (i, g) row.stores → g < length lists.shared
 
 of_row : (lists : Lists) (row : Summary) → SoundSummary (length lists.categories) (length lists.shared) row → NamesListed lists row
 of_row lists row sound = record {
@@ -55,7 +55,7 @@ of_default lists word at is_static = record {
   stores = λ i g h. absurd h;
 }
 
-names_listed : {lists : Lists} {row : Summary} (u : SummaryId) (at : MethodRef) (is_static : Bool) → SoundLists lists →
+pub names_listed : {lists : Lists} {row : Summary} (u : SummaryId) (at : MethodRef) (is_static : Bool) → SoundLists lists →
     summary lists u at is_static ≡ Some row → NamesListed lists row
 unfolding summary
 names_listed {lists} {row} (RowOf i) at is_static sound is_row =

@@ -37,7 +37,7 @@ state_after {e = e} {life = life} at = record {
 }
 
 -- the label that the lists give a static is one of their categories
-source_listed : (app : App) (lists : Lists) (g l : ℕ) → SoundLists lists → static_source app lists g ≡ Some l → l < length lists.categories
+pub source_listed : (app : App) (lists : Lists) (g l : ℕ) → SoundLists lists → static_source app lists g ≡ Some l → l < length lists.categories
 unfolding static_source listed_static
 source_listed app lists g l sound is = by_field (slice_get app.statics g) is
   where
