@@ -1,0 +1,17 @@
+pub mod Fitting
+pub mod Knowing
+pub mod Lasting
+pub mod Making
+pub mod Stepping
+pub mod Framing
+pub mod Positions
+pub mod Librarian
+pub mod Eventing
+pub mod Beginning
+pub mod Standing
+pub mod Covering
+pub mod Reading
+pub mod StayingKept
+pub mod StayingSteps
+pub mod StayingEvents
+pub mod Staying
