@@ -63,7 +63,7 @@ module _ (s : Scene) (bare : life_body (activity_of s) main_class made ≡ None)
   no_application zero is = let same = is.there.there in let kind = is.kind in let none : ⊥ = cc in none
   no_application (suc a) is = let same = is.there.there in let none : ⊥ = cc in none
 
-  is_activity : IsActivity (activity_of s) 0 5 s.on_create
+  pub is_activity : IsActivity (activity_of s) 0 5 s.on_create
   unfolding activity_of life_events body_named method_with up descriptor_of
   is_activity = record {
     made_at = record { component = record { kind = Activity; class = main_class }; there = record { there = refl }; of_class = refl; is_event = record { there = refl }; is_body = bare };

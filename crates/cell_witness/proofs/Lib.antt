@@ -1,0 +1,6 @@
+pub mod Scenes
+pub mod Runs
+pub mod Closing
+pub mod Unlabelled
+pub mod Missing
+pub mod Readers

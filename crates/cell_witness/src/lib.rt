@@ -1,0 +1,20 @@
+//! Small facts about the second set of rules: where a register is read, and what is missed where one
+//! of the rules is left out. Each is a theorem over the definitions alone, so that a slip in a
+//! definition shows.
+#![tactic(auto)]
+
+ghost use Rattle.cell_witness.specs.Missing.{LeavingOutARuleMisses};
+ghost use Rattle.cell_witness.specs.Readers.{RegistersAreRead};
+
+/// A register is read by each step to which it keeps its value, behind a first reader too and along
+/// handlers, but not past a write; what stands in EXC does not come along a handler.
+pub fn registers_are_read_where_they_keep_their_value()
+    ensures { RegistersAreRead }
+{}
+
+/// Without the rule of puts, without that of what is reached from an object, and without that of
+/// joined results there is a set of rows that has the starts and is closed under all other rules, and
+/// has no row of an arrival in some run.
+pub fn leaving_out_a_rule_misses_what_arrives()
+    ensures { LeavingOutARuleMisses }
+{}
