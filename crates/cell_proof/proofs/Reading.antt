@@ -1,5 +1,5 @@
 -- Where a register is read in a sound app there is a step, and the register is the app's.
-use Rattle.std.proofs.Common.{ℕ, ◌∷◌, inl, inr}
+use Rattle.std.proofs.Common.{ℕ, inl, inr}
 use Rattle.vet_base.specs.Members.{In}
 use Rattle.vet_base.proofs.Members.{in_back}
 use Rattle.app_machine.specs.declared.method.Act.{Act}

@@ -1,5 +1,5 @@
 -- What the rules that both sets have give of rows in the app is in the app.
-use Rattle.std.proofs.Common.{◌≡◌, ◌==◌, ℕ, List, inl, refl, arith}
+use Rattle.std.proofs.Common.{◌==◌, ℕ, List, inl, refl, arith}
 use Rattle.std.specs.Prelude.{IsFalse}
 use Rattle.std.proofs.lemmas.Option.{slice_get_within}
 use Rattle.app_machine.specs.declared.call.MethodRef.{MethodRef}

@@ -2,5 +2,6 @@ pub mod Scenes
 pub mod Runs
 pub mod Closing
 pub mod Unlabelled
+pub mod Made
 pub mod Missing
 pub mod Readers

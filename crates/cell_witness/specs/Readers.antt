@@ -1,5 +1,5 @@
 -- A method in which a register is read in several places, and in which one of them is behind a write.
-use Rattle.std.specs.Prelude.{ℕ, List, [], ◌∷◌, Some}
+use Rattle.std.specs.Prelude.{List, [], ◌∷◌, Some}
 use Rattle.app_machine.specs.declared.call.CallKind.TheVariants.{Static}
 use Rattle.app_machine.specs.declared.method.Step.{Step}
 use Rattle.app_machine.specs.declared.method.Act.TheVariants.{Skip, Move, New, Call, Return, TakeException}

@@ -3,6 +3,7 @@
 //! definition shows.
 #![tactic(auto)]
 
+ghost use Rattle.cell_witness.specs.Made.{ObjectsAreMade};
 ghost use Rattle.cell_witness.specs.Missing.{LeavingOutARuleMisses};
 ghost use Rattle.cell_witness.specs.Readers.{RegistersAreRead};
 
@@ -17,4 +18,10 @@ pub fn registers_are_read_where_they_keep_their_value()
 /// has no row of an arrival in some run.
 pub fn leaving_out_a_rule_misses_what_arrives()
     ensures { LeavingOutARuleMisses }
+{}
+
+/// A new object of a class of the app is told apart by the activation that makes it; an array, and
+/// the result of a library call, by the step alone.
+pub fn objects_are_told_apart_by_their_makers()
+    ensures { ObjectsAreMade }
 {}
