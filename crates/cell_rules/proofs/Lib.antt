@@ -1,1 +1,2 @@
+pub mod Premised
 pub mod Searching

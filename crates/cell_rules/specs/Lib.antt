@@ -7,6 +7,7 @@ pub mod KeptRules
 pub mod LibraryRules
 pub mod LocalRules
 pub mod Making
+pub mod Premised
 pub mod Reading
 pub mod Rules
 pub mod Searching
