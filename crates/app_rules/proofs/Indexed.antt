@@ -5,7 +5,7 @@ use Rattle.app_machine.specs.declared.app.App.{App}
 use Rattle.app_machine.specs.Sound.{SoundApp}
 use Rattle.app_index.specs.Handed.{handed_rows}
 use Rattle.event_rules.specs.RowGiven.{EventsReady, event_given, event_leads}
-use Rattle.handed_rules.specs.HandedExact.{HandedReady}
+use Rattle.handed_rules.specs.exact.HandedExact.{HandedReady}
 use Rattle.handed_rules.specs.HandedGiven.{handed_given, handed_leads}
 use Rattle.fact_rows.specs.declared.row.Row.{Row}
 use Rattle.fact_rows.specs.InApp.{InApp}

@@ -1,3 +1,3 @@
-pub mod AllExact
 pub mod AllGiven
 pub mod Ready
+pub mod exact

@@ -1,3 +1,3 @@
 pub mod BeginGiven
-pub mod BeginExact
 pub mod Fits
+pub mod exact

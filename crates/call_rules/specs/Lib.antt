@@ -1,10 +1,6 @@
 pub mod CallGiven
-pub mod CallsExact
-pub mod Complete
-pub mod ExitExact
 pub mod ExitGiven
-pub mod InitExact
 pub mod InitGiven
 pub mod Initialised
-pub mod PassExact
 pub mod PassGiven
+pub mod exact

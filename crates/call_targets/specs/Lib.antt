@@ -1,4 +1,3 @@
-pub mod EnterComplete
 pub mod EnterGiven
-pub mod EnterSound
 pub mod Meaning
+pub mod exact

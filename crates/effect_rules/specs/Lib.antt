@@ -1,4 +1,2 @@
-pub mod Complete
 pub mod EffectGiven
-pub mod EffectsExact
-pub mod Sound
+pub mod exact

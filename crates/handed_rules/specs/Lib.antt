@@ -1,5 +1,3 @@
-pub mod HandedComplete
-pub mod HandedExact
 pub mod HandedGiven
-pub mod HandedSound
 pub mod Offers
+pub mod exact

@@ -1,5 +1,3 @@
-pub mod StaticExact
 pub mod StaticGiven
-pub mod ValueComplete
 pub mod ValueGiven
-pub mod ValueSound
+pub mod exact

@@ -1,6 +1,4 @@
-pub mod Complete
 pub mod Lifted
-pub mod Sound
 pub mod StepGiven
 pub mod StepListed
-pub mod StepsExact
+pub mod exact

@@ -26,17 +26,17 @@ use Rattle.rule_ground.specs.Hits.{IsHits}
 use Rattle.rule_ground.specs.Exact.{IsSound, IsJust, IsLed}
 use Rattle.rule_ground.specs.Leading.{HasLead, HasLeader, led_by_ones}
 use Rattle.rule_ground.specs.Listing.{here}
-use Rattle.call_targets.specs.EnterComplete.{class_complete, receiver_complete, use_complete}
+use Rattle.call_targets.specs.exact.EnterComplete.{class_complete, receiver_complete, use_complete}
 use Rattle.call_targets.specs.EnterGiven.{step_here, received}
-use Rattle.call_targets.specs.EnterSound.{reached_sound, received_sound}
+use Rattle.call_targets.specs.exact.EnterSound.{reached_sound, received_sound}
 use Rattle.call_rules.specs.PassGiven.{content_passed}
-use Rattle.call_rules.specs.PassExact.{calls_sound, content_sound}
+use Rattle.call_rules.specs.exact.PassExact.{calls_sound, content_sound}
 use Rattle.call_rules.specs.ExitGiven.{exits_taken}
-use Rattle.call_rules.specs.ExitExact.{exit_sound, exits_sound}
+use Rattle.call_rules.specs.exact.ExitExact.{exit_sound, exits_sound}
 use Rattle.call_rules.specs.InitGiven.{effects_come, bodies_taint}
-use Rattle.call_rules.specs.InitExact.{effect_sound, effects_sound, bodies_sound}
+use Rattle.call_rules.specs.exact.InitExact.{effect_sound, effects_sound, bodies_sound}
 use Rattle.call_rules.specs.CallGiven.{points_on, received_on, content_on, called_by, call_given, call_leads}
-use Rattle.call_rules.specs.Complete.{calls_complete}
+use Rattle.call_rules.specs.exact.Complete.{calls_complete}
 
 module _ (app : App) (lists : Lists) (has : Row → Type 0) (hits : Key → List Row) (law : (k : Key) → IsHits has k (hits k)) where
   abbrev Sound : Row → Conclusion → Type 0

@@ -22,10 +22,10 @@ use Rattle.library_ground.specs.CallRow.{CallRow, call_row}
 use Rattle.library_ground.specs.Pinned.{AreThere, IsPinnedBy}
 use Rattle.library_ground.specs.Stands.{of_row, stands}
 use Rattle.library_value_rules.specs.ValueGiven.{value_gives}
-use Rattle.library_value_rules.specs.ValueSound.{value_sound}
-use Rattle.library_value_rules.specs.StaticExact.{static_sound}
+use Rattle.library_value_rules.specs.exact.ValueSound.{value_sound}
+use Rattle.library_value_rules.specs.exact.StaticExact.{static_sound}
 use Rattle.library_heap_rules.specs.HeapGiven.{heap_gives}
-use Rattle.library_heap_rules.specs.HeapSound.{heap_sound}
+use Rattle.library_heap_rules.specs.exact.HeapSound.{heap_sound}
 use Rattle.library_heap_rules.specs.LibraryGiven.{no_pins, value_pin, object_pin, cell_pin, call_gives, used_gives, user_gives, holder_gives, pointer_gives, library_given}
 
 each_as : (P Q : Conclusion → Type 0) → ((c : Conclusion) → P c → Q c) → (cs : List Conclusion) → AllByRecursion P cs → AllByRecursion Q cs

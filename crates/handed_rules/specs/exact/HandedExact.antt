@@ -29,8 +29,8 @@ use Rattle.handed_rules.specs.declared.offer.Offer.TheVariants as offer
 use Rattle.handed_rules.specs.declared.offer.Known.TheVariants.{There, Leads}
 use Rattle.handed_rules.specs.Offers.{site_of, there_as, leads_as, IsThere}
 use Rattle.handed_rules.specs.HandedGiven.{handed_given, handed_leads}
-use Rattle.handed_rules.specs.HandedSound.{handed_sound}
-use Rattle.handed_rules.specs.HandedComplete.{object_offered, label_offered, label_by_itself, in_takers, in_use, in_there, in_leads}
+use Rattle.handed_rules.specs.exact.HandedSound.{handed_sound}
+use Rattle.handed_rules.specs.exact.HandedComplete.{object_offered, label_offered, label_by_itself, in_takers, in_use, in_there, in_leads}
 
 -- app and lists are sound, their events are those of the machine, and these are the rows whose results are handed
 pub record HandedReady (app : App) (lists : Lists) (rows : List ℕ) : Type 0 where

@@ -26,13 +26,13 @@ use Rattle.rule_ground.specs.Hits.{IsHits}
 use Rattle.rule_ground.specs.Exact.{IsListed}
 use Rattle.rule_ground.specs.Listing.{here, only, either}
 use Rattle.call_targets.specs.EnterGiven.{step_here, reached_on, received}
-use Rattle.call_targets.specs.EnterComplete.{direct_complete, name_complete, class_complete, receiver_complete, use_complete, initialiser_complete}
+use Rattle.call_targets.specs.exact.EnterComplete.{direct_complete, name_complete, class_complete, receiver_complete, use_complete, initialiser_complete}
 use Rattle.call_rules.specs.PassGiven.{content_passed}
-use Rattle.call_rules.specs.PassExact.{call_complete, content_complete}
+use Rattle.call_rules.specs.exact.PassExact.{call_complete, content_complete}
 use Rattle.call_rules.specs.ExitGiven.{left, caller_takes, exits_taken}
-use Rattle.call_rules.specs.ExitExact.{returned_in, caught_in, exit_complete, taken_complete}
+use Rattle.call_rules.specs.exact.ExitExact.{returned_in, caught_in, exit_complete, taken_complete}
 use Rattle.call_rules.specs.InitGiven.{tainted, effects_come, bodies_taint}
-use Rattle.call_rules.specs.InitExact.{effect_complete, effects_complete, bodies_complete}
+use Rattle.call_rules.specs.exact.InitExact.{effect_complete, effects_complete, bodies_complete}
 use Rattle.call_rules.specs.Initialised.{passes}
 use Rattle.call_rules.specs.CallGiven.{points_on, content_on, call_given}
 

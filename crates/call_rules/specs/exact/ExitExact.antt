@@ -25,7 +25,7 @@ use Rattle.rule_ground.specs.Hits.{IsHits}
 use Rattle.rule_ground.specs.Exact.{IsSound}
 use Rattle.rule_ground.specs.Listing.{first, second, each_sound, in_each, at_hit, of_hits, found}
 use Rattle.call_targets.specs.EnterGiven.{step_here}
-use Rattle.call_targets.specs.EnterSound.{each_cond}
+use Rattle.call_targets.specs.exact.EnterSound.{each_cond}
 use Rattle.call_rules.specs.ExitGiven.{returned_on, caught_on, thrown, left, caller_takes, exit_taken, exits_taken}
 
 -- the rules, once for both kinds of content

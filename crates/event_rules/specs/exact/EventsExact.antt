@@ -24,10 +24,10 @@ use Rattle.event_rules.specs.declared.known.Known.TheVariants.{There, Leads}
 use Rattle.event_rules.specs.EventGiven.{standing_of, life_gives, present_gives, handed_on}
 use Rattle.event_rules.specs.GivenBack.{object_of, handed_back, label_handed}
 use Rattle.event_rules.specs.RowGiven.{event_given, event_leads}
-use Rattle.event_rules.specs.Sound.{live_sound, comp_taint_sound}
-use Rattle.event_rules.specs.SoundBack.{reached_sound, handed_sound, handed_taint_sound, exit_points_sound, exit_taint_sound}
-use Rattle.event_rules.specs.Complete.{life_leads, life_leads_label, life_body_begins, life_body_receives, present_begins, present_receives, in_live, in_live_present, in_label, absent_begins, other_begins}
-use Rattle.event_rules.specs.CompleteBack.{handed_object_begins, handed_receives, object_from_event, object_from_object, label_from_event, label_from_object, label_from_label, object_returned, label_returned, returned_beside}
+use Rattle.event_rules.specs.exact.Sound.{live_sound, comp_taint_sound}
+use Rattle.event_rules.specs.exact.SoundBack.{reached_sound, handed_sound, handed_taint_sound, exit_points_sound, exit_taint_sound}
+use Rattle.event_rules.specs.exact.Complete.{life_leads, life_leads_label, life_body_begins, life_body_receives, present_begins, present_receives, in_live, in_live_present, in_label, absent_begins, other_begins}
+use Rattle.event_rules.specs.exact.CompleteBack.{handed_object_begins, handed_receives, object_from_event, object_from_object, label_from_event, label_from_object, label_from_label, object_returned, label_returned, returned_beside}
 
 module _ (app : App) (lists : Lists) (events : EventsAreExact app lists) (has : Row → Type 0) (hits : Key → List Row)
     (law : (k : Key) → IsHits has k (hits k)) where

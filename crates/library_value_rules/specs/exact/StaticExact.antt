@@ -39,8 +39,8 @@ use Rattle.rule_ground.specs.Listing.{second, each_sound, in_each, itself, at_hi
 use Rattle.library_ground.specs.CallRow.{CallRow, call_row, has_result}
 use Rattle.library_ground.specs.Stands.{of_row, row_here, stands, goes_on, goes_in}
 use Rattle.library_value_rules.specs.ValueGiven.{results}
-use Rattle.library_value_rules.specs.ValueSound.{not_void}
-use Rattle.library_value_rules.specs.ValueComplete.{has_one}
+use Rattle.library_value_rules.specs.exact.ValueSound.{not_void}
+use Rattle.library_value_rules.specs.exact.ValueComplete.{has_one}
 use Rattle.library_value_rules.specs.StaticGiven.{is_shared_of, static_call, static_user, gives_shared, row_shares, static_row, static_gives}
 
 -- only a row of its own gives a shared object, and not a default

@@ -12,9 +12,9 @@ use Rattle.rule_ground.specs.Leading.{HasLead, HasLeader, led_by_ones}
 use Rattle.vet_base.specs.Members.{In}
 use Rattle.vet_base.proofs.Members.{each_in}
 use Rattle.step_rules.specs.StepGiven.{step_given, step_leads}
-use Rattle.step_rules.specs.Sound.{step_sound}
+use Rattle.step_rules.specs.exact.Sound.{step_sound}
 use Rattle.step_rules.specs.StepListed.{led_given}
-use Rattle.step_rules.specs.Complete.{step_complete, step_led}
+use Rattle.step_rules.specs.exact.Complete.{step_complete, step_led}
 
 -- a row of those that are there
 known_in : (has : Row → Type 0) (rows : List Row) → Each has rows → (row : Row) → In row rows → has row

@@ -24,7 +24,7 @@ use Rattle.rule_ground.specs.Exact.{IsSound}
 use Rattle.rule_ground.specs.Given.{of_one, concludes}
 use Rattle.rule_ground.specs.Listing.{one}
 use Rattle.app_rows.specs.Application.{is_application, application_of}
-use Rattle.begin_rules.specs.BeginExact.{begins_sound, object_sound, label_sound}
+use Rattle.begin_rules.specs.exact.BeginExact.{begins_sound, object_sound, label_sound}
 use Rattle.event_rules.specs.declared.known.Known.{Known}
 use Rattle.event_rules.specs.declared.known.Known.TheVariants.{There, Leads}
 use Rattle.event_rules.specs.EventGiven.{live_as, start_of, runs, is_called, life_arrival, leads_to, by_life, event_gives, event_count, life_gives, present_arrival, callback_gives, callbacks_give, click_gives, clicks_give, present_gives, initialiser_begins, absent_gives, other_lives, others_live, created_gives, standing_of, live_gives, comp_taint_gives}

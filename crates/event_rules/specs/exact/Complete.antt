@@ -28,7 +28,7 @@ use Rattle.rule_ground.specs.Listing.{itself}
 use Rattle.app_rows.specs.Application.{is_application, is_the_application}
 use Rattle.begin_rules.specs.declared.parameters.Start.{Start}
 use Rattle.begin_rules.specs.BeginGiven.{first_of, says}
-use Rattle.begin_rules.specs.BeginExact.{begins_complete, object_begins, is_received}
+use Rattle.begin_rules.specs.exact.BeginExact.{begins_complete, object_begins, is_received}
 use Rattle.event_rules.specs.declared.known.Known.{Known}
 use Rattle.event_rules.specs.declared.known.Known.TheVariants.{There, Leads}
 use Rattle.event_rules.specs.EventGiven.{content_of, start_of, runs, is_called, life_arrival, leads_to, by_life, event_gives, events_in, event_count, life_gives, present_arrival, callback_gives, callbacks_give, click_gives, clicks_give, present_gives, initialiser_begins, absent_gives, other_lives, others_live, created_gives, standing_of, live_gives, comp_taint_gives}

@@ -29,10 +29,10 @@ use Rattle.library_ground.specs.Free.{IsThat}
 use Rattle.library_ground.specs.Pinned.{AllFree}
 use Rattle.library_ground.specs.Stands.{of_row, row_here}
 use Rattle.library_value_rules.specs.ValueGiven.{value_gives}
-use Rattle.library_value_rules.specs.ValueComplete.{handed_in, same_in, hands_in, arrives_in, taken_in, rest_in, joined_in, element_in, made_in, source_in, source_element_in, shared_static_in, shared_in, shared_label_in}
-use Rattle.library_value_rules.specs.StaticExact.{static_in}
+use Rattle.library_value_rules.specs.exact.ValueComplete.{handed_in, same_in, hands_in, arrives_in, taken_in, rest_in, joined_in, element_in, made_in, source_in, source_element_in, shared_static_in, shared_in, shared_label_in}
+use Rattle.library_value_rules.specs.exact.StaticExact.{static_in}
 use Rattle.library_heap_rules.specs.HeapGiven.{heap_gives}
-use Rattle.library_heap_rules.specs.HeapComplete.{put_in, store_in, copy_in, copy_label_in, filled_in}
+use Rattle.library_heap_rules.specs.exact.HeapComplete.{put_in, store_in, copy_in, copy_label_in, filled_in}
 use Rattle.library_heap_rules.specs.LibraryGiven.{no_pins, value_pin, object_pin, cell_pin, call_gives, used_gives, user_gives, holder_gives, pointer_gives, library_given}
 
 none_known : AllFree no_pins

@@ -10,18 +10,18 @@ use Rattle.rule_ground.specs.Families.{all_families}
 use Rattle.rule_ground.specs.Hits.{Among, IsHits}
 use Rattle.rule_ground.specs.Leading.{all_led}
 use Rattle.step_rules.specs.StepGiven.{step_given, step_leads}
-use Rattle.step_rules.specs.StepsExact.{steps_exact, steps_led}
+use Rattle.step_rules.specs.exact.StepsExact.{steps_exact, steps_led}
 use Rattle.effect_rules.specs.EffectGiven.{effect_given, effect_leads}
-use Rattle.effect_rules.specs.EffectsExact.{effects_exact, effects_led}
+use Rattle.effect_rules.specs.exact.EffectsExact.{effects_exact, effects_led}
 use Rattle.call_rules.specs.CallGiven.{call_given, call_leads}
-use Rattle.call_rules.specs.CallsExact.{calls_exact, calls_led}
+use Rattle.call_rules.specs.exact.CallsExact.{calls_exact, calls_led}
 use Rattle.library_heap_rules.specs.LibraryGiven.{library_given, library_leads}
-use Rattle.library_heap_rules.specs.LibraryExact.{library_exact, library_led}
+use Rattle.library_heap_rules.specs.exact.LibraryExact.{library_exact, library_led}
 use Rattle.event_rules.specs.RowGiven.{EventsReady, event_given, event_leads}
-use Rattle.event_rules.specs.EventsExact.{events_exact, events_led}
+use Rattle.event_rules.specs.exact.EventsExact.{events_exact, events_led}
 use Rattle.app_index.specs.Handed.{handed_rows}
 use Rattle.handed_rules.specs.HandedGiven.{handed_given, handed_leads}
-use Rattle.handed_rules.specs.HandedExact.{handed_exact, handed_led}
+use Rattle.handed_rules.specs.exact.HandedExact.{handed_exact, handed_led}
 use Rattle.vet_base.specs.Members.{In}
 use Rattle.app_rules.specs.AllGiven.{all_given, all_leads}
 

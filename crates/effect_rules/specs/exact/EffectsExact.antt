@@ -16,8 +16,8 @@ use Rattle.rule_ground.specs.Leading.{HasLead, HasLeader, led_by_ones}
 use Rattle.vet_base.specs.Members.{In}
 use Rattle.vet_base.proofs.Members.{each_in}
 use Rattle.effect_rules.specs.EffectGiven.{effect_given, effect_leads}
-use Rattle.effect_rules.specs.Sound.{effects_sound}
-use Rattle.effect_rules.specs.Complete.{effects_complete}
+use Rattle.effect_rules.specs.exact.Sound.{effects_sound}
+use Rattle.effect_rules.specs.exact.Complete.{effects_complete}
 
 module _ (app : App) (has : Row → Type 0) (hits : Key → List Row) (law : (k : Key) → IsHits has k (hits k)) where
   pub effects_exact : (row : Row) → has row → IsJust (EffectRule app) has row (effect_given app hits row)

@@ -14,8 +14,8 @@ use Rattle.rule_ground.specs.Leading.{HasLead, HasLeader, led_by_ones}
 use Rattle.vet_base.specs.Members.{In}
 use Rattle.vet_base.proofs.Members.{each_in}
 use Rattle.library_heap_rules.specs.LibraryGiven.{library_given, library_leads}
-use Rattle.library_heap_rules.specs.LibrarySound.{library_sound}
-use Rattle.library_heap_rules.specs.LibraryComplete.{library_complete}
+use Rattle.library_heap_rules.specs.exact.LibrarySound.{library_sound}
+use Rattle.library_heap_rules.specs.exact.LibraryComplete.{library_complete}
 
 module _ (app : App) (lists : Lists) (has : Row → Type 0) (hits : Key → List Row) (law : (k : Key) → IsHits has k (hits k)) where
   pub library_exact : (row : Row) → has row → IsJust (LibraryRule app lists) has row (library_given app lists hits row)

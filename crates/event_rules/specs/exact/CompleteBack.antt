@@ -33,7 +33,7 @@ use Rattle.rule_ground.specs.Hits.{IsHits}
 use Rattle.rule_ground.specs.Listing.{found, itself}
 use Rattle.begin_rules.specs.declared.parameters.Start.{Start}
 use Rattle.begin_rules.specs.BeginGiven.{first_of, says}
-use Rattle.begin_rules.specs.BeginExact.{object_begins, is_received}
+use Rattle.begin_rules.specs.exact.BeginExact.{object_begins, is_received}
 use Rattle.event_rules.specs.declared.known.Known.{Known}
 use Rattle.event_rules.specs.declared.known.Known.TheVariants.{There, Leads}
 use Rattle.event_rules.specs.EventGiven.{content_of, start_of, is_called, handed_arrival, handed_callback_gives, handed_of_class, handed_on, hands_over, exit_leads, exit_is, exit_taints, exit_points_give, exit_taint_gives}

@@ -1,0 +1,2 @@
+pub mod EnterComplete
+pub mod EnterSound

@@ -1,0 +1,3 @@
+pub mod HandedComplete
+pub mod HandedExact
+pub mod HandedSound

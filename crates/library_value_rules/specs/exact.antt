@@ -1,0 +1,3 @@
+pub mod StaticExact
+pub mod ValueComplete
+pub mod ValueSound
