@@ -13,9 +13,22 @@ use Rattle.app_machine.specs.State.{exception_register, write, Frame}
 -- The target of a call in the running frame: by the class of the receiver's object in a virtual or interface call, where the
 -- receiver has a place.
 pub data Calls_to (app : App) (heap : List Object) (f : Frame) (kind : CallKind) (at : MethodRef) (args : List ℕ) : Target → Type 0 where
-  by_name : {t : Target} → IsFalse (is_by_receiver kind) → target app kind f.method at None ≡ t → Calls_to app heap f kind at args t
-  by_nothing : {t : Target} → IsTrue (is_by_receiver kind) → ((x : ℕ) → IsAt args 0 x → (f.registers x).place ≡ None) → target app kind f.method at None ≡ t → Calls_to app heap f kind at args t
-  by_class : {t : Target} {x p : ℕ} (class : Name) → IsTrue (is_by_receiver kind) → IsAt args 0 x → (f.registers x).place ≡ Some p → ClassAt heap p class → target app kind f.method at (Some class) ≡ t → Calls_to app heap f kind at args t
+  by_name : {t : Target} →
+      IsFalse (is_by_receiver kind) →
+      target app kind f.method at None ≡ t →
+      Calls_to app heap f kind at args t
+  by_nothing : {t : Target} →
+      IsTrue (is_by_receiver kind) →
+      ((x : ℕ) → IsAt args 0 x → (f.registers x).place ≡ None) →
+      target app kind f.method at None ≡ t →
+      Calls_to app heap f kind at args t
+  by_class : {t : Target} {x p : ℕ} (class : Name) →
+      IsTrue (is_by_receiver kind) →
+      IsAt args 0 x →
+      (f.registers x).place ≡ Some p →
+      ClassAt heap p class →
+      target app kind f.method at (Some class) ≡ t →
+      Calls_to app heap f kind at args t
 
 -- the values of the argument registers
 abbrev pub arguments : Frame → List ℕ → List Value
@@ -24,9 +37,12 @@ arguments f args = map f.registers args
 -- A raised value goes to a handler that covers the instruction, or takes the frame away and goes on in the caller at its
 -- instruction; below the bottom frame the event ends.
 pub data Raises (app : App) : List Frame → Value → List Frame → Type 0 where
-  is_caught : {f : Frame} {fs : List Frame} {v : Value} {pc : ℕ} → Catches app f.method f.pc pc →
+  is_caught : {f : Frame} {fs : List Frame} {v : Value} {pc : ℕ} →
+      Catches app f.method f.pc pc →
       Raises app (f ∷ fs) v (record f { pc = pc; registers = write f.registers exception_register v } ∷ fs)
-  unwinds : {f : Frame} {fs gs : List Frame} {v : Value} → Raises app fs v gs → Raises app (f ∷ fs) v gs
+  unwinds : {f : Frame} {fs gs : List Frame} {v : Value} →
+      Raises app fs v gs →
+      Raises app (f ∷ fs) v gs
   ends_event : {v : Value} → Raises app [] v []
 
 -- the value that a return gives

@@ -86,13 +86,30 @@ pub record InitialiserAt (app : App) (c body : ℕ) : Type 0 where
 -- An event with a receiver that may come: the body, where there is one, the place of the receiver, the positions whose
 -- values come labelled, and the world as it is when the body begins.
 pub data Comes (app : App) (lists : Lists) (w : World) : Option ℕ → Option ℕ → List (ℕ × ℕ) → World → Type 0 where
-  lives : {c e : ℕ} {class : Name} {life : LifeEvent} {body : Option ℕ} → LifeEventAt app c e class life body → (w.components c).state ≡ life.from → life.from ≢ 0 →
+  lives : {c e : ℕ} {class : Name} {life : LifeEvent} {body : Option ℕ} →
+      LifeEventAt app c e class life body →
+      (w.components c).state ≡ life.from →
+      life.from ≢ 0 →
       Comes app lists w body (w.components c).place [] (record w { components = set_component w.components c (after_event life (w.components c).place) })
-  is_born : {c e : ℕ} {class : Name} {life : LifeEvent} {body : Option ℕ} → LifeEventAt app c e class life body → (w.components c).state ≡ 0 → life.from ≡ 0 → MayBegin app w c →
+  is_born : {c e : ℕ} {class : Name} {life : LifeEvent} {body : Option ℕ} →
+      LifeEventAt app c e class life body →
+      (w.components c).state ≡ 0 →
+      life.from ≡ 0 →
+      MayBegin app w c →
       Comes app lists w body (Some (length w.heap)) [] (record w { heap = w.heap ++ new_object class ∷ []; components = set_component w.components c (after_event life (Some (length w.heap))) })
-  calls_back : {c q body : ℕ} {sources : List (ℕ × ℕ)} → CallbackAt app lists c q sources body → (w.components c).state ≢ 0 → Comes app lists w (Some body) (w.components c).place sources w
-  is_clicked : {c i body : ℕ} → ClickAt app c i body → (w.components c).state ≢ 0 → Comes app lists w (Some body) (w.components c).place [] w
-  is_handed : {p q body : ℕ} {class : Name} {sources : List (ℕ × ℕ)} → In p w.handed → ClassAt w.heap p class → HandedAt app lists q class sources body → Comes app lists w (Some body) (Some p) sources w
+  calls_back : {c q body : ℕ} {sources : List (ℕ × ℕ)} →
+      CallbackAt app lists c q sources body →
+      (w.components c).state ≢ 0 →
+      Comes app lists w (Some body) (w.components c).place sources w
+  is_clicked : {c i body : ℕ} →
+      ClickAt app c i body →
+      (w.components c).state ≢ 0 →
+      Comes app lists w (Some body) (w.components c).place [] w
+  is_handed : {p q body : ℕ} {class : Name} {sources : List (ℕ × ℕ)} →
+      In p w.handed →
+      ClassAt w.heap p class →
+      HandedAt app lists q class sources body →
+      Comes app lists w (Some body) (Some p) sources w
 
 -- an initialiser of the class of a component that is not there may come
 pub record MayInitialise (app : App) (w : World) (body : ℕ) : Type 0 where
@@ -127,11 +144,20 @@ labelled_element (l ∷ ls) = (elem_key, labelled (l ∷ ls)) ∷ []
 -- object or a handed object of that type.
 pub data Parameter (app : App) (lists : Lists) (handed : List ℕ) (labels : List ℕ) (type : Name) (heap : List Object) : Value → List Object → Type 0 where
   is_blank : Parameter app lists handed labels type heap (labelled labels) heap
-  is_fresh : IsTrue (is_reference type) → Parameter app lists handed labels type heap (record { place = Some (length heap); labels = labels }) (heap ++ record { class = type; entries = labelled_element labels } ∷ [])
-  is_given : {p : ℕ} {class : Name} → IsTrue (is_reference type) → In p handed → ClassAt heap p class → Below app lists class type → Parameter app lists handed labels type heap (record { place = Some p; labels = labels }) heap
+  is_fresh :
+      IsTrue (is_reference type) →
+      Parameter app lists handed labels type heap (record { place = Some (length heap); labels = labels }) (heap ++ record { class = type; entries = labelled_element labels } ∷ [])
+  is_given : {p : ℕ} {class : Name} →
+      IsTrue (is_reference type) →
+      In p handed →
+      ClassAt heap p class →
+      Below app lists class type →
+      Parameter app lists handed labels type heap (record { place = Some p; labels = labels }) heap
 
 -- The values of the parameters from position i on, and the heap with all of them.
 pub data Parameters (app : App) (lists : Lists) (handed : List ℕ) (sources : List (ℕ × ℕ)) (value : ℕ → Value) : ℕ → List Name → List Object → List Object → Type 0 where
   no_more : {i : ℕ} {heap : List Object} → Parameters app lists handed sources value i [] heap heap
-  one_more : {i : ℕ} {type : Name} {types : List Name} {heap heap1 heap2 : List Object} → Parameter app lists handed (labels_at sources i) type heap (value i) heap1 → Parameters app lists handed sources value (i + 1) types heap1 heap2 →
+  one_more : {i : ℕ} {type : Name} {types : List Name} {heap heap1 heap2 : List Object} →
+      Parameter app lists handed (labels_at sources i) type heap (value i) heap1 →
+      Parameters app lists handed sources value (i + 1) types heap1 heap2 →
       Parameters app lists handed sources value i (type ∷ types) heap heap2

@@ -66,6 +66,13 @@ add_all heap (a ∷ more) = add_all (put_at heap a.0 elem_key a.1) more
 -- What a get from the value under the key may give: the value of an entry, and a blank in any case for elements, or where
 -- there is no such entry.
 pub data Gets (heap : List Object) : Value → KeyId → Value → Type 0 where
-  entry_of : {v : Value} {k : KeyId} {p : ℕ} {w : Value} → v.place ≡ Some p → EntryAt heap p k w → Gets heap v k w
-  no_element : {v : Value} {k : KeyId} → k ≡ elem_key → Gets heap v k blank
-  no_entry : {v : Value} {k : KeyId} → ((p : ℕ) (w : Value) → v.place ≡ Some p → EntryAt heap p k w → ⊥) → Gets heap v k blank
+  entry_of : {v : Value} {k : KeyId} {p : ℕ} {w : Value} →
+      v.place ≡ Some p →
+      EntryAt heap p k w →
+      Gets heap v k w
+  no_element : {v : Value} {k : KeyId} →
+      k ≡ elem_key →
+      Gets heap v k blank
+  no_entry : {v : Value} {k : KeyId} →
+      ((p : ℕ) (w : Value) → v.place ≡ Some p → EntryAt heap p k w → ⊥) →
+      Gets heap v k blank

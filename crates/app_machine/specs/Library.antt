@@ -71,9 +71,13 @@ shared_class lists i = elim (slice_get lists.shared i) [ None ↦ None | Some s 
 -- each of these shared objects that is not there yet is made, without entries, and put into its static
 pub data Makes_shared (app : App) (lists : Lists) : List ℕ → List Object → (ℕ → Value) → List Object → (ℕ → Value) → Type 0 where
   all_there : {heap : List Object} {statics : ℕ → Value} → Makes_shared app lists [] heap statics heap statics
-  is_there : {i p : ℕ} {more : List ℕ} {heap heap' : List Object} {statics statics' : ℕ → Value} → (statics (shared_static app i)).place ≡ Some p → Makes_shared app lists more heap statics heap' statics' →
+  is_there : {i p : ℕ} {more : List ℕ} {heap heap' : List Object} {statics statics' : ℕ → Value} →
+      (statics (shared_static app i)).place ≡ Some p →
+      Makes_shared app lists more heap statics heap' statics' →
       Makes_shared app lists (i ∷ more) heap statics heap' statics'
-  is_made : {i : ℕ} {class : Name} {more : List ℕ} {heap heap' : List Object} {statics statics' : ℕ → Value} → (statics (shared_static app i)).place ≡ None → shared_class lists i ≡ Some class →
+  is_made : {i : ℕ} {class : Name} {more : List ℕ} {heap heap' : List Object} {statics statics' : ℕ → Value} →
+      (statics (shared_static app i)).place ≡ None →
+      shared_class lists i ≡ Some class →
       Makes_shared app lists more (heap ++ new_object class ∷ []) (write statics (shared_static app i) (object_at (Some (length heap)))) heap' statics' →
       Makes_shared app lists (i ∷ more) heap statics heap' statics'
 
@@ -90,30 +94,74 @@ joined_object class labels = record { class = class; entries = (elem_key, labell
 
 -- The library has the object at the place: it was handed it, or it is a component that is there.
 pub data Has_object (w : World) (handed : List ℕ) : ℕ → Type 0 where
-  was_handed : {p : ℕ} → In p handed → Has_object w handed p
-  is_live : (c : ℕ) {p : ℕ} → (w.components c).state ≢ 0 → (w.components c).place ≡ Some p → Has_object w handed p
+  was_handed : {p : ℕ} →
+      In p handed →
+      Has_object w handed p
+  is_live :
+      (c : ℕ) {p : ℕ} →
+      (w.components c).state ≢ 0 →
+      (w.components c).place ≡ Some p →
+      Has_object w handed p
 
 -- The result, of the type ret, from the world and frame before, the places that are handed with those of this call, and the
 -- statics and heap with the shared objects; and the heap with the result. A void method has a blank one.
 pub data Results (app : App) (lists : Lists) (w : World) (handed : List ℕ) (f : Frame) (places : List ℕ) (source : Option ℕ) (ret : Name) (statics : ℕ → Value) (heap : List Object) : Gives → List Object → Value → Type 0 where
-  of_void : {gives : Gives} → IsTrue (is_void ret) → Results app lists w handed f places source ret statics heap gives heap blank
-  as_blank : IsFalse (is_void ret) → Results app lists w handed f places source ret statics heap Blank heap blank
-  as_same : {i : ℕ} → IsFalse (is_void ret) → Results app lists w handed f places source ret statics heap (Same i) heap (value_at f places i)
-  as_taken : {i : ℕ} {v : Value} → IsFalse (is_void ret) → Gets w.heap (value_at f places i) elem_key v → Results app lists w handed f places source ret statics heap (Taken i) heap v
-  as_shared : {i : ℕ} → IsFalse (is_void ret) → Results app lists w handed f places source ret statics heap (Shared i) heap (statics (shared_static app i))
-  as_labels : {from labels : List ℕ} → IsFalse (is_void ret) → IsFalse (is_reference ret) → AreJoined w.heap f places from source labels → Results app lists w handed f places source ret statics heap (Joined from) heap (labelled labels)
-  as_object : {from labels : List ℕ} → IsFalse (is_void ret) → IsTrue (is_reference ret) → AreJoined w.heap f places from source labels →
+  of_void : {gives : Gives} →
+      IsTrue (is_void ret) →
+      Results app lists w handed f places source ret statics heap gives heap blank
+  as_blank :
+      IsFalse (is_void ret) →
+      Results app lists w handed f places source ret statics heap Blank heap blank
+  as_same : {i : ℕ} →
+      IsFalse (is_void ret) →
+      Results app lists w handed f places source ret statics heap (Same i) heap (value_at f places i)
+  as_taken : {i : ℕ} {v : Value} →
+      IsFalse (is_void ret) →
+      Gets w.heap (value_at f places i) elem_key v →
+      Results app lists w handed f places source ret statics heap (Taken i) heap v
+  as_shared : {i : ℕ} →
+      IsFalse (is_void ret) →
+      Results app lists w handed f places source ret statics heap (Shared i) heap (statics (shared_static app i))
+  as_labels : {from labels : List ℕ} →
+      IsFalse (is_void ret) →
+      IsFalse (is_reference ret) →
+      AreJoined w.heap f places from source labels →
+      Results app lists w handed f places source ret statics heap (Joined from) heap (labelled labels)
+  as_object : {from labels : List ℕ} →
+      IsFalse (is_void ret) →
+      IsTrue (is_reference ret) →
+      AreJoined w.heap f places from source labels →
       Results app lists w handed f places source ret statics heap (Joined from) (heap ++ joined_object ret labels ∷ []) (record { place = Some (length heap); labels = labels })
   -- an object that the library has, whose class is below the type, or a blank
-  as_nothing : IsFalse (is_void ret) → Results app lists w handed f places source ret statics heap Handed heap blank
-  as_given_back : {p : ℕ} {class : Name} → IsTrue (is_reference ret) → Has_object w handed p → ClassAt w.heap p class → Below app lists class ret →
+  as_nothing :
+      IsFalse (is_void ret) →
+      Results app lists w handed f places source ret statics heap Handed heap blank
+  as_given_back : {p : ℕ} {class : Name} →
+      IsTrue (is_reference ret) →
+      Has_object w handed p →
+      ClassAt w.heap p class →
+      Below app lists class ret →
       Results app lists w handed f places source ret statics heap Handed heap (object_at (Some p))
 
 -- the value becomes an element of the object at the place, by a put, a store or a copy of the row
 pub data Adds (app : App) (before : List Object) (f : Frame) (places : List ℕ) (statics : ℕ → Value) (row : Summary) : ℕ × Value → Type 0 where
-  by_put : (i j : ℕ) {p : ℕ} → In (i, j) row.puts → (value_at f places j).place ≡ Some p → Adds app before f places statics row (p, value_at f places i)
-  by_store : (i s : ℕ) {p : ℕ} → In (i, s) row.stores → (statics (shared_static app s)).place ≡ Some p → Adds app before f places statics row (p, value_at f places i)
-  by_copy : (i j q : ℕ) {p : ℕ} {v : Value} → In (i, j) row.copies → (value_at f places i).place ≡ Some q → EntryAt before q elem_key v → (value_at f places j).place ≡ Some p → Adds app before f places statics row (p, v)
+  by_put :
+      (i j : ℕ) {p : ℕ} →
+      In (i, j) row.puts →
+      (value_at f places j).place ≡ Some p →
+      Adds app before f places statics row (p, value_at f places i)
+  by_store :
+      (i s : ℕ) {p : ℕ} →
+      In (i, s) row.stores →
+      (statics (shared_static app s)).place ≡ Some p →
+      Adds app before f places statics row (p, value_at f places i)
+  by_copy :
+      (i j q : ℕ) {p : ℕ} {v : Value} →
+      In (i, j) row.copies →
+      (value_at f places i).place ≡ Some q →
+      EntryAt before q elem_key v →
+      (value_at f places j).place ≡ Some p →
+      Adds app before f places statics row (p, v)
 
 -- A call with these positions and this result type, by its row: the world after it, and its result.
 pub record Library_call (app : App) (lists : Lists) (w : World) (f : Frame) (places : List ℕ) (ret : Name) (row : Summary) (new : World) (result : Value) : Type 0 where

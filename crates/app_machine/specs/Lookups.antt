@@ -68,8 +68,12 @@ lists_bare app class name proto = list_any (λ (c : Class). list_any (λ (b : Na
 
 -- what a call comes to: the number of a method of the app, a class of the library, or nothing
 pub data Target : Type 0 where
-  Body : ℕ → Target
-  Library : Name → Target
+  Body :
+      ℕ →
+      Target
+  Library :
+      Name →
+      Target
   Nothing : Target
 
 -- the body, where there is one, and otherwise this

@@ -29,14 +29,35 @@ reflective = 3
 
 -- The state stands at the instruction for the cause: what comes next is not modelled.
 pub data Stands (app : App) (lists : Lists) (w : World) : List Frame → (method pc cause : ℕ) → Type 0 where
-  native_call : {f : Frame} {fs : List Frame} {kind : CallKind} {at : MethodRef} {args : List ℕ} {body : ℕ} → ActAt app f.method f.pc (Call kind at args) → Calls_to app w.heap f kind at args (Body body) → IsNative app body → Stands app lists w (f ∷ fs) f.method f.pc native
-  without_row : {f : Frame} {fs : List Frame} {kind : CallKind} {at : MethodRef} {args : List ℕ} {class : Name} → ActAt app f.method f.pc (Call kind at args) → Calls_to app w.heap f kind at args (Library class) →
-      library_key app lists class at.name at.proto (is_static_call kind) ≡ None → Stands app lists w (f ∷ fs) f.method f.pc no_summary
-  at_reflection : {f : Frame} {fs : List Frame} {kind : CallKind} {at : MethodRef} {args : List ℕ} {class : Name} {key : SummaryId} {row : Summary} → ActAt app f.method f.pc (Call kind at args) → Calls_to app w.heap f kind at args (Library class) →
-      library_key app lists class at.name at.proto (is_static_call kind) ≡ Some key → summary lists key at (is_static_call kind) ≡ Some row → row.reflective ≡ true → Stands app lists w (f ∷ fs) f.method f.pc reflective
-  native_initialiser : {f : Frame} {fs : List Frame} {body : ℕ} → Initialises app f.method f.pc body → IsNative app body → Stands app lists w (f ∷ fs) f.method f.pc native
-  native_event : {body : ℕ} {place : Option ℕ} {sources : List (ℕ × ℕ)} {new : World} → Comes app lists w (Some body) place sources new → IsNative app body → Stands app lists w [] body 0 native
-  native_class : {body : ℕ} → MayInitialise app w body → IsNative app body → Stands app lists w [] body 0 native
+  native_call : {f : Frame} {fs : List Frame} {kind : CallKind} {at : MethodRef} {args : List ℕ} {body : ℕ} →
+      ActAt app f.method f.pc (Call kind at args) →
+      Calls_to app w.heap f kind at args (Body body) →
+      IsNative app body →
+      Stands app lists w (f ∷ fs) f.method f.pc native
+  without_row : {f : Frame} {fs : List Frame} {kind : CallKind} {at : MethodRef} {args : List ℕ} {class : Name} →
+      ActAt app f.method f.pc (Call kind at args) →
+      Calls_to app w.heap f kind at args (Library class) →
+      library_key app lists class at.name at.proto (is_static_call kind) ≡ None →
+      Stands app lists w (f ∷ fs) f.method f.pc no_summary
+  at_reflection : {f : Frame} {fs : List Frame} {kind : CallKind} {at : MethodRef} {args : List ℕ} {class : Name} {key : SummaryId} {row : Summary} →
+      ActAt app f.method f.pc (Call kind at args) →
+      Calls_to app w.heap f kind at args (Library class) →
+      library_key app lists class at.name at.proto (is_static_call kind) ≡ Some key →
+      summary lists key at (is_static_call kind) ≡ Some row →
+      row.reflective ≡ true →
+      Stands app lists w (f ∷ fs) f.method f.pc reflective
+  native_initialiser : {f : Frame} {fs : List Frame} {body : ℕ} →
+      Initialises app f.method f.pc body →
+      IsNative app body →
+      Stands app lists w (f ∷ fs) f.method f.pc native
+  native_event : {body : ℕ} {place : Option ℕ} {sources : List (ℕ × ℕ)} {new : World} →
+      Comes app lists w (Some body) place sources new →
+      IsNative app body →
+      Stands app lists w [] body 0 native
+  native_class : {body : ℕ} →
+      MayInitialise app w body →
+      IsNative app body →
+      Stands app lists w [] body 0 native
 
 -- the declaration names the pair of categories
 pub record Declared (lists : Lists) (declaration : Declaration) (label sink : ℕ) : Type 0 where

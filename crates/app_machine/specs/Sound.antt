@@ -40,8 +40,14 @@ AreKeys (Field c n k ∷ keys) fields = ⊥
 
 -- the second class or interface is above the first one
 pub data IsAbove (app : App) : Name → Name → Type 0 where
-  directly : {above : Name} (c : Class) → In c app.classes → In above (directly_above c) → IsAbove app c.name above
-  beyond : {class middle above : Name} → IsAbove app class middle → IsAbove app middle above → IsAbove app class above
+  directly : {above : Name} (c : Class) →
+      In c app.classes →
+      In above (directly_above c) →
+      IsAbove app c.name above
+  beyond : {class middle above : Name} →
+      IsAbove app class middle →
+      IsAbove app middle above →
+      IsAbove app class above
 
 -- how many registers the arguments of a method take
 abbrev pub taken : Bool → Proto → ℕ

@@ -111,14 +111,30 @@ static_source app lists g = elim (slice_get app.statics g) [ None ↦ None | Som
 -- Java Language Specification, "Subtyping among Class and Interface Types"
 pub data ClassBelow (app : App) (lists : Lists) : Name → Name → Type 0 where
   is_same : {class : Name} → ClassBelow app lists class class
-  is_object : {class type : Name} → type ≡ object_class → ClassBelow app lists class type
-  is_through : {class above type : Name} (c : Class) → class_named app class ≡ Some c → In above (directly_above c) → ClassBelow app lists above type → ClassBelow app lists class type
-  is_listed : {class type : Name} → In type (listed_above lists class) → ClassBelow app lists class type
+  is_object : {class type : Name} →
+      type ≡ object_class →
+      ClassBelow app lists class type
+  is_through : {class above type : Name} (c : Class) →
+      class_named app class ≡ Some c →
+      In above (directly_above c) →
+      ClassBelow app lists above type →
+      ClassBelow app lists class type
+  is_listed : {class type : Name} →
+      In type (listed_above lists class) →
+      ClassBelow app lists class type
 
 -- A value of the class may stand where the type is asked for: the class is below the type as a class; or it is an array, and
 -- the type is one of those above all arrays; or both are arrays, of a reference type below another type.
 -- Java Language Specification, "Subtyping among Array Types"
 pub data Below (app : App) (lists : Lists) : Name → Name → Type 0 where
-  of_class : {class type : Name} → ClassBelow app lists class type → Below app lists class type
-  of_array : {class type : Name} → IsTrue (is_array class) → In type array_types → Below app lists class type
-  of_elements : {class type : Name} → IsTrue (is_reference class) → Below app lists class type → Below app lists (array_of class) (array_of type)
+  of_class : {class type : Name} →
+      ClassBelow app lists class type →
+      Below app lists class type
+  of_array : {class type : Name} →
+      IsTrue (is_array class) →
+      In type array_types →
+      Below app lists class type
+  of_elements : {class type : Name} →
+      IsTrue (is_reference class) →
+      Below app lists class type →
+      Below app lists (array_of class) (array_of type)
