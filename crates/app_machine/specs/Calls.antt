@@ -12,23 +12,23 @@ use Rattle.app_machine.specs.State.{exception_register, write, Frame}
 
 -- The target of a call in the running frame: by the class of the receiver's object in a virtual or interface call, where the
 -- receiver has a place.
-pub data Calls_to (app : App) (heap : List Object) (f : Frame) (kind : CallKind) (at : MethodRef) (args : List ℕ) : Target → Type 0 where
+pub data CallsTo (app : App) (heap : List Object) (f : Frame) (kind : CallKind) (at : MethodRef) (args : List ℕ) : Target → Type 0 where
   by_name : {t : Target} →
       IsFalse (is_by_receiver kind) →
       target app kind f.method at None ≡ t →
-      Calls_to app heap f kind at args t
+      CallsTo app heap f kind at args t
   by_nothing : {t : Target} →
       IsTrue (is_by_receiver kind) →
       ((x : ℕ) → IsAt args 0 x → (f.registers x).place ≡ None) →
       target app kind f.method at None ≡ t →
-      Calls_to app heap f kind at args t
+      CallsTo app heap f kind at args t
   by_class : {t : Target} {x p : ℕ} (class : Name) →
       IsTrue (is_by_receiver kind) →
       IsAt args 0 x →
       (f.registers x).place ≡ Some p →
       ClassAt heap p class →
       target app kind f.method at (Some class) ≡ t →
-      Calls_to app heap f kind at args t
+      CallsTo app heap f kind at args t
 
 -- the values of the argument registers
 abbrev pub arguments : Frame → List ℕ → List Value

@@ -12,7 +12,7 @@ use Rattle.app_machine.specs.Names.{Name, is_wide, is_reference, click_descripto
 use Rattle.app_machine.specs.Lookups.{find_body, body_named, initialisers_from, elem_key}
 use Rattle.app_machine.specs.Summaries.{Below}
 use Rattle.app_machine.specs.Heap.{Value, Object, labelled, ClassAt}
-use Rattle.app_machine.specs.State.{World, Component_state, new_object}
+use Rattle.app_machine.specs.State.{World, ComponentState, new_object}
 use Rattle.app_machine.specs.LifeEvents.{LifeEvent, life_events}
 
 -- the component is the application object
@@ -25,11 +25,11 @@ pub record IsApplication (app : App) (c : ℕ) : Type 0 where
 abbrev pub MayBegin : App → World → ℕ → Type 0
 MayBegin app w c = (a : ℕ) → IsApplication app a → (a ≡ c) ⊎ ((w.components a).state ≡ 2)
 
-abbrev pub set_component : (ℕ → Component_state) → ℕ → Component_state → ℕ → Component_state
+abbrev pub set_component : (ℕ → ComponentState) → ℕ → ComponentState → ℕ → ComponentState
 set_component components c new d = if d == c then new else components d
 
 -- a component after an event: without its object where the state is 0
-abbrev pub after_event : LifeEvent → Option ℕ → Component_state
+abbrev pub after_event : LifeEvent → Option ℕ → ComponentState
 after_event life place = record { state = life.to; place = if life.to == 0 then None else place }
 
 -- the body that runs on an object of the class at an event of its life, at a callback and at a click

@@ -15,7 +15,7 @@ use Rattle.app_machine.specs.Lookups.{elem_key, is_static_call, Library}
 use Rattle.app_machine.specs.Summaries.{library_key, summary, Below}
 use Rattle.app_machine.specs.Heap.{Value, Object, blank, labelled, EntryAt, ClassAt, Reaches, add_all, Gets}
 use Rattle.app_machine.specs.State.{write, shared_static, Arrival, World, Frame, object_at, new_object}
-use Rattle.app_machine.specs.Calls.{Calls_to}
+use Rattle.app_machine.specs.Calls.{CallsTo}
 
 -- The first register of each position of a call: of the receiver, where there is one, and of each argument.
 abbrev pub first_registers : List Name → List ℕ → List ℕ
@@ -69,17 +69,17 @@ unfoldable pub shared_class : Lists → ℕ → Option Name
 shared_class lists i = elim (slice_get lists.shared i) [ None ↦ None | Some s ↦ Some s.1 ]
 
 -- each of these shared objects that is not there yet is made, without entries, and put into its static
-pub data Makes_shared (app : App) (lists : Lists) : List ℕ → List Object → (ℕ → Value) → List Object → (ℕ → Value) → Type 0 where
-  all_there : {heap : List Object} {statics : ℕ → Value} → Makes_shared app lists [] heap statics heap statics
+pub data MakesShared (app : App) (lists : Lists) : List ℕ → List Object → (ℕ → Value) → List Object → (ℕ → Value) → Type 0 where
+  all_there : {heap : List Object} {statics : ℕ → Value} → MakesShared app lists [] heap statics heap statics
   is_there : {i p : ℕ} {more : List ℕ} {heap heap' : List Object} {statics statics' : ℕ → Value} →
       (statics (shared_static app i)).place ≡ Some p →
-      Makes_shared app lists more heap statics heap' statics' →
-      Makes_shared app lists (i ∷ more) heap statics heap' statics'
+      MakesShared app lists more heap statics heap' statics' →
+      MakesShared app lists (i ∷ more) heap statics heap' statics'
   is_made : {i : ℕ} {class : Name} {more : List ℕ} {heap heap' : List Object} {statics statics' : ℕ → Value} →
       (statics (shared_static app i)).place ≡ None →
       shared_class lists i ≡ Some class →
-      Makes_shared app lists more (heap ++ new_object class ∷ []) (write statics (shared_static app i) (object_at (Some (length heap)))) heap' statics' →
-      Makes_shared app lists (i ∷ more) heap statics heap' statics'
+      MakesShared app lists more (heap ++ new_object class ∷ []) (write statics (shared_static app i) (object_at (Some (length heap)))) heap' statics' →
+      MakesShared app lists (i ∷ more) heap statics heap' statics'
 
 -- the label is of the row's source, or reaches from one of the positions by some keys
 abbrev pub Joins : List Object → Frame → List ℕ → List ℕ → Option ℕ → ℕ → Type 0
@@ -93,15 +93,15 @@ abbrev pub joined_object : Name → List ℕ → Object
 joined_object class labels = record { class = class; entries = (elem_key, labelled labels) ∷ [] }
 
 -- The library has the object at the place: it was handed it, or it is a component that is there.
-pub data Has_object (w : World) (handed : List ℕ) : ℕ → Type 0 where
+pub data HasObject (w : World) (handed : List ℕ) : ℕ → Type 0 where
   was_handed : {p : ℕ} →
       In p handed →
-      Has_object w handed p
+      HasObject w handed p
   is_live :
       (c : ℕ) {p : ℕ} →
       (w.components c).state ≢ 0 →
       (w.components c).place ≡ Some p →
-      Has_object w handed p
+      HasObject w handed p
 
 -- The result, of the type ret, from the world and frame before, the places that are handed with those of this call, and the
 -- statics and heap with the shared objects; and the heap with the result. A void method has a blank one.
@@ -138,7 +138,7 @@ pub data Results (app : App) (lists : Lists) (w : World) (handed : List ℕ) (f 
       Results app lists w handed f places source ret statics heap Handed heap blank
   as_given_back : {p : ℕ} {class : Name} →
       IsTrue (is_reference ret) →
-      Has_object w handed p →
+      HasObject w handed p →
       ClassAt w.heap p class →
       Below app lists class ret →
       Results app lists w handed f places source ret statics heap Handed heap (object_at (Some p))
@@ -164,22 +164,22 @@ pub data Adds (app : App) (before : List Object) (f : Frame) (places : List ℕ)
       Adds app before f places statics row (p, v)
 
 -- A call with these positions and this result type, by its row: the world after it, and its result.
-pub record Library_call (app : App) (lists : Lists) (w : World) (f : Frame) (places : List ℕ) (ret : Name) (row : Summary) (new : World) (result : Value) : Type 0 where
+pub record CallsLibrary (app : App) (lists : Lists) (w : World) (f : Frame) (places : List ℕ) (ret : Name) (row : Summary) (new : World) (result : Value) : Type 0 where
   pub with_shared : List Object
   pub with_result : List Object
   pub added : List (ℕ × Value)
   pub handed : (p : ℕ) → In p new.handed ↔ (In p w.handed ⊎ Hands f places p)
   pub arrivals : (a : Arrival) → In a new.arrivals ↔ (In a w.arrivals ⊎ AtSink w.heap f places row a)
-  pub shared : Makes_shared app lists (shared_named row ret) w.heap w.statics with_shared new.statics
+  pub shared : MakesShared app lists (shared_named row ret) w.heap w.statics with_shared new.statics
   pub results : Results app lists w new.handed f places row.source ret new.statics with_shared row.gives with_result result
   pub adds : (a : ℕ × Value) → In a added ↔ Adds app w.heap f places new.statics row a
   pub heap : new.heap ≡ add_all with_result added
   pub components : new.components ≡ w.components
 
 -- the call comes to a library class that has a row or default for it, which is not reflective
-pub record Uses_row (app : App) (lists : Lists) (heap : List Object) (f : Frame) (kind : CallKind) (at : MethodRef) (args : List ℕ) (row : Summary) : Type 0 where
+pub record UsesRow (app : App) (lists : Lists) (heap : List Object) (f : Frame) (kind : CallKind) (at : MethodRef) (args : List ℕ) (row : Summary) : Type 0 where
   pub class : Name
-  pub goes : Calls_to app heap f kind at args (Library class)
+  pub goes : CallsTo app heap f kind at args (Library class)
   pub key : SummaryId
   pub is_key : library_key app lists class at.name at.proto (is_static_call kind) ≡ Some key
   pub is_row : summary lists key at (is_static_call kind) ≡ Some row

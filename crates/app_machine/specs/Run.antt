@@ -11,8 +11,8 @@ use Rattle.app_machine.specs.Lookups.{Body, ActAt, Goes, HasCode, IsNative, Init
 use Rattle.app_machine.specs.Heap.{Value, Object, blank}
 use Rattle.app_machine.specs.State.{result_register, write, World, Frame, entered}
 use Rattle.app_machine.specs.Local.{Local}
-use Rattle.app_machine.specs.Calls.{Calls_to, arguments, Raises, returned, hand}
-use Rattle.app_machine.specs.Library.{positions, Library_call, Uses_row}
+use Rattle.app_machine.specs.Calls.{CallsTo, arguments, Raises, returned, hand}
+use Rattle.app_machine.specs.Library.{positions, CallsLibrary, UsesRow}
 use Rattle.app_machine.specs.Events.{Comes, MayInitialise, labels_at, layout, Parameters}
 
 -- the frame of a body that begins with these argument values
@@ -20,11 +20,11 @@ abbrev pub frame_of : ℕ → Method → List Value → Bool → Frame
 frame_of body m values initialises = record { method = body; pc = 0; registers = entered m values; initialises = initialises }
 
 -- there is no body, or a native one
-pub data Without_code (app : App) : Option ℕ → Type 0 where
-  no_body : Without_code app None
+pub data WithoutCode (app : App) : Option ℕ → Type 0 where
+  no_body : WithoutCode app None
   native_body : {body : ℕ} →
       IsNative app body →
-      Without_code app (Some body)
+      WithoutCode app (Some body)
 
 -- one step, from a world and its frames, the running one first
 pub data Steps (app : App) (lists : Lists) : World → List Frame → World → List Frame → Type 0 where
@@ -41,20 +41,20 @@ pub data Steps (app : App) (lists : Lists) : World → List Frame → World → 
       Steps app lists w (f ∷ fs) w gs
   calls : {w : World} {f : Frame} {fs : List Frame} {kind : CallKind} {at : MethodRef} {args : List ℕ} {body : ℕ} {m : Method} →
       ActAt app f.method f.pc (Call kind at args) →
-      Calls_to app w.heap f kind at args (Body body) →
+      CallsTo app w.heap f kind at args (Body body) →
       HasCode app body m →
       Steps app lists w (f ∷ fs) w (frame_of body m (arguments f args) false ∷ f ∷ fs)
   calls_library : {w new : World} {f : Frame} {fs : List Frame} {kind : CallKind} {at : MethodRef} {args : List ℕ} {row : Summary} {result : Value} {pc : ℕ} →
       ActAt app f.method f.pc (Call kind at args) →
       Goes app f.method f.pc pc →
-      Uses_row app lists w.heap f kind at args row →
-      Library_call app lists w f (positions kind at args) at.proto.ret row new result →
+      UsesRow app lists w.heap f kind at args row →
+      CallsLibrary app lists w f (positions kind at args) at.proto.ret row new result →
       Steps app lists w (f ∷ fs) new (record f { pc = pc; registers = write f.registers result_register result } ∷ fs)
   -- a library call may raise after its puts
   library_raises : {w new : World} {f : Frame} {fs gs : List Frame} {kind : CallKind} {at : MethodRef} {args : List ℕ} {row : Summary} {result : Value} →
       ActAt app f.method f.pc (Call kind at args) →
-      Uses_row app lists w.heap f kind at args row →
-      Library_call app lists w f (positions kind at args) at.proto.ret row new result →
+      UsesRow app lists w.heap f kind at args row →
+      CallsLibrary app lists w f (positions kind at args) at.proto.ret row new result →
       Raises app (f ∷ fs) blank gs →
       Steps app lists w (f ∷ fs) new gs
   returns : {w : World} {f g : Frame} {fs : List Frame} {x : Option ℕ} {pc : ℕ} →
@@ -76,7 +76,7 @@ pub data Steps (app : App) (lists : Lists) : World → List Frame → World → 
   -- an event without code to run
   passes : {w new : World} {body place : Option ℕ} {sources : List (ℕ × ℕ)} →
       Comes app lists w body place sources new →
-      Without_code app body →
+      WithoutCode app body →
       Steps app lists w [] new []
   begins : {w new : World} {body : ℕ} {place : Option ℕ} {sources : List (ℕ × ℕ)} {m : Method} {value : ℕ → Value} {heap : List Object} →
       Comes app lists w (Some body) place sources new →

@@ -13,7 +13,7 @@ use Rattle.app_machine.specs.Names.{Name}
 use Rattle.app_machine.specs.Lookups.{Body, Library, ActAt, IsNative, Initialises, is_static_call}
 use Rattle.app_machine.specs.Summaries.{library_key, summary}
 use Rattle.app_machine.specs.State.{Arrival, World, Frame}
-use Rattle.app_machine.specs.Calls.{Calls_to}
+use Rattle.app_machine.specs.Calls.{CallsTo}
 use Rattle.app_machine.specs.Events.{Comes, MayInitialise}
 use Rattle.app_machine.specs.Run.{Run}
 
@@ -31,17 +31,17 @@ reflective = 3
 pub data Stands (app : App) (lists : Lists) (w : World) : List Frame → (method pc cause : ℕ) → Type 0 where
   native_call : {f : Frame} {fs : List Frame} {kind : CallKind} {at : MethodRef} {args : List ℕ} {body : ℕ} →
       ActAt app f.method f.pc (Call kind at args) →
-      Calls_to app w.heap f kind at args (Body body) →
+      CallsTo app w.heap f kind at args (Body body) →
       IsNative app body →
       Stands app lists w (f ∷ fs) f.method f.pc native
   without_row : {f : Frame} {fs : List Frame} {kind : CallKind} {at : MethodRef} {args : List ℕ} {class : Name} →
       ActAt app f.method f.pc (Call kind at args) →
-      Calls_to app w.heap f kind at args (Library class) →
+      CallsTo app w.heap f kind at args (Library class) →
       library_key app lists class at.name at.proto (is_static_call kind) ≡ None →
       Stands app lists w (f ∷ fs) f.method f.pc no_summary
   at_reflection : {f : Frame} {fs : List Frame} {kind : CallKind} {at : MethodRef} {args : List ℕ} {class : Name} {key : SummaryId} {row : Summary} →
       ActAt app f.method f.pc (Call kind at args) →
-      Calls_to app w.heap f kind at args (Library class) →
+      CallsTo app w.heap f kind at args (Library class) →
       library_key app lists class at.name at.proto (is_static_call kind) ≡ Some key →
       summary lists key at (is_static_call kind) ≡ Some row →
       row.reflective ≡ true →

@@ -33,7 +33,7 @@ pub record Arrival : Type 0 where
   pub pc : ℕ
 
 -- a component's state, and its object where the state is not 0
-pub record Component_state : Type 0 where
+pub record ComponentState : Type 0 where
   pub state : ℕ
   pub place : Option ℕ
 
@@ -42,7 +42,7 @@ pub record World : Type 0 where
   pub heap : List Object
   -- by number: the app's statics first, and behind them the shared objects of the lists
   pub statics : ℕ → Value
-  pub components : ℕ → Component_state
+  pub components : ℕ → ComponentState
   -- the places of objects that the library was handed
   pub handed : List ℕ
   pub arrivals : List Arrival

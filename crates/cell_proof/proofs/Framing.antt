@@ -13,7 +13,7 @@ use Rattle.vet_base.proofs.Members.{in_slice_get}
 use Rattle.app_machine.specs.Lookups.{Target, Body, ActAt, Goes, Catches, HasCode, Initialises}
 use Rattle.app_machine.specs.Heap.{Value, blank}
 use Rattle.app_machine.specs.State.{result_register, exception_register, write, World, Frame}
-use Rattle.app_machine.specs.Calls.{Calls_to, by_name, by_nothing, by_class, arguments, Raises, is_caught, unwinds, ends_event, returned}
+use Rattle.app_machine.specs.Calls.{CallsTo, by_name, by_nothing, by_class, arguments, Raises, is_caught, unwinds, ends_event, returned}
 use Rattle.app_machine.specs.Run.{frame_of}
 use Rattle.app_machine.specs.Sound.{SoundApp}
 use Rattle.fact_rows.specs.declared.context.Ctx.{Ctx}
@@ -186,7 +186,7 @@ module _ (app : App) (lists : Lists) (has : Row → Type 0) (closed : Closed app
           let a = argument_of f args i v e in subst (λ y. RegisterFits app has (entry (callee (node_of c f) body)) (length w.heap) site z y) (sym a.same) (passed_at i z a.register a.is_at (record { method = m; has = code; below = below; is = is }))
 
   pub known_call : {w : World} {site : ℕ → Site} {c : Ctx} {f : Frame} {fs : List Frame} {kind : CallKind} {at : MethodRef} {args : List ℕ} {body : ℕ} {m : Method} {t : Target} →
-      Runs app lists has w site c f fs → ActAt app f.method f.pc (Call kind at args) → Calls_to app w.heap f kind at args t → t ≡ Body body →
+      Runs app lists has w site c f fs → ActAt app f.method f.pc (Call kind at args) → CallsTo app w.heap f kind at args t → t ≡ Body body →
       HasCode app body m → Known app lists has w (frame_of body m (arguments f args) false ∷ f ∷ fs)
   known_call {w} {site} {c} {f} {fs} {kind} {at} {args} {body} known act (by_name plain is_target) same code =
       enter_call known act code enters not_initialised

@@ -10,7 +10,7 @@ use Rattle.app_machine.specs.declared.lists.Lists.{Lists}
 use Rattle.vet_base.specs.Members.{In}
 use Rattle.app_machine.specs.Lookups.{ActAt}
 use Rattle.app_machine.specs.Heap.{Value}
-use Rattle.app_machine.specs.State.{shared_static, Arrival, Component_state, World, Frame, object_at}
+use Rattle.app_machine.specs.State.{shared_static, Arrival, ComponentState, World, Frame, object_at}
 use Rattle.fact_rows.specs.declared.context.Ctx.{Ctx}
 use Rattle.fact_rows.specs.declared.context.Activation.{Activation}
 use Rattle.fact_rows.specs.declared.context.Node.{Node}
@@ -47,7 +47,7 @@ StaticFits app has size site g v = Fits size site v (λ s. has (StaticPoints g s
 abbrev pub HandedFits : (Row → Type 0) → ℕ → (ℕ → Site) → ℕ → Type 0
 HandedFits has size site p = Fits size site (object_at (Some p)) (λ s. has (Handed s)) (λ l. ⊥)
 
-abbrev pub ComponentFits : ℕ → (ℕ → Site) → ℕ → Component_state → Type 0
+abbrev pub ComponentFits : ℕ → (ℕ → Site) → ℕ → ComponentState → Type 0
 ComponentFits size site c s = Fits size site (object_at s.place) (λ x. x ≡ Component c) (λ l. ⊥)
 
 -- an arrival has its row, in some context

@@ -19,8 +19,8 @@ use Rattle.app_machine.specs.Lookups.{Target, Library, elem_key, ActAt, Goes}
 use Rattle.app_machine.specs.Heap.{Value, Object, blank, labelled, EntryAt, ClassAt, Reaches, add_all, entry_of}
 use Rattle.app_machine.specs.Summaries.{Below}
 use Rattle.app_machine.specs.State.{result_register, shared_static, Arrival, World, Frame, object_at, new_object}
-use Rattle.app_machine.specs.Calls.{Calls_to, by_name, by_nothing, by_class}
-use Rattle.app_machine.specs.Library.{positions, value_at, AtSink, Hands, result_shared, shared_named, Makes_shared, all_there, is_there, is_made, Joins, joined_object, Has_object, was_handed, is_live, Results, of_void, as_blank, as_same, as_taken, as_shared, as_labels, as_object, as_nothing, as_given_back, Adds, by_put, by_store, by_copy, Library_call, Uses_row}
+use Rattle.app_machine.specs.Calls.{CallsTo, by_name, by_nothing, by_class}
+use Rattle.app_machine.specs.Library.{positions, value_at, AtSink, Hands, result_shared, shared_named, MakesShared, all_there, is_there, is_made, Joins, joined_object, HasObject, was_handed, is_live, Results, of_void, as_blank, as_same, as_taken, as_shared, as_labels, as_object, as_nothing, as_given_back, Adds, by_put, by_store, by_copy, CallsLibrary, UsesRow}
 use Rattle.fact_rows.specs.declared.context.Ctx.{Ctx}
 use Rattle.fact_rows.specs.declared.context.Activation.{Activation}
 use Rattle.fact_rows.specs.declared.site.Site.{Site}
@@ -76,7 +76,7 @@ position_fits {size} {site} f places i {P} {L} fits = go (slice_get places i) re
 module _ (app : App) (lists : Lists) (has : Row → Type 0) (closed : Closed app lists has) where
   -- the shared objects
   shared_later : {more : List ℕ} {heap heap' : List Object} {statics statics' : ℕ → Value} (w : World) (site : ℕ → Site) {c : Ctx} {f : Frame} {fs : List Frame} →
-      ((i : ℕ) → In i more → has (StaticPoints (shared_static app i) (Shared i))) → Makes_shared app lists more heap statics heap' statics' →
+      ((i : ℕ) → In i more → has (StaticPoints (shared_static app i) (Shared i))) → MakesShared app lists more heap statics heap' statics' →
       Runs app lists has (record w { heap = heap; statics = statics }) site c f fs →
       Later app lists has (length heap) site (record w { heap = heap'; statics = statics' }) c f fs
   shared_later w site points all_there known = record { sites = site; running = known; stays = λ v P L old. old }
@@ -145,7 +145,7 @@ module _ (app : App) (lists : Lists) (has : Row → Type 0) (closed : Closed app
 
     -- an object that the library has is known as the result
     given_back : {p : ℕ} {class : Name} {handed : List ℕ} (pc : ℕ) → Goes app f.method f.pc pc → r.row.gives ≡ Handed →
-        IsTrue (is_reference r.at.proto.ret) → ((p : ℕ) → In p handed → HandedFits has (length w.heap) site p) → Has_object w handed p →
+        IsTrue (is_reference r.at.proto.ret) → ((p : ℕ) → In p handed → HandedFits has (length w.heap) site p) → HasObject w handed p →
         ClassAt w.heap p class → Below app lists class r.at.proto.ret →
         RegisterFits app has (at_pc (node_of c f) pc) (length w.heap) site result_register (object_at (Some p))
     given_back {p} {class} pc next is_result reference fits (was_handed is_one) of_class below =
@@ -298,7 +298,7 @@ module _ (app : App) (lists : Lists) (has : Row → Type 0) (closed : Closed app
 
   -- What a call on a library class finds in the lists has its row.
   pub looked_up : {w : World} {site : ℕ → Site} {c : Ctx} {f : Frame} {fs : List Frame} {kind : CallKind} {at : MethodRef} {args : List ℕ} {t : Target} {class : Name} {row : Row} →
-      Runs app lists has w site c f fs → ActAt app f.method f.pc (Call kind at args) → Calls_to app w.heap f kind at args t → t ≡ Library class →
+      Runs app lists has w site c f fs → ActAt app f.method f.pc (Call kind at args) → CallsTo app w.heap f kind at args t → t ≡ Library class →
       LooksUp app lists (node_of c f) kind at class row → has row
   looked_up {c = c} {f = f} known act (by_name plain is_target) same found =
       kept_call app lists has closed (use_by_name {n = node_of c f} act (is_target ∙ same) found) (looked_kept found) refl (known.reached, tt)
@@ -315,7 +315,7 @@ module _ (app : App) (lists : Lists) (has : Row → Type 0) (closed : Closed app
   -- what is known after the call, by what is known before its puts
   known_after : {w new : World} {site : ℕ → Site} {c : Ctx} {f : Frame} {fs : List Frame} {v : Value} {u : SummaryId} →
       Runs app lists has w site c f fs → (r : RowAt app lists (node_of c f) u) → has (Uses (node_of c f) u) →
-      (call : Library_call app lists w f (places_of r) r.at.proto.ret r.row new v) →
+      (call : CallsLibrary app lists w f (places_of r) r.at.proto.ret r.row new v) →
       WithResult app lists has (length w.heap) site (record w { heap = call.with_result; statics = new.statics }) c f fs v →
       LibraryKnown new c f fs v
   known_after {w} {new} {site} {c} {f} {fs} {v} {u} known r uses call last = record {
@@ -369,7 +369,7 @@ module _ (app : App) (lists : Lists) (has : Row → Type 0) (closed : Closed app
 
   known_row : {w new : World} {site : ℕ → Site} {c : Ctx} {f : Frame} {fs : List Frame} {v : Value} {u : SummaryId} →
       Runs app lists has w site c f fs → (r : RowAt app lists (node_of c f) u) → has (Uses (node_of c f) u) →
-      Library_call app lists w f (places_of r) r.at.proto.ret r.row new v → LibraryKnown new c f fs v
+      CallsLibrary app lists w f (places_of r) r.at.proto.ret r.row new v → LibraryKnown new c f fs v
   known_row {w} {new} {site} {c} {f} {fs} {v} {u} known r uses call =
       known_after known r uses call (result_later w site c f fs known u r uses shared handed_before refl call.results)
     where
@@ -385,7 +385,7 @@ module _ (app : App) (lists : Lists) (has : Row → Type 0) (closed : Closed app
       handed_before p h = handed_first p ((call.handed p).0 h)
 
   pub known_library : {w new : World} {site : ℕ → Site} {c : Ctx} {f : Frame} {fs : List Frame} {kind : CallKind} {at : MethodRef} {args : List ℕ} {row : Summary} {v : Value} →
-      Runs app lists has w site c f fs → ActAt app f.method f.pc (Call kind at args) → Uses_row app lists w.heap f kind at args row →
-      Library_call app lists w f (positions kind at args) at.proto.ret row new v → LibraryKnown new c f fs v
+      Runs app lists has w site c f fs → ActAt app f.method f.pc (Call kind at args) → UsesRow app lists w.heap f kind at args row →
+      CallsLibrary app lists w f (positions kind at args) at.proto.ret row new v → LibraryKnown new c f fs v
   known_library {kind = kind} {at = at} {args = args} {row = row} known act used call =
       known_row known (record { kind = kind; at = at; args = args; row = row; act = act; is_row = used.is_row }) (looked_up known act used.goes refl (finds_row used.is_key used.is_row used.plain)) call

@@ -14,7 +14,7 @@ use Rattle.app_machine.specs.Summaries.{library_key, summary, row_walk, library_
 use Rattle.app_machine.specs.Heap.{Value, Object, blank, EntryAt, Reaches, entry_of}
 use Rattle.app_machine.specs.State.{result_register, write, Arrival, World, Frame, object_at}
 use Rattle.app_machine.specs.Calls.{by_name}
-use Rattle.app_machine.specs.Library.{positions, value_at, AtSink, all_there, of_void, Library_call}
+use Rattle.app_machine.specs.Library.{positions, value_at, AtSink, all_there, of_void, CallsLibrary}
 use Rattle.app_machine.specs.Run.{Run, calls_library, then}
 use Rattle.machine_witness.specs.Apps.{device_class, net_class, post, small_lists, step}
 use Rattle.machine_witness.specs.Acts.{field_key}
@@ -91,7 +91,7 @@ module _ (f : Frame) (x p : ℕ) (heap : List Object) (k : KeyId) (object : f.re
   handed_place q (suc at) e = absurd (none-some q e)
 
   call_post : (app : App) (lists : Lists) (w : World) → w.heap ≡ heap →
-      Library_call app lists w f (x ∷ []) post.proto.ret post_row (record w { arrivals = arrival_at f ∷ w.arrivals; handed = p ∷ w.handed }) blank
+      CallsLibrary app lists w f (x ∷ []) post.proto.ret post_row (record w { arrivals = arrival_at f ∷ w.arrivals; handed = p ∷ w.handed }) blank
   unfolding is_void
   call_post app lists w same = record {
     with_shared = w.heap;
@@ -123,7 +123,7 @@ by_post_of_object : {app : App} {lists : Lists} {w : World} {f : Frame} {fs : Li
     Run app lists (record w { arrivals = arrival_at f ∷ w.arrivals; handed = p ∷ w.handed }) (record f { pc = to; registers = write f.registers result_register blank } ∷ fs)
 by_post_of_object {app} {lists} {w} {f} run known x p to k e object entry alone =
     then run (calls_library (act_of _ e) (next_of _ e (inl refl)) (known.post_used w.heap f x)
-    (subst (λ places. Library_call app lists w f places post.proto.ret post_row (record w { arrivals = arrival_at f ∷ w.arrivals; handed = p ∷ w.handed }) blank) (sym (one_position x)) (call_post f x p w.heap k object entry alone app lists w refl)))
+    (subst (λ places. CallsLibrary app lists w f places post.proto.ret post_row (record w { arrivals = arrival_at f ∷ w.arrivals; handed = p ∷ w.handed }) blank) (sym (one_position x)) (call_post f x p w.heap k object entry alone app lists w refl)))
 
 one_entry : (j : KeyId) (v : Value) → In {A = KeyId × Value} (j, v) ((field_key, the_label) ∷ []) → v ≡ the_label
 one_entry j v (inl same) = ap (λ (e : KeyId × Value). e.1) same

@@ -13,7 +13,7 @@ use Rattle.app_machine.specs.declared.app.App.{App}
 use Rattle.vet_base.specs.Members.{In, IsAt}
 use Rattle.app_machine.specs.Names.{Name}
 use Rattle.app_machine.specs.Heap.{ClassAt}
-use Rattle.app_machine.specs.State.{World, Component_state, object_at, new_object}
+use Rattle.app_machine.specs.State.{World, ComponentState, object_at, new_object}
 use Rattle.app_machine.specs.LifeEvents.{LifeEvent}
 use Rattle.app_machine.specs.Events.{IsApplication, MayBegin, set_component, after_event, LifeEventAt, HandedAt, Comes, lives, is_born, calls_back, is_clicked, is_handed, MayInitialise}
 use Rattle.fact_rows.specs.declared.context.Ctx.{Ctx}
@@ -39,7 +39,7 @@ test_fails : (a b : ℕ) → IsFalse (a == b) → a ≢ b
 test_fails a b fails same = let passes : (a == b) ≡ true = eq-eqb a b same in cc
 
 -- a change of one component, by that one and the others
-pub changed_component : (P : ℕ → Component_state → Type 0) (components : ℕ → Component_state) (c : ℕ) (s : Component_state) → P c s →
+pub changed_component : (P : ℕ → ComponentState → Type 0) (components : ℕ → ComponentState) (c : ℕ) (s : ComponentState) → P c s →
     ((d : ℕ) → d ≢ c → P d (components d)) → (d : ℕ) → P d (set_component components c s d)
 changed_component P components c s new old d = go (d == c) refl
   where

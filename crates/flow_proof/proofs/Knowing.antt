@@ -13,7 +13,7 @@ use Rattle.app_machine.specs.declared.lists.Lists.{Lists}
 use Rattle.vet_base.specs.Members.{In}
 use Rattle.app_machine.specs.Lookups.{ActAt}
 use Rattle.app_machine.specs.Heap.{Value, Object}
-use Rattle.app_machine.specs.State.{holds, write, write_all, shared_static, Arrival, Component_state, World, Frame, object_at}
+use Rattle.app_machine.specs.State.{holds, write, write_all, shared_static, Arrival, ComponentState, World, Frame, object_at}
 use Rattle.fact_rows.specs.declared.context.Ctx.{Ctx}
 use Rattle.fact_rows.specs.declared.context.Activation.{Activation}
 use Rattle.fact_rows.specs.declared.context.Node.{Node}
@@ -76,7 +76,7 @@ pub record HandedFits (has : Row → Type 0) (heap : List Object) (site : ℕ �
   pub row : has (Handed of)
   pub fits : Fits heap site (object_at (Some p)) (λ s. s ≡ of) (λ q l. has (HandedTaint of q l))
 
-abbrev pub ComponentFits : (Row → Type 0) → List Object → (ℕ → Site) → ℕ → Component_state → Type 0
+abbrev pub ComponentFits : (Row → Type 0) → List Object → (ℕ → Site) → ℕ → ComponentState → Type 0
 ComponentFits has heap site c s = Fits heap site (object_at s.place) (λ x. x ≡ Component c) (λ q l. has (CompTaint c s.state q l))
 
 -- an arrival has its row, in some context
@@ -93,12 +93,12 @@ pub record WorldFits (app : App) (lists : Lists) (has : Row → Type 0) (w : Wor
   pub handed : (p : ℕ) → In p w.handed → HandedFits has w.heap site p
 
 -- an effect of the activation on a component comes to it in its present state
-abbrev pub Owns : (Row → Type 0) → Activation → (ℕ → Component_state) → Type 0
+abbrev pub Owns : (Row → Type 0) → Activation → (ℕ → ComponentState) → Type 0
 Owns has bottom components =
     (c : ℕ) → (components c).state ≢ 0 → (q : Path) (l : ℕ) → has (MethodEffect bottom (Component c) q l) → has (CompTaint c (components c).state q l)
 
 -- the activation that the event began
-pub record EventOf (has : Row → Type 0) (components : ℕ → Component_state) : Type 0 where
+pub record EventOf (has : Row → Type 0) (components : ℕ → ComponentState) : Type 0 where
   pub bottom : Activation
   pub is_event : IsEvent bottom.ctx
   pub owns : Owns has bottom components

@@ -10,7 +10,7 @@ use Rattle.vet_base.specs.Members.{In, IsAt}
 use Rattle.app_machine.specs.Names.{Name}
 use Rattle.app_machine.specs.Lookups.{Goes}
 use Rattle.app_machine.specs.Heap.{Value, Object, blank}
-use Rattle.app_machine.specs.State.{result_register, Component_state, World, Frame}
+use Rattle.app_machine.specs.State.{result_register, ComponentState, World, Frame}
 use Rattle.app_machine.specs.Library.{value_at, result_shared, shared_class}
 use Rattle.fact_rows.specs.declared.context.Ctx.{Ctx}
 use Rattle.fact_rows.specs.declared.context.Activation.{Activation}
@@ -38,7 +38,7 @@ pub waits_at : {app : App} {has : Row → Type 0} {bottom : Activation} {new old
     new ≡ old → Waits app has bottom old site b i fs → Waits app has bottom new site b i fs
 waits_at e h = rw e h
 
-pub owns_at : (has : Row → Type 0) (bottom : Activation) (new old : ℕ → Component_state) → new ≡ old → Owns has bottom old → Owns has bottom new
+pub owns_at : (has : Row → Type 0) (bottom : Activation) (new old : ℕ → ComponentState) → new ≡ old → Owns has bottom old → Owns has bottom new
 owns_at has bottom new old e h = rw e h
 
 -- the value of a position is that of its register, or a blank

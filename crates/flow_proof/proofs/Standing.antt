@@ -8,7 +8,7 @@ use Rattle.app_machine.specs.declared.lists.Lists.{Lists}
 use Rattle.app_machine.specs.declared.app.App.{App}
 use Rattle.app_machine.specs.Lookups.{Target, Body, ActAt, IsNative}
 use Rattle.app_machine.specs.State.{World, Frame}
-use Rattle.app_machine.specs.Calls.{Calls_to, by_name, by_nothing, by_class}
+use Rattle.app_machine.specs.Calls.{CallsTo, by_name, by_nothing, by_class}
 use Rattle.app_machine.specs.Safe.{native, Stands, native_call, without_row, at_reflection, native_initialiser, native_event, native_class}
 use Rattle.fact_rows.specs.declared.context.Ctx.{Ctx}
 use Rattle.fact_rows.specs.declared.context.Ctx.TheVariants as ctx
@@ -29,7 +29,7 @@ use Rattle.flow_proof.proofs.Eventing.{came, initialiser_rows}
 module _ (app : App) (lists : Lists) (has : Row → Type 0) (closed : Closed app lists has) (laws : PathLaws) (starts : (row : Row) → Starts app row → has row) where
   -- a call of a native body
   at_native : {w : World} {site : ℕ → Site} {c : Ctx} {f : Frame} {fs : List Frame} {kind : CallKind} {at : MethodRef} {args : List ℕ} {t : Target} {body : ℕ} →
-      Runs app lists has w site c f fs → ActAt app f.method f.pc (Call kind at args) → Calls_to app w.heap f kind at args t → t ≡ Body body →
+      Runs app lists has w site c f fs → ActAt app f.method f.pc (Call kind at args) → CallsTo app w.heap f kind at args t → t ≡ Body body →
       IsNative app body → has (Unknown (node_of c f) native)
   at_native {c = c} {f = f} known act (by_name plain is_target) same is =
       cal app lists has closed laws (enter_direct {n = node_of c f} act plain (is_target ∙ same) (is_native is)) (known.reached, tt)

@@ -9,7 +9,7 @@ use Rattle.app_machine.specs.Names.{initialiser_name, initialiser_proto}
 use Rattle.app_machine.specs.Summaries.{listed_static, static_source}
 use Rattle.app_machine.specs.Heap.{Object, entry_of}
 use Rattle.app_machine.specs.State.{World, Frame}
-use Rattle.app_machine.specs.Calls.{Calls_to, by_name}
+use Rattle.app_machine.specs.Calls.{CallsTo, by_name}
 use Rattle.app_machine.specs.Run.{Run}
 use Rattle.machine_witness.specs.Apps.{step}
 use Rattle.machine_witness.specs.Acts.{field_key, ints}
@@ -52,7 +52,7 @@ result_code : HasCode (activity_of by_result) 1 (helper read_id (with_id (step 2
 unfolding activity_of
 result_code = record { there = refl; code = refl }
 
-result_called : (heap : List Object) (f : Frame) → Calls_to (activity_of by_result) heap f Static read_id [] (Body 1)
+result_called : (heap : List Object) (f : Frame) → CallsTo (activity_of by_result) heap f Static read_id [] (Body 1)
 unfolding activity_of target find_body up method_of class_named is_by_receiver
 result_called heap f = by_name refl refl
 
@@ -68,7 +68,7 @@ exception_code : HasCode (activity_of by_exception) 1 (helper read_id (with_id (
 unfolding activity_of
 exception_code = record { there = refl; code = refl }
 
-exception_called : (heap : List Object) (f : Frame) → Calls_to (activity_of by_exception) heap f Static read_id [] (Body 1)
+exception_called : (heap : List Object) (f : Frame) → CallsTo (activity_of by_exception) heap f Static read_id [] (Body 1)
 unfolding activity_of target find_body up method_of class_named is_by_receiver
 exception_called heap f = by_name refl refl
 

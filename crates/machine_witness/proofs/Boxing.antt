@@ -13,7 +13,7 @@ use Rattle.app_machine.specs.Summaries.{library_key, summary, row_walk, library_
 use Rattle.app_machine.specs.Heap.{Value, Object, blank, EntryAt, ClassAt, put_at, entry_of}
 use Rattle.app_machine.specs.State.{result_register, exception_register, write, shared_static, World, Frame, object_at, new_object}
 use Rattle.app_machine.specs.Calls.{by_name, by_class, is_caught}
-use Rattle.app_machine.specs.Library.{positions, value_at, Hands, all_there, is_there, is_made, shared_class, of_void, as_taken, as_shared, Adds, by_put, by_store, by_copy, Library_call, Uses_row}
+use Rattle.app_machine.specs.Library.{positions, value_at, Hands, all_there, is_there, is_made, shared_class, of_void, as_taken, as_shared, Adds, by_put, by_store, by_copy, CallsLibrary, UsesRow}
 use Rattle.app_machine.specs.Run.{Run, calls_library, library_raises, then}
 use Rattle.machine_witness.specs.Apps.{step}
 use Rattle.machine_witness.specs.Flows.{box_lists, box_class, store_class, own_box, add, pour, keep, open_store, first, add_row, pour_row, keep_row, open_row, first_row, Scene, activity_of}
@@ -22,24 +22,24 @@ use Rattle.machine_witness.proofs.Flowing.{same_arrivals, no_adds, the_label}
 use Rattle.std.proofs.lemmas.Option.{none-some}
 
 module _ (s : Scene) where
-  pub add_used : (heap : List Object) (f : Frame) (b x : ℕ) → Uses_row (activity_of s) box_lists heap f Static add (b ∷ x ∷ []) add_row
+  pub add_used : (heap : List Object) (f : Frame) (b x : ℕ) → UsesRow (activity_of s) box_lists heap f Static add (b ∷ x ∷ []) add_row
   unfolding activity_of box_lists target find_body up method_of is_by_receiver library_key summary row_walk library_classes class_named listed_above listed_class row_of is_array
   add_used heap f b x = record { class = box_class; goes = by_name refl refl; key = Row 2; is_key = refl; is_row = refl; plain = refl }
 
-  pub pour_used : (heap : List Object) (f : Frame) (a b : ℕ) → Uses_row (activity_of s) box_lists heap f Static pour (a ∷ b ∷ []) pour_row
+  pub pour_used : (heap : List Object) (f : Frame) (a b : ℕ) → UsesRow (activity_of s) box_lists heap f Static pour (a ∷ b ∷ []) pour_row
   unfolding activity_of box_lists target find_body up method_of is_by_receiver library_key summary row_walk library_classes class_named listed_above listed_class row_of is_array
   pour_used heap f a b = record { class = box_class; goes = by_name refl refl; key = Row 3; is_key = refl; is_row = refl; plain = refl }
 
-  pub keep_used : (heap : List Object) (f : Frame) (x : ℕ) → Uses_row (activity_of s) box_lists heap f Static keep (x ∷ []) keep_row
+  pub keep_used : (heap : List Object) (f : Frame) (x : ℕ) → UsesRow (activity_of s) box_lists heap f Static keep (x ∷ []) keep_row
   unfolding activity_of box_lists target find_body up method_of is_by_receiver library_key summary row_walk library_classes class_named listed_above listed_class row_of is_array
   keep_used heap f x = record { class = store_class; goes = by_name refl refl; key = Row 4; is_key = refl; is_row = refl; plain = refl }
 
-  pub open_used : (heap : List Object) (f : Frame) → Uses_row (activity_of s) box_lists heap f Static open_store [] open_row
+  pub open_used : (heap : List Object) (f : Frame) → UsesRow (activity_of s) box_lists heap f Static open_store [] open_row
   unfolding activity_of box_lists target find_body up method_of is_by_receiver library_key summary row_walk library_classes class_named listed_above listed_class row_of is_array
   open_used heap f = record { class = store_class; goes = by_name refl refl; key = Row 5; is_key = refl; is_row = refl; plain = refl }
 
   -- on a box of the app's own, of whose class the app has no such method
-  pub first_used : {p : ℕ} (heap : List Object) (f : Frame) (b : ℕ) → find_body (activity_of s) own_box first.name first.proto ≡ None → (f.registers b).place ≡ Some p → ClassAt heap p own_box → Uses_row (activity_of s) box_lists heap f Virtual first (b ∷ []) first_row
+  pub first_used : {p : ℕ} (heap : List Object) (f : Frame) (b : ℕ) → find_body (activity_of s) own_box first.name first.proto ≡ None → (f.registers b).place ≡ Some p → ClassAt heap p own_box → UsesRow (activity_of s) box_lists heap f Virtual first (b ∷ []) first_row
   unfolding activity_of box_lists target is_by_receiver library_key summary row_walk library_classes class_named listed_above listed_class row_of is_array
   first_used heap f b bare place class = record { class = box_class; goes = by_class own_box refl (record { there = refl }) place class (ap (λ x. body_or x (Library box_class)) bare); key = Row 6; is_key = refl; is_row = refl; plain = refl }
 
@@ -99,7 +99,7 @@ module _ (f : Frame) (b x p : ℕ) (box : f.registers b ≡ object_at (Some p)) 
   abbrev pub after_add : World → World
   after_add w = record w { heap = put_at w.heap p elem_key (f.registers x); handed = p ∷ w.handed }
 
-  call_add : (app : App) (w : World) → Library_call app box_lists w f (b ∷ x ∷ []) add.proto.ret add_row (after_add w) blank
+  call_add : (app : App) (w : World) → CallsLibrary app box_lists w f (b ∷ x ∷ []) add.proto.ret add_row (after_add w) blank
   unfolding is_void
   call_add app w = record {
     with_shared = w.heap;
@@ -114,8 +114,8 @@ module _ (f : Frame) (b x p : ℕ) (box : f.registers b ≡ object_at (Some p)) 
     components = refl;
   }
 
-  pub add_call : (app : App) (w : World) → Library_call app box_lists w f (positions Static add (b ∷ x ∷ [])) add.proto.ret add_row (after_add w) blank
-  add_call app w = subst (λ places. Library_call app box_lists w f places add.proto.ret add_row (after_add w) blank) (sym (add_positions b x)) (call_add app w)
+  pub add_call : (app : App) (w : World) → CallsLibrary app box_lists w f (positions Static add (b ∷ x ∷ [])) add.proto.ret add_row (after_add w) blank
+  add_call app w = subst (λ places. CallsLibrary app box_lists w f places add.proto.ret add_row (after_add w) blank) (sym (add_positions b x)) (call_add app w)
 
 -- The element of the one box becomes one of the other, and both are handed.
 module _ (f : Frame) (a b p q : ℕ) (from : f.registers a ≡ object_at (Some p)) (to : f.registers b ≡ object_at (Some q)) where
@@ -147,7 +147,7 @@ module _ (f : Frame) (a b p q : ℕ) (from : f.registers a ≡ object_at (Some p
     abbrev pub after_pour : World → World
     after_pour w = record w { heap = put_at heap q elem_key v; handed = p ∷ q ∷ w.handed }
 
-    call_pour : (app : App) (w : World) → w.heap ≡ heap → Library_call app box_lists w f (a ∷ b ∷ []) pour.proto.ret pour_row (after_pour w) blank
+    call_pour : (app : App) (w : World) → w.heap ≡ heap → CallsLibrary app box_lists w f (a ∷ b ∷ []) pour.proto.ret pour_row (after_pour w) blank
     unfolding is_void
     call_pour app w same = record {
       with_shared = w.heap;
@@ -169,8 +169,8 @@ module _ (f : Frame) (a b p q : ℕ) (from : f.registers a ≡ object_at (Some p
       components = refl;
     }
 
-    pub pour_call : (app : App) (w : World) → w.heap ≡ heap → Library_call app box_lists w f (positions Static pour (a ∷ b ∷ [])) pour.proto.ret pour_row (after_pour w) blank
-    pour_call app w same = subst (λ places. Library_call app box_lists w f places pour.proto.ret pour_row (after_pour w) blank) (sym (pour_positions a b)) (call_pour app w same)
+    pub pour_call : (app : App) (w : World) → w.heap ≡ heap → CallsLibrary app box_lists w f (positions Static pour (a ∷ b ∷ [])) pour.proto.ret pour_row (after_pour w) blank
+    pour_call app w same = subst (λ places. CallsLibrary app box_lists w f places pour.proto.ret pour_row (after_pour w) blank) (sym (pour_positions a b)) (call_pour app w same)
 
 -- The label becomes an element of the shared store, which is made.
 module _ (f : Frame) (x : ℕ) (label : f.registers x ≡ the_label) where
@@ -185,7 +185,7 @@ module _ (f : Frame) (x : ℕ) (label : f.registers x ≡ the_label) where
   after_keep app w = record w { heap = put_at (w.heap ++ new_object store_class ∷ []) (length w.heap) elem_key (f.registers x); statics = write w.statics (shared_static app 0) (object_at (Some (length w.heap))) }
 
   call_keep : (app : App) (w : World) → (w.statics (shared_static app 0)).place ≡ None → (write w.statics (shared_static app 0) (object_at (Some (length w.heap))) (shared_static app 0)).place ≡ Some (length w.heap)
-      → Library_call app box_lists w f (x ∷ []) keep.proto.ret keep_row (after_keep app w) blank
+      → CallsLibrary app box_lists w f (x ∷ []) keep.proto.ret keep_row (after_keep app w) blank
   unfolding is_void
   call_keep app w missing made = record {
     with_shared = w.heap ++ new_object store_class ∷ [];
@@ -221,11 +221,11 @@ module _ (f : Frame) (x : ℕ) (label : f.registers x ≡ the_label) where
       back a (by_copy i j q none source found there) = absurd none
 
   pub keep_call : (app : App) (w : World) → (w.statics (shared_static app 0)).place ≡ None → (write w.statics (shared_static app 0) (object_at (Some (length w.heap))) (shared_static app 0)).place ≡ Some (length w.heap)
-      → Library_call app box_lists w f (positions Static keep (x ∷ [])) keep.proto.ret keep_row (after_keep app w) blank
-  keep_call app w missing made = subst (λ places. Library_call app box_lists w f places keep.proto.ret keep_row (after_keep app w) blank) (sym (keep_positions x)) (call_keep app w missing made)
+      → CallsLibrary app box_lists w f (positions Static keep (x ∷ [])) keep.proto.ret keep_row (after_keep app w) blank
+  keep_call app w missing made = subst (λ places. CallsLibrary app box_lists w f places keep.proto.ret keep_row (after_keep app w) blank) (sym (keep_positions x)) (call_keep app w missing made)
 
 -- The store that is there is given.
-call_open : (app : App) (w : World) (f : Frame) (p : ℕ) → (w.statics (shared_static app 0)).place ≡ Some p → Library_call app box_lists w f [] open_store.proto.ret open_row w (w.statics (shared_static app 0))
+call_open : (app : App) (w : World) (f : Frame) (p : ℕ) → (w.statics (shared_static app 0)).place ≡ Some p → CallsLibrary app box_lists w f [] open_store.proto.ret open_row w (w.statics (shared_static app 0))
 unfolding is_void
 call_open app w f p there = record {
   with_shared = w.heap;
@@ -240,12 +240,12 @@ call_open app w f p there = record {
   components = refl;
 }
 
-pub open_call : (app : App) (w : World) (f : Frame) (p : ℕ) → (w.statics (shared_static app 0)).place ≡ Some p → Library_call app box_lists w f (positions Static open_store []) open_store.proto.ret open_row w (w.statics (shared_static app 0))
-open_call app w f p there = subst (λ places. Library_call app box_lists w f places open_store.proto.ret open_row w (w.statics (shared_static app 0))) (sym open_positions) (call_open app w f p there)
+pub open_call : (app : App) (w : World) (f : Frame) (p : ℕ) → (w.statics (shared_static app 0)).place ≡ Some p → CallsLibrary app box_lists w f (positions Static open_store []) open_store.proto.ret open_row w (w.statics (shared_static app 0))
+open_call app w f p there = subst (λ places. CallsLibrary app box_lists w f places open_store.proto.ret open_row w (w.statics (shared_static app 0))) (sym open_positions) (call_open app w f p there)
 
 -- An element of the box is given, and the box is handed.
 module _ (f : Frame) (b p : ℕ) (box : f.registers b ≡ object_at (Some p)) where
-  call_first : (app : App) (w : World) (v : Value) → EntryAt w.heap p elem_key v → Library_call app box_lists w f (b ∷ []) first.proto.ret first_row (record w { handed = p ∷ w.handed }) v
+  call_first : (app : App) (w : World) (v : Value) → EntryAt w.heap p elem_key v → CallsLibrary app box_lists w f (b ∷ []) first.proto.ret first_row (record w { handed = p ∷ w.handed }) v
   unfolding is_void
   call_first app w v there = record {
     with_shared = w.heap;
@@ -264,8 +264,8 @@ module _ (f : Frame) (b p : ℕ) (box : f.registers b ≡ object_at (Some p)) wh
       the_box q zero e = placed box e
       the_box q (suc at) e = absurd (none-some q e)
 
-  pub first_call : (app : App) (w : World) (v : Value) → EntryAt w.heap p elem_key v → Library_call app box_lists w f (positions Virtual first (b ∷ [])) first.proto.ret first_row (record w { handed = p ∷ w.handed }) v
-  first_call app w v there = subst (λ places. Library_call app box_lists w f places first.proto.ret first_row (record w { handed = p ∷ w.handed }) v) (sym (first_positions b)) (call_first app w v there)
+  pub first_call : (app : App) (w : World) (v : Value) → EntryAt w.heap p elem_key v → CallsLibrary app box_lists w f (positions Virtual first (b ∷ [])) first.proto.ret first_row (record w { handed = p ∷ w.handed }) v
+  first_call app w v there = subst (λ places. CallsLibrary app box_lists w f places first.proto.ret first_row (record w { handed = p ∷ w.handed }) v) (sym (first_positions b)) (call_first app w v there)
 
 -- How a run goes on by these calls.
 module _ (s : Scene) {w : World} {f : Frame} {fs : List Frame} (run : Run (activity_of s) box_lists w (f ∷ fs)) where

@@ -19,8 +19,8 @@ use Rattle.app_machine.specs.Summaries.{library_key, summary, row_walk, library_
 use Rattle.app_machine.specs.Heap.{Value, Object, blank, Reaches}
 use Rattle.app_machine.specs.State.{Arrival, World, Frame, write_all}
 use Rattle.app_machine.specs.Local.{Local, skips, goes, blanks, moves, takes_result, takes_exception, joins, makes, fills, gets, puts, gets_static, puts_static}
-use Rattle.app_machine.specs.Calls.{Calls_to, by_name, by_nothing, by_class, Raises, is_caught, unwinds, ends_event}
-use Rattle.app_machine.specs.Library.{positions, value_at, AtSink, Library_call, Uses_row}
+use Rattle.app_machine.specs.Calls.{CallsTo, by_name, by_nothing, by_class, Raises, is_caught, unwinds, ends_event}
+use Rattle.app_machine.specs.Library.{positions, value_at, AtSink, CallsLibrary, UsesRow}
 use Rattle.app_machine.specs.Events.{Comes, lives, is_born, calls_back, is_clicked, is_handed}
 use Rattle.app_machine.specs.Run.{Steps, goes_on, raises, throws, calls, calls_library, library_raises, initialises, ends, passes, begins, begins_initialiser, Run, starts, then}
 use Rattle.machine_witness.specs.Apps.{device_class, net_class, id, post, step, clear_steps, clear_app, small_lists, ClearSiblingNeverArrives}
@@ -130,15 +130,15 @@ unfolding is_by_receiver
 static_is_plain = refl
 
 -- what a static call comes to
-plain_target : {heap : List Object} {f : Frame} {at : MethodRef} {args : List ℕ} {t : Target} → Calls_to clear_app heap f Static at args t → target clear_app Static f.method at None ≡ t
+plain_target : {heap : List Object} {f : Frame} {at : MethodRef} {args : List ℕ} {t : Target} → CallsTo clear_app heap f Static at args t → target clear_app Static f.method at None ≡ t
 plain_target (by_name plain to) = to
 plain_target (by_nothing virtual none to) = to
 plain_target (by_class class virtual first there of_class to) = let plain = static_is_plain in let none : ⊥ = cc in absurd none
 
-no_body_called : {heap : List Object} {f : Frame} {kind : CallKind} {at : MethodRef} {args : List ℕ} {body : ℕ} → f.method ≡ 0 → TheCall f.pc kind at args → Calls_to clear_app heap f kind at args (Body body) → ⊥
+no_body_called : {heap : List Object} {f : Frame} {kind : CallKind} {at : MethodRef} {args : List ℕ} {body : ℕ} → f.method ≡ 0 → TheCall f.pc kind at args → CallsTo clear_app heap f kind at args (Body body) → ⊥
 no_body_called {f = f} in_method call called = by call called
   where
-    by : {pc : ℕ} {kind : CallKind} {at : MethodRef} {args : List ℕ} {body : ℕ} {heap : List Object} → TheCall pc kind at args → Calls_to clear_app heap f kind at args (Body body) → ⊥
+    by : {pc : ℕ} {kind : CallKind} {at : MethodRef} {args : List ℕ} {body : ℕ} {heap : List Object} → TheCall pc kind at args → CallsTo clear_app heap f kind at args (Body body) → ⊥
     by {body = body} the_source called = let to : target clear_app Static 0 id None ≡ Body body = subst (λ m. target clear_app Static m id None ≡ Body body) in_method (plain_target called) in let found = source_target in let none : ⊥ = cc in none
     by {body = body} the_sink called = let to : target clear_app Static 0 post None ≡ Body body = subst (λ m. target clear_app Static m post None ≡ Body body) in_method (plain_target called) in let found = sink_target in let none : ⊥ = cc in none
 
@@ -151,7 +151,7 @@ unfolding small_lists summary
 source_summary = refl
 
 -- the row of the source is no sink
-source_is_no_sink : {heap : List Object} {f : Frame} {row : Summary} → f.method ≡ 0 → Uses_row clear_app small_lists heap f Static id [] row → row.sink ≡ None
+source_is_no_sink : {heap : List Object} {f : Frame} {row : Summary} → f.method ≡ 0 → UsesRow clear_app small_lists heap f Static id [] row → row.sink ≡ None
 source_is_no_sink {f = f} {row = row} in_method u =
     let to = subst (λ m. target clear_app Static m id None ≡ Library u.class) in_method (plain_target u.goes) in
     let found = source_target in
@@ -184,10 +184,10 @@ abbrev NothingArrived : World → Type 0
 NothingArrived w = (a : Arrival) → In a w.arrivals → ⊥
 
 -- no call of the app brings a label to a sink
-nothing_arrives : {w new : World} {f : Frame} {kind : CallKind} {at : MethodRef} {args : List ℕ} {row : Summary} {result : Value} → f.method ≡ 0 → (f.pc ≡ 5 → f.registers 0 ≡ blank) → TheCall f.pc kind at args → Uses_row clear_app small_lists w.heap f kind at args row → NothingArrived w → Library_call clear_app small_lists w f (positions kind at args) at.proto.ret row new result → NothingArrived new
+nothing_arrives : {w new : World} {f : Frame} {kind : CallKind} {at : MethodRef} {args : List ℕ} {row : Summary} {result : Value} → f.method ≡ 0 → (f.pc ≡ 5 → f.registers 0 ≡ blank) → TheCall f.pc kind at args → UsesRow clear_app small_lists w.heap f kind at args row → NothingArrived w → CallsLibrary clear_app small_lists w f (positions kind at args) at.proto.ret row new result → NothingArrived new
 nothing_arrives {w} {new} {f} {row = row} in_method quiet call u before c = λ a h. elim ((c.arrivals a).0 h) [ inl old ↦ before a old | inr s ↦ by call refl u a s ]
   where
-    by : {pc : ℕ} {kind : CallKind} {at : MethodRef} {args : List ℕ} → TheCall pc kind at args → f.pc ≡ pc → Uses_row clear_app small_lists w.heap f kind at args row → (a : Arrival) → AtSink w.heap f (positions kind at args) row a → ⊥
+    by : {pc : ℕ} {kind : CallKind} {at : MethodRef} {args : List ℕ} → TheCall pc kind at args → f.pc ≡ pc → UsesRow clear_app small_lists w.heap f kind at args row → (a : Arrival) → AtSink w.heap f (positions kind at args) row a → ⊥
     by the_source e u a s = let none = source_is_no_sink in_method u in let some = s.is_sink.1 in let absurd_sink : ⊥ = cc in absurd_sink
     by the_sink e u a s = nothing_at_sink (quiet e) a (subst (λ places. AtSink w.heap f places row a) sink_positions s)
 

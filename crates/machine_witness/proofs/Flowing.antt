@@ -18,8 +18,8 @@ use Rattle.app_machine.specs.Summaries.{static_source, library_key, summary, row
 use Rattle.app_machine.specs.Heap.{Value, Object, blank, labelled, Reaches, put_to, Gets}
 use Rattle.app_machine.specs.State.{result_register, exception_register, write, write_all, Arrival, World, Frame, object_at, new_object}
 use Rattle.app_machine.specs.Local.{blanks, takes_result, takes_exception, joins, makes, fills, gets, puts, gets_static, puts_static}
-use Rattle.app_machine.specs.Calls.{Calls_to, by_name, is_caught, unwinds}
-use Rattle.app_machine.specs.Library.{positions, value_at, AtSink, all_there, of_void, as_labels, Joins, Adds, by_put, by_store, by_copy, Library_call, Uses_row}
+use Rattle.app_machine.specs.Calls.{CallsTo, by_name, is_caught, unwinds}
+use Rattle.app_machine.specs.Library.{positions, value_at, AtSink, all_there, of_void, as_labels, Joins, Adds, by_put, by_store, by_copy, CallsLibrary, UsesRow}
 use Rattle.app_machine.specs.Run.{Run, frame_of, goes_on, throws, calls, calls_library, returns, initialises, has_initialised, ends, then}
 use Rattle.machine_witness.specs.Apps.{device_class, net_class, id, post, step}
 use Rattle.machine_witness.specs.Flows.{box_lists, id_row, post_row, Scene, activity_of}
@@ -73,7 +73,7 @@ module _ {app : App} {lists : Lists} {w : World} {f : Frame} {fs : List Frame} (
   by_fill x class to e = then run (goes_on (fills ((elem_key, f.registers x) ∷ []) (act_of _ e) (next_of _ e (inl refl)) (elements f x)))
 
   -- a method of the app without arguments is entered, and an initialiser
-  pub by_call : (s : Step) (at : MethodRef) (body : ℕ) (m : Method) → step_at app f.method f.pc ≡ Some s → s.act ≡ Call Static at [] → Calls_to app w.heap f Static at [] (Body body) → HasCode app body m
+  pub by_call : (s : Step) (at : MethodRef) (body : ℕ) (m : Method) → step_at app f.method f.pc ≡ Some s → s.act ≡ Call Static at [] → CallsTo app w.heap f Static at [] (Body body) → HasCode app body m
       → Run app lists w (frame_of body m [] false ∷ f ∷ fs)
   by_call s at body m e same to code = then run (calls (record { step = s; there = e; same = same }) to code)
 
@@ -111,8 +111,8 @@ no_adds no_puts no_stores no_copies (by_copy i j q h source found there) = subst
 
 -- The calls of the source and of the sink, in an app that has neither class.
 pub record Knows (app : App) (lists : Lists) : Type 0 where
-  pub id_used : (heap : List Object) (f : Frame) → Uses_row app lists heap f Static id [] id_row
-  pub post_used : (heap : List Object) (f : Frame) (x : ℕ) → Uses_row app lists heap f Static post (x ∷ []) post_row
+  pub id_used : (heap : List Object) (f : Frame) → UsesRow app lists heap f Static id [] id_row
+  pub post_used : (heap : List Object) (f : Frame) (x : ℕ) → UsesRow app lists heap f Static post (x ∷ []) post_row
 
 pub knows : (s : Scene) → Knows (activity_of s) box_lists
 unfolding activity_of box_lists target find_body up method_of is_by_receiver library_key summary row_walk library_classes class_named listed_above listed_class row_of is_array
@@ -124,7 +124,7 @@ knows s = record {
 abbrev pub the_label : Value
 the_label = labelled (0 ∷ [])
 
-call_id : (app : App) (lists : Lists) (w : World) (f : Frame) → Library_call app lists w f [] id.proto.ret id_row w the_label
+call_id : (app : App) (lists : Lists) (w : World) (f : Frame) → CallsLibrary app lists w f [] id.proto.ret id_row w the_label
 unfolding is_void is_reference
 call_id app lists w f = record {
   with_shared = w.heap;
@@ -189,7 +189,7 @@ module _ (f : Frame) (x : ℕ) (labels : f.registers x ≡ the_label) where
   not_handed p zero e = no_place e
   not_handed p (suc at) e = none-some p e
 
-  call_post : (app : App) (lists : Lists) (w : World) → Library_call app lists w f (x ∷ []) post.proto.ret post_row (record w { arrivals = arrival_at f ∷ w.arrivals }) blank
+  call_post : (app : App) (lists : Lists) (w : World) → CallsLibrary app lists w f (x ∷ []) post.proto.ret post_row (record w { arrivals = arrival_at f ∷ w.arrivals }) blank
   unfolding is_void
   call_post app lists w = record {
     with_shared = w.heap;
@@ -215,7 +215,7 @@ module _ (f : Frame) (x : ℕ) (empty : f.registers x ≡ blank) where
   nothing_reached heap [] l (suc at) walk = walk
   nothing_reached heap (k ∷ ks) l at walk = no_place_in walk.0 at walk.1
 
-  call_post_of_blank : (app : App) (lists : Lists) (w : World) → Library_call app lists w f (x ∷ []) post.proto.ret post_row w blank
+  call_post_of_blank : (app : App) (lists : Lists) (w : World) → CallsLibrary app lists w f (x ∷ []) post.proto.ret post_row w blank
   unfolding is_void
   call_post_of_blank app lists w = record {
     with_shared = w.heap;
@@ -233,12 +233,12 @@ module _ (f : Frame) (x : ℕ) (empty : f.registers x ≡ blank) where
 module _ {app : App} {lists : Lists} {w : World} {f : Frame} {fs : List Frame} (run : Run app lists w (f ∷ fs)) (known : Knows app lists) where
   pub by_id : (to : ℕ) → step_at app f.method f.pc ≡ Some (step f.pc (Call Static id []) (to ∷ []))
       → Run app lists w (record f { pc = to; registers = write f.registers result_register the_label } ∷ fs)
-  by_id to e = then run (calls_library (act_of _ e) (next_of _ e (inl refl)) (known.id_used w.heap f) (subst (λ places. Library_call app lists w f places id.proto.ret id_row w the_label) (sym no_positions) (call_id app lists w f)))
+  by_id to e = then run (calls_library (act_of _ e) (next_of _ e (inl refl)) (known.id_used w.heap f) (subst (λ places. CallsLibrary app lists w f places id.proto.ret id_row w the_label) (sym no_positions) (call_id app lists w f)))
 
   pub by_post : (x to : ℕ) → step_at app f.method f.pc ≡ Some (step f.pc (Call Static post (x ∷ [])) (to ∷ [])) → f.registers x ≡ the_label
       → Run app lists (record w { arrivals = arrival_at f ∷ w.arrivals }) (record f { pc = to; registers = write f.registers result_register blank } ∷ fs)
-  by_post x to e labels = then run (calls_library (act_of _ e) (next_of _ e (inl refl)) (known.post_used w.heap f x) (subst (λ places. Library_call app lists w f places post.proto.ret post_row (record w { arrivals = arrival_at f ∷ w.arrivals }) blank) (sym (one_position x)) (call_post f x labels app lists w)))
+  by_post x to e labels = then run (calls_library (act_of _ e) (next_of _ e (inl refl)) (known.post_used w.heap f x) (subst (λ places. CallsLibrary app lists w f places post.proto.ret post_row (record w { arrivals = arrival_at f ∷ w.arrivals }) blank) (sym (one_position x)) (call_post f x labels app lists w)))
 
   pub by_post_of_blank : (x to : ℕ) → step_at app f.method f.pc ≡ Some (step f.pc (Call Static post (x ∷ [])) (to ∷ [])) → f.registers x ≡ blank
       → Run app lists w (record f { pc = to; registers = write f.registers result_register blank } ∷ fs)
-  by_post_of_blank x to e empty = then run (calls_library (act_of _ e) (next_of _ e (inl refl)) (known.post_used w.heap f x) (subst (λ places. Library_call app lists w f places post.proto.ret post_row w blank) (sym (one_position x)) (call_post_of_blank f x empty app lists w)))
+  by_post_of_blank x to e empty = then run (calls_library (act_of _ e) (next_of _ e (inl refl)) (known.post_used w.heap f x) (subst (λ places. CallsLibrary app lists w f places post.proto.ret post_row w blank) (sym (one_position x)) (call_post_of_blank f x empty app lists w)))

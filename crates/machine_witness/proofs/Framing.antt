@@ -10,7 +10,7 @@ use Rattle.app_machine.specs.Names.{initialiser_name, initialiser_proto}
 use Rattle.app_machine.specs.Lookups.{Body, HasCode, Catches, Initialises, step_at, target, find_body, up, method_of, class_named, is_by_receiver, initialisers, class_initialised, initialisers_from, initialiser_of}
 use Rattle.app_machine.specs.Heap.{ClassAt}
 use Rattle.app_machine.specs.State.{World, Frame}
-use Rattle.app_machine.specs.Calls.{by_name, by_class, Calls_to, is_caught, unwinds, ends_event}
+use Rattle.app_machine.specs.Calls.{by_name, by_class, CallsTo, is_caught, unwinds, ends_event}
 use Rattle.app_machine.specs.Run.{calls, returns, ends, throws, raises, initialises, has_initialised}
 use Rattle.machine_witness.specs.Apps.{main_class, step}
 use Rattle.machine_witness.specs.Flows.{ref, void, tries}
@@ -65,11 +65,11 @@ codes_of : HasCode frames_app 0 own_initialiser × HasCode frames_app 2 pass_bod
 unfolding frames_app
 codes_of = (record { there = refl; code = refl }, record { there = refl; code = refl }, record { there = refl; code = refl })
 
-called : (w : World) (f : Frame) → Calls_to frames_app w.heap f Static pass (1 ∷ []) (Body 2)
+called : (w : World) (f : Frame) → CallsTo frames_app w.heap f Static pass (1 ∷ []) (Body 2)
 unfolding frames_app target find_body up method_of class_named is_by_receiver
 called w f = by_name refl refl
 
-called_by_class : (w : World) (f : Frame) (p : ℕ) → (f.registers 1).place ≡ Some p → ClassAt w.heap p main_class → Calls_to frames_app w.heap f Virtual turn (1 ∷ []) (Body 3)
+called_by_class : (w : World) (f : Frame) (p : ℕ) → (f.registers 1).place ≡ Some p → ClassAt w.heap p main_class → CallsTo frames_app w.heap f Virtual turn (1 ∷ []) (Body 3)
 unfolding frames_app target find_body up method_of class_named is_by_receiver
 called_by_class w f p place class = by_class main_class refl (record { there = refl }) place class refl
 

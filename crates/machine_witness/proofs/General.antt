@@ -6,7 +6,7 @@ use Rattle.vet_base.specs.declared.key_id.KeyId.{KeyId}
 use Rattle.vet_base.specs.Members.{In}
 use Rattle.app_machine.specs.Names.{Name}
 use Rattle.app_machine.specs.Heap.{Value, without, labelled, blank}
-use Rattle.app_machine.specs.State.{World, Component_state, value_or_blank}
+use Rattle.app_machine.specs.State.{World, ComponentState, value_or_blank}
 use Rattle.app_machine.specs.Calls.{is_caught, unwinds}
 use Rattle.app_machine.specs.Events.{IsApplication, Comes, lives, is_born, calls_back, is_clicked, is_handed, layout, labels_at, Parameters, no_more, one_more, Parameter, is_blank, set_component}
 use Rattle.app_machine.specs.Run.{begins, frame_of}
@@ -55,7 +55,7 @@ only_born app lists w new body place sources absent nothing (is_clicked {c = c} 
 only_born app lists w new body place sources absent nothing (is_handed {p = p} is_one of_class at) = absurd (subst (λ handed. In p handed) nothing is_one)
 
 -- a component that is not changed
-other_component : (components : ℕ → Component_state) (d : ℕ) (s : Component_state) (c : ℕ) → (components c).state ≡ 0 → (c ≡ d → ⊥) → (set_component components d s c).state ≡ 0
+other_component : (components : ℕ → ComponentState) (d : ℕ) (s : ComponentState) (c : ℕ) → (components c).state ≡ 0 → (c ≡ d → ⊥) → (set_component components d s c).state ≡ 0
 other_component components d s c absent other = go (c == d) refl
   where
     go : (b : Bool) → (c == d) ≡ b → (cond b s (components c)).state ≡ 0

@@ -17,7 +17,7 @@ use Rattle.app_machine.specs.Heap.{Value, Object, blank, labelled, Reaches}
 use Rattle.app_machine.specs.State.{result_register, write, write_all, Arrival, World, Frame, entered, object_at, new_object}
 use Rattle.app_machine.specs.Local.{takes_result}
 use Rattle.app_machine.specs.Calls.{by_name}
-use Rattle.app_machine.specs.Library.{positions, value_at, AtSink, all_there, of_void, as_labels, Adds, by_put, by_store, by_copy, Library_call, Uses_row}
+use Rattle.app_machine.specs.Library.{positions, value_at, AtSink, all_there, of_void, as_labels, Adds, by_put, by_store, by_copy, CallsLibrary, UsesRow}
 use Rattle.app_machine.specs.LifeEvents.{LifeEvent, life_events}
 use Rattle.app_machine.specs.Events.{IsApplication, LifeEventAt, lives, is_born, set_component, layout, one_more, no_more, is_blank}
 use Rattle.app_machine.specs.Run.{Steps, goes_on, calls_library, passes, no_body, begins, start_world, starts, then}
@@ -91,11 +91,11 @@ after_source : Goes leaking_app 0 0 3
 unfolding leaking_app step_at
 after_source = record { step = step 0 (Call Static id []) (3 ∷ []); there = refl; next = inl refl }
 
-uses_source : (heap : List Object) (f : Frame) → Uses_row leaking_app small_lists heap f Static id [] source_row
+uses_source : (heap : List Object) (f : Frame) → UsesRow leaking_app small_lists heap f Static id [] source_row
 unfolding leaking_app small_lists target find_body up method_of is_by_receiver library_key summary row_walk library_classes class_named listed_above listed_class row_of is_array
 uses_source heap f = record { class = device_class; goes = by_name refl refl; key = Row 0; is_key = refl; is_row = refl; plain = refl }
 
-call_source : (w : World) (f : Frame) → Library_call leaking_app small_lists w f (positions Static id []) id.proto.ret source_row w (labelled (0 ∷ []))
+call_source : (w : World) (f : Frame) → CallsLibrary leaking_app small_lists w f (positions Static id []) id.proto.ret source_row w (labelled (0 ∷ []))
 unfolding positions is_void is_reference
 call_source w f = record {
   with_shared = w.heap;
@@ -152,7 +152,7 @@ after_sink : Goes leaking_app 0 4 7
 unfolding leaking_app step_at
 after_sink = record { step = step 4 (Call Static post (0 ∷ [])) (7 ∷ []); there = refl; next = inl refl }
 
-uses_sink : (heap : List Object) (f : Frame) → Uses_row leaking_app small_lists heap f Static post (0 ∷ []) sink_row
+uses_sink : (heap : List Object) (f : Frame) → UsesRow leaking_app small_lists heap f Static post (0 ∷ []) sink_row
 unfolding leaking_app small_lists target find_body up method_of is_by_receiver library_key summary row_walk library_classes class_named listed_above listed_class row_of is_array
 uses_sink heap f = record { class = net_class; goes = by_name refl refl; key = Row 1; is_key = refl; is_row = refl; plain = refl }
 
@@ -190,7 +190,7 @@ only_arrives a s = same s.at s.is_sink s.keys s.walk
         let label : a.label ≡ 0 = the_label at (position at is list h) ks walk in
         λ i. record { label = label i; sink = sink i; method = s.method i; pc = s.pc i }
 
-call_sink : Library_call leaking_app small_lists world_created (frame_at 4 with_label) (0 ∷ []) post.proto.ret sink_row world_after blank
+call_sink : CallsLibrary leaking_app small_lists world_created (frame_at 4 with_label) (0 ∷ []) post.proto.ret sink_row world_after blank
 unfolding is_void
 call_sink = record {
   with_shared = world_created.heap;
@@ -215,7 +215,7 @@ call_sink = record {
     no_adds a (by_copy i j q h source found there) = h
 
 fifth_step : Steps leaking_app small_lists world_created (frame_at 4 with_label ∷ []) world_after (frame_at 7 (write with_label result_register blank) ∷ [])
-fifth_step = calls_library at_sink after_sink (uses_sink world_created.heap (frame_at 4 with_label)) (subst (λ places. Library_call leaking_app small_lists world_created (frame_at 4 with_label) places post.proto.ret sink_row world_after blank) (sym its_positions) call_sink)
+fifth_step = calls_library at_sink after_sink (uses_sink world_created.heap (frame_at 4 with_label)) (subst (λ places. CallsLibrary leaking_app small_lists world_created (frame_at 4 with_label) places post.proto.ret sink_row world_after blank) (sym its_positions) call_sink)
 
 pub leaks : Leaks
 leaks = record {

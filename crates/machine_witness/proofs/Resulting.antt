@@ -15,7 +15,7 @@ use Rattle.app_machine.specs.Summaries.{library_key, summary, row_walk, library_
 use Rattle.app_machine.specs.Heap.{Value, Object, ClassAt, blank}
 use Rattle.app_machine.specs.State.{result_register, write, World, Frame, object_at}
 use Rattle.app_machine.specs.Calls.{by_name, by_nothing, hand}
-use Rattle.app_machine.specs.Library.{positions, value_at, Hands, all_there, Has_object, was_handed, is_live, Results, of_void, as_blank, as_same, as_taken, as_shared, as_labels, as_object, as_nothing, as_given_back, AreJoined, Library_call, Uses_row, joined_object}
+use Rattle.app_machine.specs.Library.{positions, value_at, Hands, all_there, HasObject, was_handed, is_live, Results, of_void, as_blank, as_same, as_taken, as_shared, as_labels, as_object, as_nothing, as_given_back, AreJoined, CallsLibrary, UsesRow, joined_object}
 use Rattle.app_machine.specs.Run.{calls_library}
 use Rattle.machine_witness.specs.Apps.{step, one_class}
 use Rattle.machine_witness.specs.Acts.{frame_at}
@@ -35,15 +35,15 @@ box_row = record (row_of_method gives_box) { gives = gives.Joined []; source = S
 abbrev receiver_row : Summary
 receiver_row = record (row_of_method on_receiver) { is_static = false }
 
-blank_used : (heap : List Object) (f : Frame) → Uses_row results_app results_lists heap f Static gives_blank [] (row_of_method gives_blank)
+blank_used : (heap : List Object) (f : Frame) → UsesRow results_app results_lists heap f Static gives_blank [] (row_of_method gives_blank)
 unfolding results_app results_lists target find_body up method_of is_by_receiver library_key summary row_walk library_classes class_named listed_above listed_class row_of is_array
 blank_used heap f = record { class = box_class; goes = by_name refl refl; key = Row 0; is_key = refl; is_row = refl; plain = refl }
 
-same_used : (heap : List Object) (f : Frame) → Uses_row results_app results_lists heap f Static gives_same (1 ∷ []) same_row
+same_used : (heap : List Object) (f : Frame) → UsesRow results_app results_lists heap f Static gives_same (1 ∷ []) same_row
 unfolding results_app results_lists target find_body up method_of is_by_receiver library_key summary row_walk library_classes class_named listed_above listed_class row_of is_array
 same_used heap f = record { class = box_class; goes = by_name refl refl; key = Row 1; is_key = refl; is_row = refl; plain = refl }
 
-box_used : (heap : List Object) (f : Frame) → Uses_row results_app results_lists heap f Static gives_box [] box_row
+box_used : (heap : List Object) (f : Frame) → UsesRow results_app results_lists heap f Static gives_box [] box_row
 unfolding results_app results_lists target find_body up method_of is_by_receiver library_key summary row_walk library_classes class_named listed_above listed_class row_of is_array
 box_used heap f = record { class = box_class; goes = by_name refl refl; key = Row 2; is_key = refl; is_row = refl; plain = refl }
 
@@ -53,7 +53,7 @@ no_place_of f none x at = let first : 1 ≡ x = some_same at.there in subst (λ 
     some_same : {a b : ℕ} → ◌≡◌ {A = Option ℕ} (Some a) (Some b) → a ≡ b
     some_same e = cc
 
-receiver_used : (heap : List Object) (f : Frame) → (f.registers 1).place ≡ None → Uses_row results_app results_lists heap f Virtual on_receiver (1 ∷ []) receiver_row
+receiver_used : (heap : List Object) (f : Frame) → (f.registers 1).place ≡ None → UsesRow results_app results_lists heap f Virtual on_receiver (1 ∷ []) receiver_row
 unfolding results_app results_lists target find_body up method_of is_by_receiver library_key summary row_walk library_classes class_named listed_above listed_class row_of is_array lists_bare all_above
 receiver_used heap f none = record { class = box_class; goes = by_nothing refl (no_place_of f none) refl; key = Row 3; is_key = refl; is_row = refl; plain = refl }
 
@@ -73,7 +73,7 @@ one_position_receiver : positions Virtual on_receiver (1 ∷ []) ≡ 1 ∷ []
 unfolding positions is_wide
 one_position_receiver = refl
 
-call_blank : (w : World) (f : Frame) → Library_call results_app results_lists w f [] gives_blank.proto.ret (row_of_method gives_blank) w blank
+call_blank : (w : World) (f : Frame) → CallsLibrary results_app results_lists w f [] gives_blank.proto.ret (row_of_method gives_blank) w blank
 unfolding is_void
 call_blank w f = record {
   with_shared = w.heap;
@@ -101,7 +101,7 @@ handed_one f (Some q) e handed p = (elim [ inl same ↦ inr (record { at = 0; pl
     by zero there = let both : ◌≡◌ {A = Option ℕ} (Some q) (Some p) = sym e ∙ there in cc
     by (suc at) there = absurd (none-some p there)
 
-call_same : (w : World) (f : Frame) → Library_call results_app results_lists w f (1 ∷ []) gives_same.proto.ret same_row (record w { handed = hand (f.registers 1).place w.handed }) (f.registers 1)
+call_same : (w : World) (f : Frame) → CallsLibrary results_app results_lists w f (1 ∷ []) gives_same.proto.ret same_row (record w { handed = hand (f.registers 1).place w.handed }) (f.registers 1)
 unfolding is_void
 call_same w f = record {
   with_shared = w.heap;
@@ -122,7 +122,7 @@ source_alone heap f l = (elim [ inl e ↦ inl (ap (λ x. Some x) (sym e)) | inr 
     same : ◌≡◌ {A = Option ℕ} (Some 0) (Some l) → l ≡ 0
     same e = cc
 
-call_box : (w : World) (f : Frame) → Library_call results_app results_lists w f [] gives_box.proto.ret box_row (record w { heap = w.heap ++ joined_object box_class (0 ∷ []) ∷ [] }) (record { place = Some (length w.heap); labels = 0 ∷ [] })
+call_box : (w : World) (f : Frame) → CallsLibrary results_app results_lists w f [] gives_box.proto.ret box_row (record w { heap = w.heap ++ joined_object box_class (0 ∷ []) ∷ [] }) (record { place = Some (length w.heap); labels = 0 ∷ [] })
 unfolding is_void is_reference
 call_box w f = record {
   with_shared = w.heap;
@@ -137,7 +137,7 @@ call_box w f = record {
   components = refl;
 }
 
-call_on_nothing : (w : World) (f : Frame) → (f.registers 1).place ≡ None → Library_call results_app results_lists w f (1 ∷ []) on_receiver.proto.ret receiver_row w blank
+call_on_nothing : (w : World) (f : Frame) → (f.registers 1).place ≡ None → CallsLibrary results_app results_lists w f (1 ∷ []) on_receiver.proto.ret receiver_row w blank
 unfolding is_void
 call_on_nothing w f none = record {
   with_shared = w.heap;
@@ -152,7 +152,7 @@ call_on_nothing w f none = record {
   components = refl;
 }
 
-back_used : (heap : List Object) (f : Frame) → Uses_row results_app results_lists heap f Static gives_back (1 ∷ []) back_row
+back_used : (heap : List Object) (f : Frame) → UsesRow results_app results_lists heap f Static gives_back (1 ∷ []) back_row
 unfolding results_app results_lists target find_body up method_of is_by_receiver library_key summary row_walk library_classes class_named listed_above listed_class row_of is_array
 back_used heap f = record { class = box_class; goes = by_name refl refl; key = Row 4; is_key = refl; is_row = refl; plain = refl }
 
@@ -166,7 +166,7 @@ small_below = of_class (is_listed (inr (inl refl)))
 
 -- a call that gives this value back, from the world with what it hands over
 call_back : (w : World) (f : Frame) (v : Value) → Results results_app results_lists w (hand (f.registers 1).place w.handed) f (1 ∷ []) None box_class w.statics w.heap gives.Handed w.heap v →
-    Library_call results_app results_lists w f (1 ∷ []) gives_back.proto.ret back_row (record w { handed = hand (f.registers 1).place w.handed }) v
+    CallsLibrary results_app results_lists w f (1 ∷ []) gives_back.proto.ret back_row (record w { handed = hand (f.registers 1).place w.handed }) v
 unfolding is_void
 call_back w f v results = record {
   with_shared = w.heap;
@@ -182,7 +182,7 @@ call_back w f v results = record {
 }
 
 -- an object of a small box that the library has
-back_object : (w : World) (f : Frame) (p : ℕ) → Has_object w (hand (f.registers 1).place w.handed) p → ClassAt w.heap p small_box →
+back_object : (w : World) (f : Frame) (p : ℕ) → HasObject w (hand (f.registers 1).place w.handed) p → ClassAt w.heap p small_box →
     Results results_app results_lists w (hand (f.registers 1).place w.handed) f (1 ∷ []) None box_class w.statics w.heap gives.Handed w.heap (object_at (Some p))
 unfolding is_reference
 back_object w f p has_object of_small = as_given_back refl has_object of_small small_below
@@ -203,11 +203,11 @@ argument_handed (Some q) handed p e = inl (let same : ◌≡◌ {A = Option ℕ}
 back_step : (w : World) (r : ℕ → Value) (v : Value) → Results results_app results_lists w (hand (r 1).place w.handed) (frame_at 4 r) (1 ∷ []) None box_class w.statics w.heap gives.Handed w.heap v →
     Comes w 4 r (with_handed w r) (write r result_register v)
 unfolding results_app step_at
-back_step w r v results fs = calls_library (act_of (step 4 (Call Static gives_back (1 ∷ [])) (5 ∷ [])) refl) (next_of (step 4 (Call Static gives_back (1 ∷ [])) (5 ∷ [])) refl (inl refl)) (back_used w.heap (frame_at 4 r)) (subst (λ places. Library_call results_app results_lists w (frame_at 4 r) places gives_back.proto.ret back_row (with_handed w r) v) (sym one_position_back) (call_back w (frame_at 4 r) v results))
+back_step w r v results fs = calls_library (act_of (step 4 (Call Static gives_back (1 ∷ [])) (5 ∷ [])) refl) (next_of (step 4 (Call Static gives_back (1 ∷ [])) (5 ∷ [])) refl (inl refl)) (back_used w.heap (frame_at 4 r)) (subst (λ places. CallsLibrary results_app results_lists w (frame_at 4 r) places gives_back.proto.ret back_row (with_handed w r) v) (sym one_position_back) (call_back w (frame_at 4 r) v results))
 
 -- what comes back
 has_it : {w : World} {handed : List ℕ} {f : Frame} {places : List ℕ} {source : Option ℕ} {ret : Name} {statics : ℕ → Value} {heap new : List Object} {kind : Gives} {v : Value} (p : ℕ) →
-    Results results_app results_lists w handed f places source ret statics heap kind new v → kind ≡ gives.Handed → v.place ≡ Some p → Has_object w handed p × ((class : Name) × (ClassAt w.heap p class × Below results_app results_lists class ret))
+    Results results_app results_lists w handed f places source ret statics heap kind new v → kind ≡ gives.Handed → v.place ≡ Some p → HasObject w handed p × ((class : Name) × (ClassAt w.heap p class × Below results_app results_lists class ret))
 has_it p (of_void void) e there = absurd (none-some p there)
 has_it p (as_blank not_void) e there = absurd (none-some p there)
 has_it p (as_same not_void) e there = absurd cc
@@ -218,7 +218,7 @@ has_it p (as_object not_void reference which) e there = absurd cc
 has_it p (as_nothing not_void) e there = absurd (none-some p there)
 has_it {w} {handed} p (as_given_back {p = q} {class = class} reference has_object is_there below) e there =
     let same : q ≡ p = some_is there in
-    (subst (Has_object w handed) same has_object, (class, (subst (λ z. ClassAt w.heap z class) same is_there, below)))
+    (subst (HasObject w handed) same has_object, (class, (subst (λ z. ClassAt w.heap z class) same is_there, below)))
   where
     some_is : {a b : ℕ} → ◌≡◌ {A = Option ℕ} (Some a) (Some b) → a ≡ b
     some_is e = cc
@@ -226,10 +226,10 @@ has_it {w} {handed} p (as_given_back {p = q} {class = class} reference has_objec
 pub each_result_comes : EachResultComes
 unfolding results_app step_at
 each_result_comes w r = record {
-  gives_blank = λ fs. calls_library (act_of (step 0 (Call Static gives_blank []) (1 ∷ [])) refl) (next_of (step 0 (Call Static gives_blank []) (1 ∷ [])) refl (inl refl)) (blank_used w.heap (frame_at 0 r)) (subst (λ places. Library_call results_app results_lists w (frame_at 0 r) places gives_blank.proto.ret (row_of_method gives_blank) w blank) (sym no_positions_blank) (call_blank w (frame_at 0 r)));
-  gives_same = λ fs. calls_library (act_of (step 1 (Call Static gives_same (1 ∷ [])) (2 ∷ [])) refl) (next_of (step 1 (Call Static gives_same (1 ∷ [])) (2 ∷ [])) refl (inl refl)) (same_used w.heap (frame_at 1 r)) (subst (λ places. Library_call results_app results_lists w (frame_at 1 r) places gives_same.proto.ret same_row (record w { handed = hand (r 1).place w.handed }) (r 1)) (sym one_position_same) (call_same w (frame_at 1 r)));
-  gives_box = λ fs. calls_library (act_of (step 2 (Call Static gives_box []) (3 ∷ [])) refl) (next_of (step 2 (Call Static gives_box []) (3 ∷ [])) refl (inl refl)) (box_used w.heap (frame_at 2 r)) (subst (λ places. Library_call results_app results_lists w (frame_at 2 r) places gives_box.proto.ret box_row (record w { heap = w.heap ++ joined_object box_class (0 ∷ []) ∷ [] }) (record { place = Some (length w.heap); labels = 0 ∷ [] })) (sym no_positions_box) (call_box w (frame_at 2 r)));
-  on_nothing = λ none fs. calls_library (act_of (step 3 (Call Virtual on_receiver (1 ∷ [])) (4 ∷ [])) refl) (next_of (step 3 (Call Virtual on_receiver (1 ∷ [])) (4 ∷ [])) refl (inl refl)) (receiver_used w.heap (frame_at 3 r) none) (subst (λ places. Library_call results_app results_lists w (frame_at 3 r) places on_receiver.proto.ret receiver_row w blank) (sym one_position_receiver) (call_on_nothing w (frame_at 3 r) none));
+  gives_blank = λ fs. calls_library (act_of (step 0 (Call Static gives_blank []) (1 ∷ [])) refl) (next_of (step 0 (Call Static gives_blank []) (1 ∷ [])) refl (inl refl)) (blank_used w.heap (frame_at 0 r)) (subst (λ places. CallsLibrary results_app results_lists w (frame_at 0 r) places gives_blank.proto.ret (row_of_method gives_blank) w blank) (sym no_positions_blank) (call_blank w (frame_at 0 r)));
+  gives_same = λ fs. calls_library (act_of (step 1 (Call Static gives_same (1 ∷ [])) (2 ∷ [])) refl) (next_of (step 1 (Call Static gives_same (1 ∷ [])) (2 ∷ [])) refl (inl refl)) (same_used w.heap (frame_at 1 r)) (subst (λ places. CallsLibrary results_app results_lists w (frame_at 1 r) places gives_same.proto.ret same_row (record w { handed = hand (r 1).place w.handed }) (r 1)) (sym one_position_same) (call_same w (frame_at 1 r)));
+  gives_box = λ fs. calls_library (act_of (step 2 (Call Static gives_box []) (3 ∷ [])) refl) (next_of (step 2 (Call Static gives_box []) (3 ∷ [])) refl (inl refl)) (box_used w.heap (frame_at 2 r)) (subst (λ places. CallsLibrary results_app results_lists w (frame_at 2 r) places gives_box.proto.ret box_row (record w { heap = w.heap ++ joined_object box_class (0 ∷ []) ∷ [] }) (record { place = Some (length w.heap); labels = 0 ∷ [] })) (sym no_positions_box) (call_box w (frame_at 2 r)));
+  on_nothing = λ none fs. calls_library (act_of (step 3 (Call Virtual on_receiver (1 ∷ [])) (4 ∷ [])) refl) (next_of (step 3 (Call Virtual on_receiver (1 ∷ [])) (4 ∷ [])) refl (inl refl)) (receiver_used w.heap (frame_at 3 r) none) (subst (λ places. CallsLibrary results_app results_lists w (frame_at 3 r) places on_receiver.proto.ret receiver_row w blank) (sym one_position_receiver) (call_on_nothing w (frame_at 3 r) none));
   nothing_back = back_step w r blank (back_nothing w (frame_at 4 r));
   handed_back = λ p among of_small. back_step w r (object_at (Some p)) (back_object w (frame_at 4 r) p (was_handed (still_handed (r 1).place w.handed p among)) of_small);
   itself_back = λ p there of_small. back_step w r (object_at (Some p)) (back_object w (frame_at 4 r) p (was_handed (argument_handed (r 1).place w.handed p there)) of_small);

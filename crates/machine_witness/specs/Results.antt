@@ -15,7 +15,7 @@ use Rattle.app_machine.specs.Summaries.{Below}
 use Rattle.app_machine.specs.Heap.{Value, ClassAt, blank, labelled}
 use Rattle.app_machine.specs.State.{result_register, write, World, Frame, object_at}
 use Rattle.app_machine.specs.Calls.{hand}
-use Rattle.app_machine.specs.Library.{Has_object, Library_call}
+use Rattle.app_machine.specs.Library.{HasObject, CallsLibrary}
 use Rattle.app_machine.specs.Run.{Steps}
 use Rattle.machine_witness.specs.Apps.{main_class, on_create, step, one_class}
 use Rattle.machine_witness.specs.Acts.{frame_at}
@@ -109,8 +109,8 @@ pub record ResultsCome (w : World) (r : ℕ → Value) : Type 0 where
   pub itself_back : (p : ℕ) → (r 1).place ≡ Some p → ClassAt w.heap p small_box → Comes w 4 r (with_handed w r) (write r result_register (object_at (Some p)))
   pub component_back : (c p : ℕ) → (w.components c).state ≢ 0 → (w.components c).place ≡ Some p → ClassAt w.heap p small_box → Comes w 4 r (with_handed w r) (write r result_register (object_at (Some p)))
   -- no other object comes back
-  pub no_other_back : (new : World) (v : Value) (p : ℕ) → Library_call results_app results_lists w (frame_at 4 r) (1 ∷ []) box_class back_row new v → v.place ≡ Some p → Has_object w new.handed p
-  pub none_of_another_class : (new : World) (v : Value) (p : ℕ) → Library_call results_app results_lists w (frame_at 4 r) (1 ∷ []) box_class back_row new v → v.place ≡ Some p → (class : Name) × (ClassAt w.heap p class × Below results_app results_lists class box_class)
+  pub no_other_back : (new : World) (v : Value) (p : ℕ) → CallsLibrary results_app results_lists w (frame_at 4 r) (1 ∷ []) box_class back_row new v → v.place ≡ Some p → HasObject w new.handed p
+  pub none_of_another_class : (new : World) (v : Value) (p : ℕ) → CallsLibrary results_app results_lists w (frame_at 4 r) (1 ∷ []) box_class back_row new v → v.place ≡ Some p → (class : Name) × (ClassAt w.heap p class × Below results_app results_lists class box_class)
 
 abbrev pub EachResultComes : Type 0
 EachResultComes = (w : World) (r : ℕ → Value) → ResultsCome w r

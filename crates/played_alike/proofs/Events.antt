@@ -11,7 +11,7 @@ use Rattle.app_machine.specs.Heap.{Value, Object, blank, labelled}
 use Rattle.app_machine.specs.LifeEvents.{LifeEvent}
 use Rattle.app_machine.specs.Names.{Name, is_reference}
 use Rattle.app_machine.specs.Run.{frame_of}
-use Rattle.app_machine.specs.State.{World, Component_state, new_object, value_or_blank}
+use Rattle.app_machine.specs.State.{World, ComponentState, new_object, value_or_blank}
 use Rattle.app_machine.specs.Summaries.{numbers_from}
 use Rattle.app_model.specs.EventBodies.{life_event, component_callback, click, handed_callback}
 use Rattle.app_model.specs.Initialisers.{component_initialisers}
@@ -57,7 +57,7 @@ module _ (app : App) (lists : Lists) (w u : World) (alike : AlikeWorld w u) wher
 
   same_lets : (c a : ℕ) (o : Option Component) → lets_begin w c a o ≡ lets_begin u c a o
   same_lets c a None = refl
-  same_lets c a (Some component) = ap (λ (cs : ℕ → Component_state). not (coming.is_application component.kind) || ((a == c) || ((cs a).state == 2))) alike.components
+  same_lets c a (Some component) = ap (λ (cs : ℕ → ComponentState). not (coming.is_application component.kind) || ((a == c) || ((cs a).state == 2))) alike.components
 
   all_same : (c : ℕ) (cs : List ℕ) → list_all (λ a. lets_begin w c a (slice_get app.components a)) cs ≡ list_all (λ a. lets_begin u c a (slice_get app.components a)) cs
   all_same c [] = refl
@@ -70,18 +70,18 @@ module _ (app : App) (lists : Lists) (w u : World) (alike : AlikeWorld w u) wher
   same_may c = all_same c (numbers_from 0 (length app.components))
 
   same_state : (c : ℕ) → (w.components c).state ≡ (u.components c).state
-  same_state c = ap (λ (cs : ℕ → Component_state). (cs c).state) alike.components
+  same_state c = ap (λ (cs : ℕ → ComponentState). (cs c).state) alike.components
 
   same_place : (c : ℕ) → (w.components c).place ≡ (u.components c).place
-  same_place c = ap (λ (cs : ℕ → Component_state). (cs c).place) alike.components
+  same_place c = ap (λ (cs : ℕ → ComponentState). (cs c).place) alike.components
 
   -- the world after a change of a component's state
-  alike_set : (c : ℕ) (s t : Component_state) → s ≡ t → (heap heap' : List Object) → AlikeHeap heap heap' →
+  alike_set : (c : ℕ) (s t : ComponentState) → s ≡ t → (heap heap' : List Object) → AlikeHeap heap heap' →
       AlikeWorld (record w { heap = heap; components = set_component w.components c s }) (record u { heap = heap'; components = set_component u.components c t })
   alike_set c s t same heap heap' heaps = record {
     heap = heaps;
     statics = alike.statics;
-    components = ap (λ (cs : ℕ → Component_state). set_component cs c s) alike.components ∙ ap (λ z. set_component u.components c z) same;
+    components = ap (λ (cs : ℕ → ComponentState). set_component cs c s) alike.components ∙ ap (λ z. set_component u.components c z) same;
     handed = alike.handed;
     arrivals = alike.arrivals;
   }

@@ -12,7 +12,7 @@ use Rattle.app_machine.specs.Heap.{Value, Object, blank, labelled}
 use Rattle.app_machine.specs.Library.{value_at, shared_named, shared_class, joined_object}
 use Rattle.app_machine.specs.Lookups.{elem_key}
 use Rattle.app_machine.specs.Names.{Name, is_reference, is_void}
-use Rattle.app_machine.specs.State.{shared_static, Arrival, World, Frame, object_at, new_object, Component_state}
+use Rattle.app_machine.specs.State.{shared_static, Arrival, World, Frame, object_at, new_object, ComponentState}
 use Rattle.app_machine.specs.Summaries.{numbers_from}
 use Rattle.played_machine.specs.Drawing.{give, one_of}
 use Rattle.played_machine.specs.Librarian.{hand_all, arrivals_at, arrivals_of, shared_there, with_shared, joined_labels, joined_value, given_result, result, element_at, elements_at, added_by_puts, added_by_stores, copied, added_by_copies, added, after_call, library_call, live_place, live_places, had, given_back}
@@ -115,7 +115,7 @@ alike_joined ret heap heap' heaps labels others same = subst (λ ls. AlikeGiven 
 
 module _ (app : App) (lists : Lists) (w u : World) (alike : AlikeWorld w u) (handed handed' : List ℕ) (hands : handed_places handed ≡ handed_places handed') (f g : Frame) (frames : AlikeFrame f g) (places : List ℕ) (source : Option ℕ) (ret : Name) (statics statics' : ℕ → Value) (values : AlikeValues statics statics') (heap heap' : List Object) (heaps : AlikeHeap heap heap') where
   same_live : live_places app w ≡ live_places app u
-  same_live = ap (λ (cs : ℕ → Component_state). filter_map (λ c. live_place (cs c)) (numbers_from 0 (length app.components))) alike.components
+  same_live = ap (λ (cs : ℕ → ComponentState). filter_map (λ c. live_place (cs c)) (numbers_from 0 (length app.components))) alike.components
 
   same_had : had app lists w handed ret ≡ had app lists u handed' ret
   same_had =

@@ -17,9 +17,9 @@ use Rattle.app_machine.specs.declared.method.Method.{Method}
 use Rattle.app_machine.specs.declared.summary.Gives.{Gives}
 use Rattle.app_machine.specs.declared.summary.Gives.TheVariants as gives
 use Rattle.app_machine.specs.declared.summary.Summary.{Summary}
-use Rattle.app_machine.specs.Calls.{Calls_to, by_name, by_nothing, by_class}
+use Rattle.app_machine.specs.Calls.{CallsTo, by_name, by_nothing, by_class}
 use Rattle.app_machine.specs.Heap.{Object}
-use Rattle.app_machine.specs.Library.{result_shared, shared_named, shared_class, Uses_row}
+use Rattle.app_machine.specs.Library.{result_shared, shared_named, shared_class, UsesRow}
 use Rattle.app_machine.specs.Lookups.{Target, Library, target, is_by_receiver, is_static_call, HasCode, IsNative}
 use Rattle.app_machine.specs.Names.{Name, is_void}
 use Rattle.app_machine.specs.SoundLists.{SoundLists, SoundSummary, SoundGives, NamedPosition}
@@ -66,34 +66,34 @@ module _ (app : App) (body : ℕ) where
 
 -- the target of a call
 module _ (app : App) (heap : List Object) (f : Frame) (kind : CallKind) (at : MethodRef) (args : List ℕ) where
-  pub calls_so : (t : Target) → call_target app heap f kind at args ≡ Some t → Calls_to app heap f kind at args t
+  pub calls_so : (t : Target) → call_target app heap f kind at args ≡ Some t → CallsTo app heap f kind at args t
   unfolding call_target
   calls_so t e = by_kind (is_by_receiver kind) refl e
     where
       by_its_class : (x p : ℕ) → slice_get args 0 ≡ Some x → (f.registers x).place ≡ Some p → is_by_receiver kind ≡ true → (c : Option Name) → class_at heap p ≡ c →
-          option_map (λ class. target app kind f.method at (Some class)) c ≡ Some t → Calls_to app heap f kind at args t
+          option_map (λ class. target app kind f.method at (Some class)) c ≡ Some t → CallsTo app heap f kind at args t
       by_its_class x p there place by_receiver None is e = absurd (none-some t e)
       by_its_class x p there place by_receiver (Some class) is e =
           by_class class by_receiver (record { there = there }) place (class_there heap p class is) (same_Some (target app kind f.method at (Some class)) t e)
 
-      by_place : (x : ℕ) → slice_get args 0 ≡ Some x → is_by_receiver kind ≡ true → (o : Option ℕ) → (f.registers x).place ≡ o → target_at app heap f.method kind at o ≡ Some t → Calls_to app heap f kind at args t
+      by_place : (x : ℕ) → slice_get args 0 ≡ Some x → is_by_receiver kind ≡ true → (o : Option ℕ) → (f.registers x).place ≡ o → target_at app heap f.method kind at o ≡ Some t → CallsTo app heap f kind at args t
       by_place x there by_receiver None is e =
           by_nothing by_receiver (λ y at. ap (λ z. (f.registers z).place) (same_Some y x (sym at.there ∙ there)) ∙ is) (same_Some (target app kind f.method at None) t e)
       by_place x there by_receiver (Some p) is e = by_its_class x p there is by_receiver (class_at heap p) refl e
 
-      by_register : is_by_receiver kind ≡ true → (o : Option ℕ) → slice_get args 0 ≡ o → target_at app heap f.method kind at (receiver_place f o) ≡ Some t → Calls_to app heap f kind at args t
+      by_register : is_by_receiver kind ≡ true → (o : Option ℕ) → slice_get args 0 ≡ o → target_at app heap f.method kind at (receiver_place f o) ≡ Some t → CallsTo app heap f kind at args t
       by_register by_receiver None there e = by_nothing by_receiver (λ y at. absurd (none-some y (sym there ∙ at.there))) (same_Some (target app kind f.method at None) t e)
       by_register by_receiver (Some x) there e = by_place x there by_receiver (f.registers x).place refl e
 
-      by_kind : (b : Bool) → is_by_receiver kind ≡ b → cond b (target_at app heap f.method kind at (receiver_place f (slice_get args 0))) (Some (target app kind f.method at None)) ≡ Some t → Calls_to app heap f kind at args t
+      by_kind : (b : Bool) → is_by_receiver kind ≡ b → cond b (target_at app heap f.method kind at (receiver_place f (slice_get args 0))) (Some (target app kind f.method at None)) ≡ Some t → CallsTo app heap f kind at args t
       by_kind true is e = by_register is (slice_get args 0) refl e
       by_kind false is e = by_name is (same_Some (target app kind f.method at None) t e)
 
-  pub uses_so : (lists : Lists) (class : Name) (row : Summary) → call_target app heap f kind at args ≡ Some (Library class) → called_row app lists class kind at ≡ Some row → row.reflective ≡ false → Uses_row app lists heap f kind at args row
+  pub uses_so : (lists : Lists) (class : Name) (row : Summary) → call_target app heap f kind at args ≡ Some (Library class) → called_row app lists class kind at ≡ Some row → row.reflective ≡ false → UsesRow app lists heap f kind at args row
   unfolding called_row
   uses_so lists class row goes is plain = by_key (library_key app lists class at.name at.proto (is_static_call kind)) refl is
     where
-      by_key : (k : Option SummaryId) → library_key app lists class at.name at.proto (is_static_call kind) ≡ k → summary_by lists at (is_static_call kind) k ≡ Some row → Uses_row app lists heap f kind at args row
+      by_key : (k : Option SummaryId) → library_key app lists class at.name at.proto (is_static_call kind) ≡ k → summary_by lists at (is_static_call kind) k ≡ Some row → UsesRow app lists heap f kind at args row
       by_key None key is = absurd (none-some row is)
       by_key (Some k) key is = record { class = class; goes = calls_so (Library class) goes; key = k; is_key = key; is_row = is; plain = plain }
 

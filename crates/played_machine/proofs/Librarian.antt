@@ -11,7 +11,7 @@ use Rattle.app_machine.specs.declared.summary.Gives.TheVariants.{Blank, Same, Ta
 use Rattle.app_machine.specs.declared.summary.Summary.{Summary}
 use Rattle.app_machine.specs.Calls.{hand}
 use Rattle.app_machine.specs.Heap.{Value, Object, blank, labelled}
-use Rattle.app_machine.specs.Library.{value_at, AtSink, Hands, shared_named, shared_class, Makes_shared, all_there, is_there, is_made, Joins, AreJoined, joined_object, Results, of_void, as_blank, as_same, as_taken, as_shared, as_labels, as_object, Adds, by_put, by_store, by_copy, Library_call, Has_object, was_handed, is_live, as_nothing, as_given_back}
+use Rattle.app_machine.specs.Library.{value_at, AtSink, Hands, shared_named, shared_class, MakesShared, all_there, is_there, is_made, Joins, AreJoined, joined_object, Results, of_void, as_blank, as_same, as_taken, as_shared, as_labels, as_object, Adds, by_put, by_store, by_copy, CallsLibrary, HasObject, was_handed, is_live, as_nothing, as_given_back}
 use Rattle.app_machine.specs.Lookups.{elem_key}
 use Rattle.app_machine.specs.Names.{Name, is_reference, is_void}
 use Rattle.app_machine.specs.State.{write, shared_static, Arrival, World, Frame, object_at, new_object}
@@ -128,13 +128,13 @@ module _ (heap : List Object) (f : Frame) (places : List ℕ) (row : Summary) (a
 -- the shared objects
 module _ (app : App) (lists : Lists) where
   pub shared_so : (is : List ℕ) (heap : List Object) (statics : ℕ → Value) → Named lists is →
-      Makes_shared app lists is heap statics (with_shared app lists is heap statics).0 (with_shared app lists is heap statics).1
+      MakesShared app lists is heap statics (with_shared app lists is heap statics).0 (with_shared app lists is heap statics).1
   shared_so [] heap statics named = all_there
   shared_so (i ∷ more) heap statics named = by_place (statics (shared_static app i)).place refl (shared_class lists i) refl (λ h s. shared_so more h s (λ j k. named j (inr k)))
     where
       by_place : (o : Option ℕ) → (statics (shared_static app i)).place ≡ o → (c : Option Name) → shared_class lists i ≡ c →
-          ((h : List Object) (s : ℕ → Value) → Makes_shared app lists more h s (with_shared app lists more h s).0 (with_shared app lists more h s).1) →
-          Makes_shared app lists (i ∷ more) heap statics
+          ((h : List Object) (s : ℕ → Value) → MakesShared app lists more h s (with_shared app lists more h s).0 (with_shared app lists more h s).1) →
+          MakesShared app lists (i ∷ more) heap statics
           (with_shared app lists more (shared_there o c (shared_static app i) heap statics).0 (shared_there o c (shared_static app i) heap statics).1).0
           (with_shared app lists more (shared_there o c (shared_static app i) heap statics).0 (shared_there o c (shared_static app i) heap statics).1).1
       by_place (Some p) is c e later = is_there is (later heap statics)
@@ -177,13 +177,13 @@ module _ (app : App) (lists : Lists) (exact : EventsAreExact app lists) (w : Wor
       by_type false is = as_labels some is (joined_so from)
 
   -- an object that the library has
-  is_had : (p : ℕ) → In p (handed_places handed ++ live_places app w) → Has_object w handed p
+  is_had : (p : ℕ) → In p (handed_places handed ++ live_places app w) → HasObject w handed p
   is_had p h = elim (in_either p (handed_places handed) (live_places app w) h) [
     | inl old ↦ was_handed (was_handed_place handed p old)
     | inr live ↦ let found = from_filter_map (λ c. live_place (w.components c)) (numbers_from 0 (length app.components)) p live in by_state found.0 ((w.components found.0).state == 0) refl found.2
   ]
     where
-      by_state : (c : ℕ) (b : Bool) → ((w.components c).state == 0) ≡ b → cond b None (w.components c).place ≡ Some p → Has_object w handed p
+      by_state : (c : ℕ) (b : Bool) → ((w.components c).state == 0) ≡ b → cond b None (w.components c).place ≡ Some p → HasObject w handed p
       by_state c true is gives = absurd (none-some p gives)
       by_state c false is gives = is_live c (λ zero_state. false_true (sym is ∙ eq-eqb (w.components c).state 0 zero_state)) gives
 
@@ -192,7 +192,7 @@ module _ (app : App) (lists : Lists) (exact : EventsAreExact app lists) (w : Wor
       let kept = from_filter (λ p. is_of_type app lists ret (class_at w.heap p)) (handed_places handed ++ live_places app w) p h in
       by_class (class_at w.heap p) refl kept.1 (is_had p kept.0)
     where
-      by_class : (o : Option Name) → class_at w.heap p ≡ o → is_of_type app lists ret o ≡ true → Has_object w handed p → ResultIs Handed (heap, object_at (Some p))
+      by_class : (o : Option Name) → class_at w.heap p ≡ o → is_of_type app lists ret o ≡ true → HasObject w handed p → ResultIs Handed (heap, object_at (Some p))
       by_class None is holds has = absurd (false_true holds)
       by_class (Some class) is holds has = as_given_back reference has (class_there w.heap p class is) ((exact.below class ret).0 holds)
 
@@ -295,12 +295,12 @@ module _ (app : App) (before : List Object) (f : Frame) (places : List ℕ) (sta
 
 -- the call
 pub library_so : (app : App) (lists : Lists) → EventsAreExact app lists → (w : World) (f : Frame) (places : List ℕ) (ret : Name) (row : Summary) → Named lists (shared_named row ret) →
-    (done : World × Value) → Draws (library_call app lists w f places ret row) done → Library_call app lists w f places ret row done.0 done.1
+    (done : World × Value) → Draws (library_call app lists w f places ret row) done → CallsLibrary app lists w f places ret row done.0 done.1
 unfolding library_call
 library_so app lists exact w f places ret row named done d =
     let shared : List Object × (ℕ → Value) = with_shared app lists (shared_named row ret) w.heap w.statics in
     let h = followed (result app lists w (hand_all f places w.handed) f places row.source ret shared.1 shared.0 row.gives) (λ (given : List Object × Value). give (after_call app w f places row shared.1 given.0, given.1)) done d in
-    subst (λ (z : World × Value). Library_call app lists w f places ret row z.0 z.1) (sym (gave (after_call app w f places row shared.1 h.by.0, h.by.1) done h.after)) (record {
+    subst (λ (z : World × Value). CallsLibrary app lists w f places ret row z.0 z.1) (sym (gave (after_call app w f places row shared.1 h.by.0, h.by.1) done h.after)) (record {
       with_shared = shared.0;
       with_result = h.by.0;
       added = added app w.heap f places shared.1 row;

@@ -19,7 +19,7 @@ use Rattle.app_machine.specs.declared.method.Act.{Act}
 use Rattle.app_machine.specs.declared.method.Act.TheVariants.{Skip, Join, Move, Blank, New, Fill, Get, Put, GetStatic, PutStatic, Call, Return, Throw, TakeResult, TakeException, Go}
 use Rattle.app_machine.specs.declared.method.Step.{Step}
 use Rattle.app_machine.specs.declared.summary.Summary.{Summary}
-use Rattle.app_machine.specs.Calls.{Calls_to, by_name, by_nothing, by_class}
+use Rattle.app_machine.specs.Calls.{CallsTo, by_name, by_nothing, by_class}
 use Rattle.app_machine.specs.Events.{MayBegin, LifeEventAt, Comes, lives, is_born, calls_back, is_clicked, is_handed, MayInitialise}
 use Rattle.app_machine.specs.Heap.{Object}
 use Rattle.app_machine.specs.LifeEvents.{LifeEvent, life_events}
@@ -55,7 +55,7 @@ module _ (app : App) (heap : List Object) (f : Frame) (kind : CallKind) (at : Me
   no_receiver None there none = refl
   no_receiver (Some x) there none = none x (record { there = there })
 
-  pub calls_only : {t : Target} → Calls_to app heap f kind at args t → call_target app heap f kind at args ≡ Some t
+  pub calls_only : {t : Target} → CallsTo app heap f kind at args t → call_target app heap f kind at args ≡ Some t
   calls_only {t} (by_name plain is) = by_kind false plain ∙ ap (λ (x : Target). Some x) is
   calls_only {t} (by_nothing goes none is) =
       by_kind true goes ∙ (ap (target_at app heap f.method kind at) (no_receiver (slice_get args 0) refl none) ∙ ap (λ (x : Target). Some x) is)
@@ -198,7 +198,7 @@ module _ (app : App) (lists : Lists) (exact : EventsAreExact app lists) (w : Wor
     if_native_so true cause (inr h) = absurd h
     if_native_so false cause h = absurd h
 
-    key_so : (kind : CallKind) (at : MethodRef) (args : List ℕ) → ActAt app f.method f.pc (Call kind at args) → (class : Name) → Calls_to app w.heap f kind at args (Library class) →
+    key_so : (kind : CallKind) (at : MethodRef) (args : List ℕ) → ActAt app f.method f.pc (Call kind at args) → (class : Name) → CallsTo app w.heap f kind at args (Library class) →
         (o : Option SummaryId) → library_key app lists class at.name at.proto (is_static_call kind) ≡ o → (cause : ℕ) → In cause (cause_of_key lists at (is_static_call kind) o) → StandsFor cause
     key_so kind at args is class goes None key cause (inl same) = subst StandsFor (sym same) (without_row is goes key)
     key_so kind at args is class goes None key cause (inr h) = absurd h
@@ -272,11 +272,11 @@ module _ (app : App) (lists : Lists) (exact : EventsAreExact app lists) (w : Wor
         subst (λ o. In cause (causes_at app lists w f o)) (sym is.there)
         (in_front cause (causes_of_call app lists w f is.step.act) (if_native_then (list_any (is_native_body app) (initialisers app is.step.act))) (subst (λ a. In cause (causes_of_call app lists w f a)) (sym is.same) h))
 
-    target_causes : (kind : CallKind) (at : MethodRef) (args : List ℕ) → ActAt app f.method f.pc (Call kind at args) → (t : Target) → Calls_to app w.heap f kind at args t → (cause : ℕ) → In cause (causes_of_target app lists kind at (Some t)) → In cause causes
+    target_causes : (kind : CallKind) (at : MethodRef) (args : List ℕ) → ActAt app f.method f.pc (Call kind at args) → (t : Target) → CallsTo app w.heap f kind at args t → (cause : ℕ) → In cause (causes_of_target app lists kind at (Some t)) → In cause causes
     target_causes kind at args is t goes cause h =
         act_causes (Call kind at args) is cause (subst (λ o. In cause (causes_of_target app lists kind at o)) (sym (calls_only app w.heap f kind at args goes)) h)
 
-    library_causes : (kind : CallKind) (at : MethodRef) (args : List ℕ) → ActAt app f.method f.pc (Call kind at args) → (class : Name) → Calls_to app w.heap f kind at args (Library class) →
+    library_causes : (kind : CallKind) (at : MethodRef) (args : List ℕ) → ActAt app f.method f.pc (Call kind at args) → (class : Name) → CallsTo app w.heap f kind at args (Library class) →
         (o : Option SummaryId) → library_key app lists class at.name at.proto (is_static_call kind) ≡ o → (cause : ℕ) → In cause (cause_of_key lists at (is_static_call kind) o) → In cause causes
     library_causes kind at args is class goes o key cause h = target_causes kind at args is (Library class) goes cause (subst (λ k. In cause (cause_of_key lists at (is_static_call kind) k)) (sym key) h)
 

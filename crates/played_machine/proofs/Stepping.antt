@@ -15,7 +15,7 @@ use Rattle.app_machine.specs.declared.method.Step.{Step}
 use Rattle.app_machine.specs.declared.summary.Summary.{Summary}
 use Rattle.app_machine.specs.Calls.{arguments, returned, hand}
 use Rattle.app_machine.specs.Heap.{Value, blank}
-use Rattle.app_machine.specs.Library.{positions, shared_named, Uses_row}
+use Rattle.app_machine.specs.Library.{positions, shared_named, UsesRow}
 use Rattle.app_machine.specs.Lookups.{Target, Body, Library, Nothing, step_at, initialisers, is_static_call, ActAt, Goes}
 use Rattle.app_machine.specs.Names.{Name}
 use Rattle.app_machine.specs.Run.{frame_of, Steps, goes_on, raises, throws, calls, calls_library, library_raises, returns, initialises, has_initialised, ends, Run, starts, then}
@@ -62,7 +62,7 @@ module _ (app : App) (lists : Lists) (exact : EventsAreExact app lists) (sound :
         as_given (playing done.by.0 (moved f to.by done.by.1 ∷ fs)) t (goes_on (local_so app lists w f to.by (there to.by (one_drawn next to.by to.drawn)) act stays at done.by done.drawn)) to.after
 
   -- a library call
-  module _ (kind : CallKind) (at : MethodRef) (args : List ℕ) (row : Summary) (next : List ℕ) (there : (to : ℕ) → In to next → Goes app f.method f.pc to) (is : ActAt app f.method f.pc (Call kind at args)) (uses : Uses_row app lists w.heap f kind at args row) where
+  module _ (kind : CallKind) (at : MethodRef) (args : List ℕ) (row : Summary) (next : List ℕ) (there : (to : ℕ) → In to next → Goes app f.method f.pc to) (is : ActAt app f.method f.pc (Call kind at args)) (uses : UsesRow app lists w.heap f kind at args row) where
     named : Named lists (shared_named row at.proto.ret)
     named = named_so lists row at.proto.ret (shared_within lists sound uses.key at (is_static_call kind) row uses.is_row)
 
@@ -92,7 +92,7 @@ module _ (app : App) (lists : Lists) (exact : EventsAreExact app lists) (sound :
         as_given (playing w (frame_of body m (arguments f args) false ∷ f ∷ fs)) t (calls is (calls_so app w.heap f kind at args (Body body) goes) (has_code app body m code))
         (subst (λ (z : Drawing Playing). Draws z t) (sym (same_Some (give (playing w (frame_of body m (arguments f args) false ∷ f ∷ fs))) way gives)) d)
 
-    by_next : (row : Summary) → Uses_row app lists w.heap f kind at args row → (ns : List ℕ) → where_next ns (stepping.calls_library app lists w f fs next kind at args row) ≡ Some way → StepsTo t
+    by_next : (row : Summary) → UsesRow app lists w.heap f kind at args row → (ns : List ℕ) → where_next ns (stepping.calls_library app lists w f fs next kind at args row) ≡ Some way → StepsTo t
     by_next row uses [] gives = absurd (none-some way gives)
     by_next row uses (n ∷ ns) gives =
         library_step_so kind at args row next there is uses t

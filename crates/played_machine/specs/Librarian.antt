@@ -10,7 +10,7 @@ use Rattle.app_machine.specs.Heap.{Value, Object, blank, labelled, add_all}
 use Rattle.app_machine.specs.Library.{value_at, shared_named, shared_class, joined_object}
 use Rattle.app_machine.specs.Lookups.{elem_key}
 use Rattle.app_machine.specs.Names.{Name, is_reference, is_void}
-use Rattle.app_machine.specs.State.{write, shared_static, Arrival, World, Frame, object_at, new_object, Component_state}
+use Rattle.app_machine.specs.State.{write, shared_static, Arrival, World, Frame, object_at, new_object, ComponentState}
 use Rattle.app_machine.specs.Summaries.{numbers_from}
 use Rattle.played_machine.specs.Drawing.{Drawing, give, ◌>>=◌, one_of}
 use Rattle.played_machine.specs.Local.{got}
@@ -53,7 +53,7 @@ abbrev pub joined_value : Name → List Object → List ℕ → List Object × V
 joined_value ret heap labels = if is_reference ret then (heap ++ joined_object ret labels ∷ [], record { place = Some (length heap); labels = labels }) else (heap, labelled labels)
 
 -- the places of the components that are there, ascending
-abbrev pub live_place : Component_state → Option ℕ
+abbrev pub live_place : ComponentState → Option ℕ
 live_place component = if component.state == 0 then None else component.place
 
 abbrev pub live_places : App → World → List ℕ

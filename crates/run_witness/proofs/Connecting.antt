@@ -292,13 +292,13 @@ replies_bob turn is =
     same : session_of bob turn.session.appeal_days turn.session.day turn.session.edition ≡ turn.session
     same = ap (λ (party : Party). session_of party turn.session.appeal_days turn.session.day turn.session.edition) (sym is)
 
-    Reply_by : Plan → Reply
-    Reply_by plan = (carried (speaks_of turn.session turn.command) (decision_by turn.session turn.judgement) plan (appealed ∷ [])).0
+    ReplyBy : Plan → Reply
+    ReplyBy plan = (carried (speaks_of turn.session turn.command) (decision_by turn.session turn.judgement) plan (appealed ∷ [])).0
 
     of_plan : (plan : Plan) → ((refusal : Refusal) × (plan ≡ Say (replies.No refusal))) ⊎ (plan ≡ Say (replies.Lines (line ∷ [])))
-        → ((refusal : Refusal) × (Reply_by plan ≡ replies.No refusal)) ⊎ (Reply_by plan ≡ replies.Lines (line ∷ []))
-    of_plan plan (inl h) = inl (h.0, ap Reply_by h.1)
-    of_plan plan (inr h) = inr (ap Reply_by h)
+        → ((refusal : Refusal) × (ReplyBy plan ≡ replies.No refusal)) ⊎ (ReplyBy plan ≡ replies.Lines (line ∷ []))
+    of_plan plan (inl h) = inl (h.0, ap ReplyBy h.1)
+    of_plan plan (inr h) = inr (ap ReplyBy h)
 
 -- the last byte but one of a text
 abbrev scan : ℕ → ℕ → List ℕ → ℕ

@@ -2,13 +2,13 @@
 use Rattle.std.proofs.Common.{◌≡◌, ◌==◌, ◌<◌, ℕ, zero, suc, Bool, true, false, cond, List, [], ◌∷◌, ◌++◌, length, slice_get, refl, sym, ap, ◌∙◌, arith, eqb-true, eq-eqb}
 use Rattle.std.specs.Prelude.{slice_set}
 use Rattle.app_machine.specs.Events.{set_component}
-use Rattle.app_machine.specs.State.{Component_state}
+use Rattle.app_machine.specs.State.{ComponentState}
 use Rattle.played_machine.proofs.Ordered.{false_true}
 use Rattle.runner_world.specs.declared.lives.Life.{Life}
 use Rattle.runner_world.specs.Shown.{absent, state_of, state_or_absent}
 
 -- a list of states, absent past the end
-abbrev pub states_in : List Life → ℕ → Component_state
+abbrev pub states_in : List Life → ℕ → ComponentState
 states_in xs i = state_or_absent (slice_get xs i)
 
 same : (xs : List Life) (k : ℕ) (v : Life) → k < length xs → states_in (slice_set xs k v) k ≡ state_of v
