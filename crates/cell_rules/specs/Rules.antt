@@ -5,7 +5,7 @@ use Rattle.app_machine.specs.declared.app.App.{App}
 use Rattle.vet_base.specs.Members.{In}
 use Rattle.fact_rows.specs.declared.row.Row.{Row}
 use Rattle.flow_rules.specs.Rules.{Starts}
-use Rattle.rule_sets.specs.Deriving.{DerivableBy, ClosedBy, GoodBy}
+use Rattle.flow_rules.specs.Deriving.{DerivableBy, ClosedBy, GoodBy}
 use Rattle.cell_rules.specs.KeptRules.{KeptRule}
 use Rattle.cell_rules.specs.LocalRules.{LocalRule}
 use Rattle.cell_rules.specs.HeapRules.{HeapRule}

@@ -1,4 +1,5 @@
 pub mod CallRules
+pub mod Deriving
 pub mod EffectRules
 pub mod EventRules
 pub mod HandedRules

@@ -15,7 +15,7 @@ use Rattle.rule_ground.specs.declared.conclusion.FromThird.{FromThird}
 use Rattle.rule_ground.specs.Given.{rows_in, from_second, from_third, fourth_in}
 use Rattle.rule_ground.specs.Hits.{Among}
 use Rattle.rule_ground.specs.Exact.{IsJust}
-use Rattle.rule_sets.specs.Deriving.{DerivationBy, DerivableBy, from_nothing, from_start, from_rule}
+use Rattle.flow_rules.specs.Deriving.{DerivationBy, DerivableBy, from_nothing, from_start, from_rule}
 use Rattle.rule_sets.proofs.Deriving.{derivable_start, derivable_rule, each_known}
 use Rattle.flow_story.specs.declared.line.Numbers.{Numbers}
 use Rattle.flow_story.specs.declared.line.Numbers.TheVariants as numbers

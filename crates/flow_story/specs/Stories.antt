@@ -4,7 +4,7 @@ use Rattle.std.specs.List.{slice_get}
 use Rattle.vet_base.specs.Members.{In, IsAt}
 use Rattle.vet_base.specs.Apart.{Apart}
 use Rattle.fact_rows.specs.declared.row.Row.{Row}
-use Rattle.rule_sets.specs.Deriving.{DerivableBy}
+use Rattle.flow_rules.specs.Deriving.{DerivableBy}
 use Rattle.flow_story.specs.declared.line.Numbers.{Numbers}
 use Rattle.flow_story.specs.declared.line.Numbers.TheVariants as numbers
 use Rattle.flow_story.specs.declared.line.StoryLine.{StoryLine}

@@ -3,7 +3,7 @@ use Rattle.std.proofs.Common.{◌≡◌, List, [], ◌∷◌, length, refl, sym,
 use Rattle.vet_base.specs.Apart.{Apart}
 use Rattle.vet_base.specs.Members.{In}
 use Rattle.fact_rows.specs.declared.row.Row.{Row}
-use Rattle.rule_sets.specs.Deriving.{DerivationBy, DerivableBy, from_nothing, from_start, from_rule}
+use Rattle.flow_rules.specs.Deriving.{DerivationBy, DerivableBy, from_nothing, from_start, from_rule}
 use Rattle.taint_solver.specs.Solving.{MoreThan}
 use Rattle.search_witness.specs.Searches.{Begins, Follows, comes_next, Nothing, SearchesEnd, next, start}
 
