@@ -1,0 +1,6 @@
+use Rattle.std.proofs.Common.{◌≡◌, ◌&&◌, drop, nat_eq}
+use Rattle.std.specs.Cmp.Lexicographic.{pointwise}
+use Rattle.store_office.proofs.office.same_bytes.Given as goal
+
+abbrev pub invariant-loop-i : goal.invariant-loop-i
+invariant-loop-i l = pointwise nat_eq l.own l.other ≡ (l.same && pointwise nat_eq (drop l.i l.own) (drop l.i l.other))
