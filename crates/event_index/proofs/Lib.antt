@@ -7,4 +7,5 @@ pub mod Listing
 pub mod Noting
 pub mod Pushed
 pub mod Rows
+pub mod Takers
 pub mod Words

@@ -1,8 +1,9 @@
 //! Which classes are below which types, by a bit.
-ghost use Rattle.std.specs.Prelude.{◌≡◌, IfOk, None, Some, slice_get};
+ghost use Rattle.std.specs.Prelude.{◌≡◌, ◌<◌, IfOk, IfSome, None, Some, length, slice_get};
 ghost use Rattle.app_machine.specs.Lookups.{class_named};
 ghost use Rattle.app_machine.specs.Sound.{SoundApp};
 ghost use Rattle.app_model.specs.Above.{is_below, is_class_below};
+ghost use Rattle.event_index.specs.Asked.{TellsAbove};
 ghost use Rattle.event_index.specs.Kinds.{IsColumn};
 ghost use Rattle.event_index.specs.Settled.{IsBelowTable};
 
@@ -105,6 +106,32 @@ impl<'a> BelowTable<'a> {
     {
         self.is_outside_below(class, column, kind)
             || array_below(self.app, self.listed.lists, class, kind)
+    }
+
+    /// The row of the class of the app of this number.
+    fn row_at(&self, number: usize, class: &Name) -> Option<&Bits>
+        requires table { IsBelowTable self.now }
+        requires there { slice_get self.now.app.now.classes number ≡ class_named self.now.app.now class.now }
+        requires within { number < length self.now.app.now.classes }
+        ensures { IfSome result (λ row. TellsAbove self.now class.now row.now) }
+    {
+        match self.rows.get(number) {
+            Some(Some(row)) => Some(row),
+            _ => None,
+        }
+    }
+
+    /// The row of the types above the class, where there is one.
+    #[tactic(auto, using(crate::proofs::Takers::listed_tells))]
+    pub fn row(&self, class: &Name) -> Option<&Bits>
+        requires sound { SoundApp self.now.app.now }
+        requires table { IsBelowTable self.now }
+        ensures { IfSome result (λ row. TellsAbove self.now class.now row.now) }
+    {
+        match number_of(self.app, class.as_bytes()) {
+            Some(number) => self.row_at(number, class),
+            None => self.listed.row(class.as_bytes()),
+        }
     }
 
     /// Whether a value of the class may stand where the type `kind` is asked for.

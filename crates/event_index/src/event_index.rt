@@ -7,11 +7,13 @@ ghost use Rattle.app_model.specs.EventBodies.{click, component_callback, handed_
 ghost use Rattle.event_index.specs.Bodies.{life_run};
 ghost use Rattle.event_index.specs.Comings.{IsComing, body_if, callback_run, comings};
 
+use crate::asked::{Asked, asked_by_all};
 use crate::below_table::BelowTable;
 use crate::bodies::{Event, bodies_of, known_body};
 use crate::comings::{Coming, comings_of};
 use crate::names::number_of;
 use crate::order::{depths_of, order_of};
+use crate::taker::Taker;
 use app_machine::{App, Lists};
 use app_model::find_body;
 use std::alloc::Global;
@@ -27,6 +29,7 @@ pub struct EventIndex<'a> {
     comings: Vec<Option<Vec<Coming>>>,
     life: Vec<Vec<Option<u32>>>,
     clicks: Vec<Vec<Option<u32>>>,
+    asked: Vec<Vec<Option<Asked<'a>>>>,
 }
 
 impl<'a> Model for EventIndex<'a> {
@@ -38,7 +41,8 @@ impl<'a> Model for EventIndex<'a> {
 
     ghost view = { λ x. (x.table.app.now, x.table.listed.lists.now) };
 
-    ghost invariant = { λ x. HasTables x.table x.comings.items x.life.items x.clicks.items };
+    ghost invariant = { λ x. HasTables x.table x.comings.items x.life.items x.clicks.items
+        x.asked.items };
 }
 
 /// The body of the callback row, where it is among these.
@@ -69,11 +73,13 @@ impl<'a> EventIndex<'a> {
         let clicks = bodies_of(alloc, app, &depths, Event::Click)?;
         let table = BelowTable::of(alloc, app, lists, &order)?;
         let comings = comings_of(alloc, &table, &depths)?;
+        let asked = asked_by_all(alloc, &table.listed.kinds, app.methods.as_slice())?;
         Ok(EventIndex {
             table,
             comings,
             life,
             clicks,
+            asked,
         })
     }
 
@@ -97,6 +103,19 @@ impl<'a> EventIndex<'a> {
         ensures { result ≡ is_below self.now.0 self.now.1 class.now kind.now }
     {
         self.table.is_below(class, kind)
+    }
+
+    /// The class, with what is above it, as parameters are asked whether they may be objects of it.
+    pub fn taker<'b>(&'b self, class: &'b Name) -> Taker<'b>
+        requires { SoundApp self.now.0 }
+        ensures { result ≡ (self.now.0, self.now.1, class.now) }
+    {
+        Taker {
+            table: &self.table,
+            asked: self.asked.as_slice(),
+            class,
+            row: self.table.row(class),
+        }
     }
 
     /// How many callback rows the lists have.

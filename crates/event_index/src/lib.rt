@@ -3,6 +3,7 @@
 //! events of components run.
 #![tactic(auto)]
 
+mod asked;
 mod below_table;
 mod bits;
 mod bodies;
@@ -14,6 +15,8 @@ mod listed;
 mod names;
 mod order;
 mod settling;
+mod taker;
 
 pub use comings::Coming;
 pub use event_index::EventIndex;
+pub use taker::Taker;
