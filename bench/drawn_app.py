@@ -5,10 +5,9 @@ one chain of calls. It is assembled by Debian's smali.
 usage: drawn_app.py FOLDER SEED CLASSES
 """
 import os
-import re
 import subprocess
 import sys
-from made_app import MANIFEST, SAMPLE
+from made_app import put_forms
 
 OBJECT = 'Ljava/lang/Object;'
 BUILDER = 'Ljava/lang/StringBuilder;'
@@ -113,12 +112,7 @@ def drawn(path, seed, classes):
         with open(f'{path}/smali/Class{number}.smali', 'w') as out:
             out.write(text + '\n')
     subprocess.run(['smali', 'assemble', '-a', '15', '-o', f'{path}/classes.dex', f'{path}/smali'], check=True)
-    with open(f'{path}/manifest.toml', 'w') as out:
-        out.write(MANIFEST)
-    for name in ['layouts.toml', 'declaration.toml']:
-        open(f'{path}/{name}', 'w').close()
-    with open(SAMPLE) as lists, open(f'{path}/lists.toml', 'w') as out:
-        out.write(re.sub('(?m)^rows = .*', 'rows = 4000000', lists.read()))
+    put_forms(path)
 
 
 if __name__ == '__main__':

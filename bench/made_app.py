@@ -7,17 +7,23 @@ SAMPLE = os.path.join(os.path.dirname(os.path.abspath(__file__)), '..', 'example
 MANIFEST = 'package = "gen"\ndex_files = 1\n\n[[component]]\nkind = "activity"\nclass = "Lgen/Main;"\n'
 
 
-def made(other, path, size):
-    """Makes the folder of the app of the seed 7 with `size` drawn methods, whose DEX file the program `other` writes by
-    `--keys 5 dex-make SEED SIZE FILE`, and gives its number of rows, which `other` tells by `--keys 5 make SEED SIZE 1`."""
-    os.makedirs(path, exist_ok=True)
-    subprocess.run([other, '--keys', '5', 'dex-make', '7', str(size), f'{path}/classes.dex'], check=True)
+def put_forms(path):
+    """Puts beside the DEX files in the folder what they are judged with: a manifest with one activity, no layouts, no
+    declaration, and the lists of the examples with the greatest limit of rows."""
     with open(f'{path}/manifest.toml', 'w') as out:
         out.write(MANIFEST)
     for name in ['layouts.toml', 'declaration.toml']:
         open(f'{path}/{name}', 'w').close()
     with open(SAMPLE) as lists, open(f'{path}/lists.toml', 'w') as out:
         out.write(re.sub('(?m)^rows = .*', 'rows = 4000000', lists.read()))
+
+
+def made(other, path, size):
+    """Makes the folder of the app of the seed 7 with `size` drawn methods, whose DEX file the program `other` writes by
+    `--keys 5 dex-make SEED SIZE FILE`, and gives its number of rows, which `other` tells by `--keys 5 make SEED SIZE 1`."""
+    os.makedirs(path, exist_ok=True)
+    subprocess.run([other, '--keys', '5', 'dex-make', '7', str(size), f'{path}/classes.dex'], check=True)
+    put_forms(path)
     told = subprocess.run([other, '--keys', '5', 'make', '7', str(size), '1'], capture_output=True, text=True).stdout
     return int(re.search(r'rows (\d+)', told).group(1))
 

@@ -11,10 +11,9 @@ nothing with them. Prints the rows, the findings, the lines of all stories, the 
 each word, their ratio, and how many bytes a row `story` takes at its peak beyond what `check` does.
 """
 import os
-import re
 import subprocess
 import sys
-from made_app import MANIFEST, SAMPLE, timed
+from made_app import put_forms, timed
 
 FINDINGS, GROUP = 1000, 32
 OBJECT = 'Ljava/lang/Object;'
@@ -55,12 +54,7 @@ def write_app(folder, count):
     with open(f'{folder}/smali/Main.smali', 'w') as out:
         out.write('\n'.join(parts) + '\n')
     subprocess.run(['smali', 'assemble', '-a', '15', '-o', f'{folder}/classes.dex', f'{folder}/smali'], check=True)
-    with open(f'{folder}/manifest.toml', 'w') as out:
-        out.write(MANIFEST)
-    for name in ['layouts.toml', 'declaration.toml']:
-        open(f'{folder}/{name}', 'w').close()
-    with open(SAMPLE) as lists, open(f'{folder}/lists.toml', 'w') as out:
-        out.write(re.sub('(?m)^rows = .*', 'rows = 4000000', lists.read()))
+    put_forms(folder)
 
 
 def rows_of(program, folder):
