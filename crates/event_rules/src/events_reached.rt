@@ -8,37 +8,33 @@ ghost use Rattle.event_rules.specs.GivenBack.{label_back, label_handed, label_ta
 use crate::given_back::{Back, give_back, takes_nothing};
 use crate::handed::HandedObject;
 use crate::known::Known;
-use event_index::EventIndex;
+use event_index::{EventIndex, Taker};
 use fact_rows::{Activation, Row, Site};
 use rule_ground::{Facts, Join, Key, Sink, for_each_hit};
 use site_classes::site_class;
-use vet_base::Name;
 
-/// A site of handed objects with its class.
+/// A site of handed objects with its class, as it is asked for.
 #[derive(Clone, Copy)]
-struct Objects<'a> {
-    index: &'a EventIndex<'a>,
+struct Objects<'a, 'b> {
+    taker: &'a Taker<'b>,
     site: Site,
-    class: &'a Name,
 }
 
-impl<'a> Objects<'a> {
+impl<'a, 'b> Objects<'a, 'b> {
     /// What is known of them comes back to an event.
-    fn back(&self, known: Known, by: Activation) -> Back<'a>
+    fn back(&self, known: Known, by: Activation) -> Back<'a, 'b>
         ensures { result ≡ record {
-          index = self.now.index;
+          taker = self.now.taker;
           object = record { site = self.now.site; known = known };
-          class = self.now.class;
           by = by;
         } }
     {
         Back {
-            index: self.index,
+            taker: self.taker,
             object: HandedObject {
                 site: self.site,
                 known,
             },
-            class: self.class,
             by,
         }
     }
@@ -46,15 +42,15 @@ impl<'a> Objects<'a> {
 
 /// Each label to which they lead comes back to the event.
 #[derive(Drop)]
-struct Labels<'a> {
-    objects: Objects<'a>,
+struct Labels<'a, 'b> {
+    objects: Objects<'a, 'b>,
     by: Activation,
 }
 
-impl<'a> Join for Labels<'a> {
-    ghost ready = { λ j. SoundApp j.objects.index.now.0 };
+impl<'a, 'b> Join for Labels<'a, 'b> {
+    ghost ready = { λ j. SoundApp j.objects.taker.now.0 };
 
-    ghost gives = { λ j row. label_back j.objects.index.now.0 j.objects.index.now.1 j.objects.site j.objects.class.now
+    ghost gives = { λ j row. label_back j.objects.taker.now.0 j.objects.taker.now.1 j.objects.site j.objects.taker.now.2
         j.by
         row };
 
@@ -72,15 +68,15 @@ impl<'a> Join for Labels<'a> {
 /// They come back to the event, with all to which they lead.
 fn pair<F: Facts, S: Sink>(
     facts: &F,
-    objects: &Objects<'_>,
+    objects: &Objects<'_, '_>,
     by: Activation,
     out: &mut S,
 ) -> Result<(), S::Refusal>
-    requires { SoundApp objects.now.index.now.0 }
-    ensures { OnOk result (out.new ≡ fold S.then out.old (pair_gives objects.now.index.now.0 objects.now.index.now.1
-        (F.hits facts.now) objects.now.site objects.now.class.now by)) }
+    requires { SoundApp objects.now.taker.now.0 }
+    ensures { OnOk result (out.new ≡ fold S.then out.old (pair_gives objects.now.taker.now.0 objects.now.taker.now.1
+        (F.hits facts.now) objects.now.site objects.now.taker.now.2 by)) }
 {
-    if takes_nothing(objects.index.app(), by.method) {
+    if takes_nothing(objects.taker.app(), by.method) {
         return Ok(());
     }
     give_back(&objects.back(Known::There, by), out)?;
@@ -113,7 +109,10 @@ impl<'a, F: Facts> Join for ToEvent<'a, F> {
         match row {
             Row::Handed(site) => match site_class(index.app(), index.lists(), site) {
                 None => Ok(()),
-                Some(class) => pair(self.facts, &Objects { index, site, class }, self.by, out),
+                Some(class) => {
+                    let taker = &index.taker(class);
+                    pair(self.facts, &Objects { taker, site }, self.by, out)
+                }
             },
             _ => Ok(()),
         }
@@ -138,16 +137,16 @@ pub fn reach_event<F: Facts, S: Sink>(
 
 /// The objects come back to events.
 #[derive(Drop)]
-struct FromObjects<'a, F> {
-    facts: &'a F,
-    objects: Objects<'a>,
+struct FromObjects<'f, 'a, 'b, F> {
+    facts: &'f F,
+    objects: Objects<'a, 'b>,
 }
 
-impl<'a, F: Facts> Join for FromObjects<'a, F> {
-    ghost ready = { λ j. SoundApp j.objects.index.now.0 };
+impl<'f, 'a, 'b, F: Facts> Join for FromObjects<'f, 'a, 'b, F> {
+    ghost ready = { λ j. SoundApp j.objects.taker.now.0 };
 
-    ghost gives = { λ j row. entry_takes j.objects.index.now.0 j.objects.index.now.1 (F.hits j.facts.now) j.objects.site
-        j.objects.class.now row };
+    ghost gives = { λ j row. entry_takes j.objects.taker.now.0 j.objects.taker.now.1 (F.hits j.facts.now) j.objects.site
+        j.objects.taker.now.2 row };
 
     fn give<S: Sink>(&self, row: Row, out: &mut S) -> Result<(), S::Refusal> {
         match row {
@@ -171,7 +170,8 @@ pub fn hand_back<F: Facts, S: Sink>(
     match site_class(index.app(), index.lists(), site) {
         None => Ok(()),
         Some(class) => {
-            let objects = Objects { index, site, class };
+            let taker = &index.taker(class);
+            let objects = Objects { taker, site };
             for_each_hit(
                 facts,
                 &Key::EventEntries,
@@ -184,16 +184,16 @@ pub fn hand_back<F: Facts, S: Sink>(
 
 /// The label comes back to events.
 #[derive(Drop)]
-struct FromLabel<'a> {
-    objects: Objects<'a>,
+struct FromLabel<'a, 'b> {
+    objects: Objects<'a, 'b>,
     known: Known,
 }
 
-impl<'a> Join for FromLabel<'a> {
-    ghost ready = { λ j. SoundApp j.objects.index.now.0 };
+impl<'a, 'b> Join for FromLabel<'a, 'b> {
+    ghost ready = { λ j. SoundApp j.objects.taker.now.0 };
 
-    ghost gives = { λ j row. label_takes j.objects.index.now.0 j.objects.index.now.1
-        (record { site = j.objects.site; known = j.known }) j.objects.class.now row };
+    ghost gives = { λ j row. label_takes j.objects.taker.now.0 j.objects.taker.now.1
+        (record { site = j.objects.site; known = j.known }) j.objects.taker.now.2 row };
 
     fn give<S: Sink>(&self, row: Row, out: &mut S) -> Result<(), S::Refusal> {
         match row {
@@ -205,17 +205,17 @@ impl<'a> Join for FromLabel<'a> {
 
 /// It does so where the objects are handed.
 #[derive(Drop)]
-struct WhereHanded<'a, F> {
-    facts: &'a F,
-    objects: Objects<'a>,
+struct WhereHanded<'f, 'a, 'b, F> {
+    facts: &'f F,
+    objects: Objects<'a, 'b>,
     known: Known,
 }
 
-impl<'a, F: Facts> Join for WhereHanded<'a, F> {
-    ghost ready = { λ j. SoundApp j.objects.index.now.0 };
+impl<'f, 'a, 'b, F: Facts> Join for WhereHanded<'f, 'a, 'b, F> {
+    ghost ready = { λ j. SoundApp j.objects.taker.now.0 };
 
-    ghost gives = { λ j row. is_handed j.objects.index.now.0 j.objects.index.now.1 (F.hits j.facts.now)
-        (record { site = j.objects.site; known = j.known }) j.objects.class.now row };
+    ghost gives = { λ j row. is_handed j.objects.taker.now.0 j.objects.taker.now.1 (F.hits j.facts.now)
+        (record { site = j.objects.site; known = j.known }) j.objects.taker.now.2 row };
 
     fn give<S: Sink>(&self, row: Row, out: &mut S) -> Result<(), S::Refusal> {
         match row {
@@ -245,10 +245,10 @@ pub fn hand_label_back<F: Facts, S: Sink>(
     match site_class(index.app(), index.lists(), object.site) {
         None => Ok(()),
         Some(class) => {
+            let taker = &index.taker(class);
             let objects = Objects {
-                index,
+                taker,
                 site: object.site,
-                class,
             };
             let with = WhereHanded {
                 facts,

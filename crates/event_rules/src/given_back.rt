@@ -1,52 +1,28 @@
 //! Rule 45: handed objects come back as parameters of events.
 ghost use Rattle.std.specs.Prelude.{◌≡◌, ◌+◌, ◌-◌, ◌<◌, ◌^◌, ℕ, IsTrue, OnOk, Some, false, fold, slice_get};
-ghost use Rattle.std.specs.Option.{option_copied};
 ghost use Rattle.app_machine.specs.declared.lists.Lists.{Lists};
 ghost use Rattle.app_machine.specs.Names.{Name as NameOf, is_reference};
 ghost use Rattle.app_machine.specs.Sound.{SoundApp};
 ghost use Rattle.rule_ground.specs.Below.{for_below};
-ghost use Rattle.event_rules.specs.GivenBack.{TakesNone, back, back_index, back_premises, back_register, takes};
-ghost use Rattle.event_rules.specs.GivenBack.{type_at};
+ghost use Rattle.event_rules.specs.GivenBack.{TakesNone, back, back_index, back_premises, back_register};
 
 use crate::handed::HandedObject;
 use crate::known::Known;
 use crate::numbers;
 use app_machine::{App, Method};
-use app_parts::{is_reference, parameter_type, position_at};
+use app_parts::is_reference;
 use begin_rules::first_argument;
-use event_index::EventIndex;
+use event_index::Taker;
 use fact_rows::{Activation, Row};
 use rule_ground::{Conclusion, Premises, Sink, entry};
 use vet_base::Name;
 
 /// A handed object of a class that comes back to an event.
 #[derive(Clone, Copy)]
-pub struct Back<'a> {
-    pub index: &'a EventIndex<'a>,
+pub struct Back<'a, 'b> {
+    pub taker: &'a Taker<'b>,
     pub object: HandedObject,
-    pub class: &'a Name,
     pub by: Activation,
-}
-
-/// The type of the position of the argument register, where it has one.
-fn type_at(params: &[Name], index: u32) -> Option<&Name>
-    ensures { option_copied result ≡ type_at params.now index }
-{
-    match position_at(params, index) {
-        None => None,
-        Some(position) => parameter_type(params, position),
-    }
-}
-
-/// Whether a parameter of the type may be an object of the class.
-fn takes(index: &EventIndex<'_>, class: &Name, kind: Option<&Name>) -> bool
-    requires { SoundApp index.now.0 }
-    ensures { result ≡ takes index.now.0 index.now.1 class.now (option_copied kind.entry) }
-{
-    match kind {
-        None => false,
-        Some(kind) => is_reference(kind) && index.is_below(class, kind),
-    }
 }
 
 fn premises(object: HandedObject, by: Activation) -> Premises
@@ -78,32 +54,33 @@ fn to_register<S: Sink>(
 
 /// The register of this index among those of the arguments, where its type takes the class.
 fn to_index<S: Sink>(
-    with: &Back<'_>,
+    with: &Back<'_, '_>,
     method: &Method,
     index: u32,
     out: &mut S,
 ) -> Result<(), S::Refusal>
-    requires sound { SoundApp with.now.index.now.0 }
+    requires sound { SoundApp with.now.taker.now.0 }
+    requires there { slice_get with.now.taker.now.0.methods with.now.by.method ≡ Some method.now }
     requires fits { (method.now.registers - method.now.ins) + index < 2 ^ 32 }
     ensures { OnOk result (out.new ≡ fold S.then out.old
-        (back_index with.now.index.now.0 with.now.index.now.1 with.now.object
-        with.now.class.now with.now.by method.now index)) }
+        (back_index with.now.taker.now.0 with.now.taker.now.1 with.now.object
+        with.now.taker.now.2 with.now.by method.now index)) }
 {
-    let kind = type_at(method.at.proto.params.as_slice(), index);
-    if takes(with.index, with.class, kind) {
+    if with.taker.takes(with.by.method, method, index) {
         to_register(with.object, with.by, first_argument(method) + index, out)
     } else {
         Ok(())
     }
 }
 
-fn to_indices<S: Sink>(with: &Back<'_>, method: &Method, out: &mut S) -> Result<(), S::Refusal>
-    requires sound { SoundApp with.now.index.now.0 }
+fn to_indices<S: Sink>(with: &Back<'_, '_>, method: &Method, out: &mut S) -> Result<(), S::Refusal>
+    requires sound { SoundApp with.now.taker.now.0 }
+    requires there { slice_get with.now.taker.now.0.methods with.now.by.method ≡ Some method.now }
     requires fits { (method.now.registers - method.now.ins) + method.now.ins < 2 ^ 32 }
     ensures { OnOk result
         (out.new ≡ fold S.then out.old
-        (for_below (back_index with.now.index.now.0 with.now.index.now.1 with.now.object with.now.class.now with.now.by
-        method.now) method.now.ins)) }
+        (for_below (back_index with.now.taker.now.0 with.now.taker.now.1 with.now.object with.now.taker.now.2
+        with.now.by method.now) method.now.ins)) }
 {
     for index in 0..method.ins {
         to_index(with, method, index, out)?;
@@ -112,12 +89,12 @@ fn to_indices<S: Sink>(with: &Back<'_>, method: &Method, out: &mut S) -> Result<
 }
 
 /// Each parameter whose type takes the class holds what is known of the object.
-pub fn give_back<S: Sink>(with: &Back<'_>, out: &mut S) -> Result<(), S::Refusal>
-    requires { SoundApp with.now.index.now.0 }
-    ensures { OnOk result (out.new ≡ fold S.then out.old (back with.now.index.now.0 with.now.index.now.1 with.now.object
-        with.now.class.now with.now.by)) }
+pub fn give_back<S: Sink>(with: &Back<'_, '_>, out: &mut S) -> Result<(), S::Refusal>
+    requires { SoundApp with.now.taker.now.0 }
+    ensures { OnOk result (out.new ≡ fold S.then out.old (back with.now.taker.now.0 with.now.taker.now.1 with.now.object
+        with.now.taker.now.2 with.now.by)) }
 {
-    match with.index.app().methods.get(with.by.method as usize) {
+    match with.taker.app().methods.get(with.by.method as usize) {
         None => Ok(()),
         Some(method) => {
             if method.is_native {

@@ -7,7 +7,7 @@ use Rattle.event_rules.proofs.given_back.to_indices.Goals as goal
 
 pub loop-index-preserved : goal.loop-index-preserved
 loop-index-preserved g c =
-    let f : ℕ → List Conclusion = back_index c.args.with.now.index.now.0 c.args.with.now.index.now.1 c.args.with.now.object c.args.with.now.class.now c.args.with.now.by c.args.method.now in
+    let f : ℕ → List Conclusion = back_index c.args.with.now.taker.now.0 c.args.with.now.taker.now.1 c.args.with.now.object c.args.with.now.taker.now.2 c.args.with.now.by c.args.method.now in
     let i = c.loop-index.index in
     c.in_ok-to_index.ensures
     ∙ ap (λ z. fold g.S.Sink.then z (f i)) c.loop-index.invariant

@@ -4,4 +4,4 @@ use Rattle.event_rules.specs.GivenBack.{back_index}
 use Rattle.event_rules.proofs.given_back.to_indices.Given as goal
 
 abbrev pub invariant-loop-index : goal.invariant-loop-index
-invariant-loop-index g l = l.out ≡ fold g.S.Sink.then l.fn.out (for_below (back_index l.with.index.now.0 l.with.index.now.1 l.with.object l.with.class.now l.with.by l.method) l.index)
+invariant-loop-index g l = l.out ≡ fold g.S.Sink.then l.fn.out (for_below (back_index l.with.taker.now.0 l.with.taker.now.1 l.with.object l.with.taker.now.2 l.with.by l.method) l.index)
