@@ -83,10 +83,11 @@ impl FlowRows {
         self.rows.len()
     }
 
-    /// The rows in the order in which they were found.
+    /// The rows in the order in which they were found, each once, as the solver stored them.
     #[tactic(auto, using(crate::proofs::InOrder::same_in_order))]
-    pub(crate) fn found(&self) -> &HashedRows
-        ensures { SameRows result.now self.now }
+    pub fn found(&self) -> &HashedRows
+        ensures same { SameRows result.now self.now }
+        ensures apart { Apart result.now }
     {
         rows_stand_in_order();
         &self.rows
