@@ -1,10 +1,9 @@
 //! The files in which a desk may keep its cases.
-ghost use Rattle.std.specs.Prelude.{◌≡◌, ◌++◌, map, string_bytes, IfOk};
-ghost use Rattle.std.specs.Option.{option_map};
-ghost use Rattle.desk_words.specs.Serve.{database_name, parse};
+ghost use Rattle.std.specs.Prelude.{◌≡◌, ◌++◌, string_bytes, IfOk};
+ghost use Rattle.desk_words.specs.Serve.{asked_words, database_name};
 ghost use Rattle.desk_program.specs.Files.{journal_name, names_of, files_of};
 
-use desk_words::serving_in;
+use desk_words::{Serving, database_in};
 use std::alloc::Global;
 use vet_base::Memory;
 
@@ -15,15 +14,6 @@ pub struct CaseFiles {
     pub database: String,
     /// `desk.journal`
     pub journal: String,
-}
-
-#[tactic(auto, unfolding(desk_words::specs::Serve::database_name))]
-fn database_in(alloc: Global, office: &str) -> Result<String, Memory>
-    ensures { IfOk result (λ path. string_bytes path ≡ database_name office.now) }
-{
-    let mut path = String::from_str(alloc, office)?;
-    path.push_str("/desk.sqlite")?;
-    Ok(path)
 }
 
 #[tactic(auto, unfolding(crate::specs::Files::journal_name))]
@@ -43,13 +33,9 @@ fn files_in(alloc: Global, office: &str) -> Result<CaseFiles, Memory>
     Ok(CaseFiles { database, journal })
 }
 
-/// Where the desk that the words ask for may keep its cases. `None` exactly where the words are no `serve OFFICE N`.
-pub fn case_files(alloc: Global, words: &[String]) -> Result<Option<CaseFiles>, Memory>
-    ensures { IfOk result (λ files. option_map names_of files
-        ≡ option_map files_of (parse (map string_bytes words.now))) }
+/// Where the desk that is asked for may keep its cases.
+pub fn case_files(alloc: Global, asked: &Serving) -> Result<CaseFiles, Memory>
+    ensures { IfOk result (λ files. names_of files ≡ files_of (asked_words asked.now)) }
 {
-    match serving_in(words) {
-        Some(asked) => Ok(Some(files_in(alloc, asked.office)?)),
-        None => Ok(None),
-    }
+    files_in(alloc, asked.office)
 }

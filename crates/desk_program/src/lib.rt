@@ -3,12 +3,11 @@
 //! the adapters of the system.
 #![tactic(auto)]
 
-ghost use Rattle.std.specs.Prelude.{◌≡◌, map, option_map, string_bytes};
+ghost use Rattle.std.specs.Prelude.{◌≡◌, map, string_bytes};
 ghost use Rattle.std.specs.Process.{exit_status};
 ghost use Rattle.desk_serving.specs.Obeying.{TellsDocket};
-ghost use Rattle.desk_service.specs.Saying.{status};
-ghost use Rattle.desk_service.specs.Serving.{seen, Answers};
-ghost use Rattle.desk_words.specs.Serve.{parse};
+ghost use Rattle.desk_service.specs.Serving.{seen, Ends};
+ghost use Rattle.desk_words.specs.Serve.{asked_words};
 ghost use Rattle.vet_program.specs.Program.{RunsGiven};
 ghost use Rattle.desk_program.specs.Program.{task_of, world, Runs};
 
@@ -20,7 +19,8 @@ use case_keeper::Keeper;
 use desk_callers::Caller;
 use desk_host::{HostClock, TcpDoor};
 use desk_links::{Clock, Door};
-use desk_service::{Outside, Status, serve};
+use desk_service::{Outside, Status, serve_desk};
+use desk_words::{Serving, serving_in};
 pub use files::{CaseFiles, case_files};
 use heard_files::{Files, Handing, Hearing, Sink};
 pub use keepers::Keepers;
@@ -40,15 +40,15 @@ use vet_program::{answered_without_desk, seed_of, words_of};
 use vetting_desk::{HostFiles, StandardSink, words_given};
 use worker_pool::{Crew, NoLookout};
 
-/// Serves a desk where the words ask for one, over this outside, with threads of the system; `None` where they ask for
-/// something else. What `serve` says of its status is so of the exit status.
+/// Serves the desk that is asked for, over this outside, with threads of the system. What `serve_desk` says of its
+/// status is so of the exit status.
 pub fn served<F, O, K, D, C, T>(
     alloc: Global,
-    words: &[String],
+    asked: &Serving,
     outside: &mut Outside<F, O, K, D, C>,
     rt: &T,
     seed: u64,
-) -> Option<ExitCode>
+) -> ExitCode
 where
     F: Files,
     O: Sink,
@@ -59,9 +59,9 @@ where
     // The keeper's cases, where it tells them, are those of a desk.
     requires { TellsDocket (K.told outside.old.keeper) }
 
-    // The exit status, the printed text and what became of cases and connections are those that are due to the words,
-    // unless a read, the door or the put failed in this very call, or memory ran out.
-    ensures answers { Answers (parse (map string_bytes words.now)) (C.told outside.old.clock)
+    // The exit status, the printed text and what became of cases and connections are those that are due to what is
+    // asked for, unless a read, the door or the put failed in this very call, or memory ran out.
+    ensures ends { Ends (asked_words asked.now) (C.told outside.old.clock)
         (seen (F.told outside.old.files) (F.fault_count outside.old.files) (F.heard outside.old.files)
         (O.taken outside.old.out) (O.fault_count outside.old.out) (O.handed outside.old.out)
         (K.told outside.old.keeper) (K.fault_count outside.old.keeper) (D.Link.told outside.old.door)
@@ -70,7 +70,7 @@ where
         (O.taken outside.new.out) (O.fault_count outside.new.out) (O.handed outside.new.out)
         (K.told outside.new.keeper) (K.fault_count outside.new.keeper) (D.Link.told outside.new.door)
         (D.Link.fault_count outside.new.door))
-        (option_map (λ code. status (exit_status code)) result) }
+        (exit_status result) }
     ensures docket { TellsDocket (K.told outside.new.keeper) }
 {
     let crew = Crew {
@@ -79,14 +79,14 @@ where
         workers: 1,
         seed,
     };
-    let Status(status) = serve(alloc, words, outside, &crew)?;
-    Some(ExitCode::from(status))
+    let Status(status) = serve_desk(alloc, asked, outside, &crew);
+    ExitCode::from(status)
 }
 
-/// Tells the keeper in which files its cases may be kept, where the words ask for a desk: those of its office.
+/// Tells the keeper in which files its cases may be kept: those of the office that is asked for.
 fn placed<K: Keepers>(
     alloc: Global,
-    words: &[String],
+    asked: &Serving,
     keepers: &K,
     keeper: &mut K::Kept,
 ) -> Result<(), Memory>
@@ -94,61 +94,50 @@ fn placed<K: Keepers>(
     ensures told { K.Kept.told keeper.new ≡ K.Kept.told keeper.old }
     ensures faults { K.Kept.fault_count keeper.new ≡ K.Kept.fault_count keeper.old }
 {
-    match case_files(alloc, words)? {
-        Some(files) => {
-            keepers.place(keeper, files);
-            Ok(())
-        }
-        None => Ok(()),
-    }
+    let files = case_files(alloc, asked)?;
+    keepers.place(keeper, files);
+    Ok(())
 }
 
-/// Serves a desk where the words ask for one, and else hands in an app or vets as they ask, over this outside and this
-/// caller, with threads of the system.
-fn answered<F, O, K, D, C, N, T>(
+/// Serves the desk that is asked for, with a keeper that is told where its cases may be kept. Where there is no memory
+/// for that, nothing is done.
+fn served_at_place<F, O, K, D, C, T>(
     alloc: Global,
-    words: &[String],
-    outside: &mut Outside<F, O, K, D, C>,
-    caller: &mut N,
+    asked: &Serving,
+    outside: &mut Outside<F, O, K::Kept, D, C>,
+    keepers: &K,
     rt: &T,
     seed: u64,
 ) -> ExitCode
 where
     F: Files,
     O: Sink,
-    K: Keeper,
+    K: Keepers,
     D: Door,
     C: Clock,
-    N: Caller,
     T: Threads + Wait + Sync,
-    requires { TellsDocket (K.told outside.old.keeper) }
-    ensures runs { Runs (task_of (map string_bytes words.now)) (C.told outside.old.clock)
-        (world (F.told outside.old.files) (F.fault_count outside.old.files) (F.heard outside.old.files)
+    requires docket { TellsDocket (K.Kept.told outside.old.keeper) }
+    requires unplaced { K.unplaced outside.old.keeper }
+    ensures ends { Ends (asked_words asked.now) (C.told outside.old.clock)
+        (seen (F.told outside.old.files) (F.fault_count outside.old.files) (F.heard outside.old.files)
         (O.taken outside.old.out) (O.fault_count outside.old.out) (O.handed outside.old.out)
-        (K.told outside.old.keeper) (K.fault_count outside.old.keeper) (D.Link.told outside.old.door)
-        (D.Link.fault_count outside.old.door) (N.Link.told caller.old) (N.Link.fault_count caller.old))
-        (world (F.told outside.new.files) (F.fault_count outside.new.files) (F.heard outside.new.files)
+        (K.Kept.told outside.old.keeper) (K.Kept.fault_count outside.old.keeper) (D.Link.told outside.old.door)
+        (D.Link.fault_count outside.old.door))
+        (seen (F.told outside.new.files) (F.fault_count outside.new.files) (F.heard outside.new.files)
         (O.taken outside.new.out) (O.fault_count outside.new.out) (O.handed outside.new.out)
-        (K.told outside.new.keeper) (K.fault_count outside.new.keeper) (D.Link.told outside.new.door)
-        (D.Link.fault_count outside.new.door) (N.Link.told caller.new) (N.Link.fault_count caller.new))
+        (K.Kept.told outside.new.keeper) (K.Kept.fault_count outside.new.keeper) (D.Link.told outside.new.door)
+        (D.Link.fault_count outside.new.door))
         (exit_status result) }
-    ensures docket { TellsDocket (K.told outside.new.keeper) }
+    ensures docket { TellsDocket (K.Kept.told outside.new.keeper) }
 {
-    match served(alloc, words, outside, rt, seed) {
-        Some(code) => code,
-        None => answered_without_desk(
-            alloc,
-            words,
-            &mut outside.files,
-            &mut outside.out,
-            caller,
-            rt,
-            seed,
-        ),
+    match placed(alloc, asked, keepers, &mut outside.keeper) {
+        Ok(()) => served(alloc, asked, outside, rt, seed),
+        Err(Memory) => ExitCode::from(7),
     }
 }
 
-/// The same with a keeper that is told where its cases may be kept. Where there is no memory for that, nothing is done.
+/// Serves a desk where the words ask for one, and else hands in an app or vets as they ask, over this outside and this
+/// caller, with threads of the system. The words that ask for a desk are taken apart here alone.
 fn answered_by<F, O, K, D, C, N, T>(
     alloc: Global,
     words: &[String],
@@ -180,9 +169,17 @@ where
         (exit_status result) }
     ensures docket { TellsDocket (K.Kept.told outside.new.keeper) }
 {
-    match placed(alloc, words, keepers, &mut outside.keeper) {
-        Ok(()) => answered(alloc, words, outside, caller, rt, seed),
-        Err(Memory) => ExitCode::from(7),
+    match serving_in(words) {
+        Some(asked) => served_at_place(alloc, &asked, outside, keepers, rt, seed),
+        None => answered_without_desk(
+            alloc,
+            words,
+            &mut outside.files,
+            &mut outside.out,
+            caller,
+            rt,
+            seed,
+        ),
     }
 }
 

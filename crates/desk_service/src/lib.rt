@@ -14,4 +14,4 @@ pub use desk_words::database_path;
 pub use laws::a_clear_decision_is_of_a_safe_app;
 pub use opening::Paper;
 pub use outside::{Outside, Status};
-pub use run::serve;
+pub use run::{serve, serve_desk};

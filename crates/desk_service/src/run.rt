@@ -30,8 +30,8 @@ fn printed<O: Sink>(alloc: Global, out: &mut O, status: Status, text: &[u8]) -> 
     }
 }
 
-/// Serves as the words ask, and prints what it came to.
-fn run<F, O, K, D, C, T, L>(
+/// Serves the desk that words ask for, as `serve` says, and prints what it came to.
+pub fn serve_desk<F, O, K, D, C, T, L>(
     alloc: Global,
     asked: &Serving,
     outside: &mut Outside<F, O, K, D, C>,
@@ -119,5 +119,5 @@ where
     ensures docket { TellsDocket (K.told outside.new.keeper) }
 {
     let asked = serving_in(words)?;
-    Some(run(alloc, &asked, outside, crew))
+    Some(serve_desk(alloc, &asked, outside, crew))
 }

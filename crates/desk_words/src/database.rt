@@ -7,8 +7,9 @@ use crate::command::serving_in;
 use std::alloc::Global;
 use vet_base::Memory;
 
+/// Where the desk of an office keeps its cases: `desk.sqlite` in its folder.
 #[tactic(auto, unfolding(crate::specs::Serve::database_name))]
-fn database_in(alloc: Global, office: &str) -> Result<String, Memory>
+pub fn database_in(alloc: Global, office: &str) -> Result<String, Memory>
     ensures { IfOk result (λ path. string_bytes path ≡ database_name office.now) }
 {
     let mut path = String::from_str(alloc, office)?;
@@ -16,8 +17,7 @@ fn database_in(alloc: Global, office: &str) -> Result<String, Memory>
     Ok(path)
 }
 
-/// Where the desk that the words ask for keeps its cases: `desk.sqlite` in the folder of the office. `None` exactly
-/// where the words are no `serve OFFICE N`.
+/// The same of the desk that the words ask for. `None` exactly where they are no `serve OFFICE N`.
 pub fn database_path(alloc: Global, words: &[String]) -> Result<Option<String>, Memory>
     ensures { IfOk result (λ path. option_map string_bytes path ≡ option_map (λ asked. database_name asked.office)
         (parse (map string_bytes words.now))) }

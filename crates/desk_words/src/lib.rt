@@ -9,6 +9,6 @@ mod serving;
 mod vetting;
 
 pub use command::{Command, command_in, serving_in, vetting_in};
-pub use database::database_path;
+pub use database::{database_in, database_path};
 pub use serving::Serving;
 pub use vetting::Vetting;

@@ -2,7 +2,7 @@ use Rattle.std.proofs.Common.{ap, sym}
 use Rattle.desk_service.specs.Serving.{Ends}
 use Rattle.desk_words.specs.Serve.{asked_words}
 use Rattle.desk_service.proofs.Ended.{ends_put}
-use Rattle.desk_service.proofs.run.run.Goals as goal
+use Rattle.desk_service.proofs.run.serve_desk.Goals as goal
 
 pub returns-in-Ok-clause-ends : goal.returns-in-Ok-clause-ends
 returns-in-Ok-clause-ends g c =
