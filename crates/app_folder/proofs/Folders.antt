@@ -1,16 +1,16 @@
 -- Reading the files of a folder one after the other.
-use Rattle.std.proofs.Common.{◌≡◌, ℕ, ◌+◌, ◌<◌, List, [], ◌∷◌, ◌++◌, Option, Result, Ok, Err, refl, sym, subst}
+use Rattle.std.proofs.Common.{◌≡◌, ℕ, ◌+◌, ◌<◌, List, [], ◌∷◌, ◌++◌, Option, Result, Ok, Err, refl, sym, subst, ◌∙◌}
 use Rattle.std.specs.Prelude.{IsTrue, is_some}
 use Rattle.std.specs.List.{AllByRecursion}
 use Rattle.vet_base.specs.Outside.{Told, held_by}
 use Rattle.vet_base.specs.Script.{Value, run, Fails}
 use Rattle.vet_base.proofs.Scripts.{run_bind, first_fails, Continues, goes_on, ends}
-use Rattle.verdict.specs.declared.outcome.Part.TheVariants.{Manifest as manifest_part, Dex}
+use Rattle.verdict.specs.declared.outcome.Part.TheVariants.{Manifest as manifest_part, Layouts, Declaration, Lists, Dex}
 use Rattle.verdict.specs.declared.outcome.Reason.TheVariants.{Form}
 use Rattle.verdict.specs.declared.parts.Parts.{Parts}
 use Rattle.app_folder.specs.declared.folder.Halt.{Halt}
 use Rattle.app_folder.specs.declared.folder.Halt.TheVariants.{Refused, ReadFault, Memory}
-use Rattle.app_folder.specs.Folder.{Refusal, part_at, dex_row, parts_at, Gathers}
+use Rattle.app_folder.specs.Folder.{Refusal, part_at, dex_row, dexes_at, parts_at, Gathers}
 use Rattle.app_folder.specs.Reading.{stop_of, ReadsAs, CountsDex, GathersAs}
 
 -- one of the DEX files is refused, or its reading is broken off
@@ -34,6 +34,26 @@ row_goes_on told old dir count i front bytes whole same lt reads so_far tells =
     let one : run (part_at (held_by old) dir (Dex i)) ≡ Ok bytes = subst P same reads tells in
     let row : run (dex_row (held_by old) dir i tt) ≡ Ok (bytes, tt) = rw (run_bind, one) refl in
     goes_on count i (dex_row (held_by old) dir) front tt bytes tt whole lt row (so_far tells)
+
+-- the other parts were read, and one of the DEX files was not
+pub no_dexes : (t0 t1 t2 t3 : Option Told) (dir manifest : List ℕ) (count : ℕ) (layouts declaration lists : List ℕ) (halt : Halt)
+    → t1 ≡ t0 → t2 ≡ t1 → t3 ≡ t2
+    → (IsTrue (is_some t0) → run (part_at (held_by t0) dir Layouts) ≡ Ok layouts)
+    → (IsTrue (is_some t1) → run (part_at (held_by t1) dir Declaration) ≡ Ok declaration)
+    → (IsTrue (is_some t2) → run (part_at (held_by t2) dir Lists) ≡ Ok lists)
+    → (IsTrue (is_some t3) → Fails (stop_of halt) (run (dexes_at (held_by t3) dir count)))
+    → IsTrue (is_some t0) → Fails (stop_of halt) (run (parts_at (held_by t0) dir manifest count))
+unfolding parts_at
+no_dexes t0 t1 t2 t3 dir manifest count layouts declaration lists halt same_1 same_2 same_3 reads_0 reads_1 reads_2 fails tells =
+    let D : Option Told → Type 0 = λ t. IsTrue (is_some t) → run (part_at (held_by t) dir Declaration) ≡ Ok declaration in
+    let L : Option Told → Type 0 = λ t. IsTrue (is_some t) → run (part_at (held_by t) dir Lists) ≡ Ok lists in
+    let X : Option Told → Type 0 = λ t. IsTrue (is_some t) → Fails (stop_of halt) (run (dexes_at (held_by t) dir count)) in
+    let layouts_0 : run (part_at (held_by t0) dir Layouts) ≡ Ok layouts = reads_0 tells in
+    let declaration_0 : run (part_at (held_by t0) dir Declaration) ≡ Ok declaration = subst D same_1 reads_1 tells in
+    let lists_0 : run (part_at (held_by t0) dir Lists) ≡ Ok lists = subst L (same_2 ∙ same_1) reads_2 tells in
+    let fails_0 : Fails (stop_of halt) (run (dexes_at (held_by t0) dir count)) = subst X (same_3 ∙ (same_2 ∙ same_1)) fails tells in
+    rw (run_bind, layouts_0, run_bind, declaration_0, run_bind, lists_0)
+    (first_fails (stop_of halt) (dexes_at (held_by t0) dir count) (λ (dexes : List (List ℕ) × Unit {0}). Value (record { manifest = manifest; layouts = layouts; declaration = declaration; lists = lists; dex = dexes.0 })) fails_0)
 
 -- the manifest is no file that is read
 pub of_no_manifest : (told : Option Told) (dir : List ℕ) (halt : Halt)

@@ -1,6 +1,6 @@
 //! The files of a folder: the parts of an app, read in a fixed order.
 
-ghost use Rattle.std.specs.Prelude.{◌≡◌, ◌≤◌, [], ◌∷◌, ◌++◌, length, codes, string_bytes, IfOk, OnOk};
+ghost use Rattle.std.specs.Prelude.{◌≡◌, ◌≤◌, [], ◌∷◌, ◌++◌, length, codes, string_bytes, IfErr, IfOk, Err, OnOk};
 ghost use Rattle.std.specs.List.{AllByRecursion};
 ghost use Rattle.certificate.specs.Digests.{IsShort};
 ghost use Rattle.vet_base.specs.Outside.{held_by};
@@ -8,13 +8,14 @@ ghost use Rattle.app_folder.specs.Folder.{file_name, part_at, dexes_at, parts_at
 ghost use Rattle.app_folder.specs.Heard.{dex_entries, entries_behind, GaveParts};
 ghost use Rattle.app_folder.specs.Reading.{ReadsAs, Leaves, FailsAt, CountsDex, GathersAs, AreShort};
 
+use form_texts::{ListsText, ManifestText};
 use heard_files::Files;
 use office_forms::{FormFault, read_manifest};
 use printed_text::FILE_LIMIT;
 use std::alloc::{AllocError, AllocFailed, Global};
 use verdict::{Part, Parts, Reason};
 use verdict_report::push_part_name;
-use vet_base::{FileFault, Seq};
+use vet_base::{FileFault, Memory, Seq, Shared};
 
 /// Why the parts of an app could not be had.
 #[derive(Drop)]
@@ -46,6 +47,16 @@ impl<T: Drop> From<AllocFailed<T>> for Halt {
     }
 }
 
+impl From<Memory> for Halt {
+    ghost use Rattle.app_folder.specs.declared.folder.Halt.TheVariants.{Memory as OutOfMemory};
+
+    ghost from_gives = { λ _ e. e ≡ OutOfMemory };
+
+    fn from(_e: Memory) -> Halt {
+        Halt::Memory
+    }
+}
+
 /// The name of the file of a part.
 #[tactic(auto, unfolding(crate::specs::Folder::file_name))]
 pub fn name_of(alloc: Global, dir: &str, part: Part) -> Result<String, AllocError>
@@ -59,7 +70,12 @@ pub fn name_of(alloc: Global, dir: &str, part: Part) -> Result<String, AllocErro
 
 /// The bytes of the file of a part.
 #[tactic(auto, unfolding(crate::specs::Folder::part_at))]
-fn part_in<F: Files>(alloc: Global, files: &mut F, dir: &str, part: Part) -> Result<Seq<u8>, Halt>
+fn part_in<F: Files>(
+    alloc: Global,
+    files: &mut F,
+    dir: &str,
+    part: Part,
+) -> Result<Shared<u8>, Halt>
     ensures value { ReadsAs (F.told files.old) (λ bytes. bytes) result
         (part_at (held_by (F.told files.old)) dir.now part) }
     ensures leaves { Leaves (F.told files.old) (F.told files.new) (F.fault_count files.old) (F.fault_count files.new)
@@ -71,7 +87,7 @@ fn part_in<F: Files>(alloc: Global, files: &mut F, dir: &str, part: Part) -> Res
 {
     let name = name_of(alloc, dir, part)?;
     match files.read(alloc, name.as_str(), FILE_LIMIT) {
-        Ok(bytes) => Ok(Seq::from_vec(bytes)),
+        Ok(bytes) => Ok(Shared::from_vec(alloc, bytes)?),
         Err(FileFault::Absent) => Err(Halt::Refused(part, Reason::Absent)),
         Err(FileFault::TooLong) => Err(Halt::Refused(part, Reason::TooLong(FILE_LIMIT))),
         Err(FileFault::Failed) => Err(Halt::ReadFault(name)),
@@ -86,7 +102,7 @@ fn dexes_in<F: Files>(
     files: &mut F,
     dir: &str,
     count: u32,
-) -> Result<Seq<Seq<u8>>, Halt>
+) -> Result<Seq<Shared<u8>>, Halt>
     ensures value { ReadsAs (F.told files.old) (λ dexes. (dexes, tt)) result
         (dexes_at (held_by (F.told files.old)) dir.now count) }
     ensures leaves { Leaves (F.told files.old) (F.told files.new) (F.fault_count files.old) (F.fault_count files.new)
@@ -110,7 +126,7 @@ fn parts_with<F: Files>(
     alloc: Global,
     files: &mut F,
     dir: &str,
-    manifest: Seq<u8>,
+    manifest: ManifestText,
     count: u32,
 ) -> Result<Parts, Halt>
     requires { IsShort manifest }
@@ -132,7 +148,7 @@ fn parts_with<F: Files>(
         manifest,
         layouts,
         declaration,
-        lists,
+        lists: ListsText::new(lists),
         dex,
     })
 }
@@ -149,11 +165,34 @@ pub fn dex_count(alloc: Global, manifest: &[u8]) -> Result<u32, Halt>
     }
 }
 
+/// The manifest that a text is, which is read now and not again.
+fn manifest_of(alloc: Global, text: Shared<u8>) -> Result<ManifestText, Halt>
+    ensures ok { IfOk result (λ manifest. manifest ≡ text) }
+    ensures err { IfErr result (λ halt. CountsDex text (Err halt)) }
+{
+    match ManifestText::read(alloc, text) {
+        Ok(manifest) => Ok(manifest),
+        Err(FormFault::Memory) => Err(Halt::Memory),
+        Err(fault) => Err(Halt::Refused(Part::Manifest, Reason::Form(fault))),
+    }
+}
+
+/// How many DEX files such a manifest says that there are.
+fn count_of(alloc: Global, manifest: &ManifestText) -> Result<u32, Halt>
+    ensures { CountsDex manifest.now result }
+{
+    match manifest.said(alloc) {
+        Ok(said) => Ok(said.dex_files()),
+        Err(FormFault::Memory) => Err(Halt::Memory),
+        Err(fault) => Err(Halt::Refused(Part::Manifest, Reason::Form(fault))),
+    }
+}
+
 /// The parts of the app in a folder, or the first refusal.
 ///
 /// The order is `manifest.toml`, whose form says how many DEX files there are, `layouts.toml`, `declaration.toml`,
 /// `lists.toml`, `classes.dex`, `classes2.dex` and so on. A file that is absent or too long is refused at once, and so
-/// is a manifest that is not of its form.
+/// is a manifest that is not of its form. The manifest is read once: it is handed on with what it says.
 pub fn parts_in<F: Files>(alloc: Global, files: &mut F, dir: &str) -> Result<Parts, Halt>
     ensures value { GathersAs (F.told files.old) dir.now result }
     ensures leaves { Leaves (F.told files.old) (F.told files.new) (F.fault_count files.old) (F.fault_count files.new)
@@ -164,7 +203,8 @@ pub fn parts_in<F: Files>(alloc: Global, files: &mut F, dir: &str) -> Result<Par
     // Reads of this very call gave these parts, of any files.
     ensures gave { IfOk result (λ parts. GaveParts (F.heard files.old) (F.heard files.new) dir.now parts) }
 {
-    let manifest = part_in(alloc, files, dir, Part::Manifest)?;
-    let count = dex_count(alloc, manifest.as_slice())?;
+    let text = part_in(alloc, files, dir, Part::Manifest)?;
+    let manifest = manifest_of(alloc, text)?;
+    let count = count_of(alloc, &manifest)?;
     parts_with(alloc, files, dir, manifest, count)
 }

@@ -3,13 +3,18 @@ ghost use Rattle.std.specs.Prelude.{◌≡◌, IfErr, IfOk};
 ghost use Rattle.app_flow.specs.Flow.{AreDerivable};
 ghost use Rattle.app_machine.specs.Sound.{SoundApp};
 ghost use Rattle.app_machine.specs.SoundLists.{SoundLists};
+ghost use Rattle.fact_rows.specs.declared.row.Row.{Row as FactRow};
+ghost use Rattle.finding_rows.specs.Arrivals.{AreFirstArrivals};
+ghost use Rattle.flow_rules.specs.Rules.{Follows, Starts};
 ghost use Rattle.outcomes.specs.Findings.{findings_of};
+ghost use Rattle.outcomes.specs.Within.{AreWithin};
+ghost use Rattle.vet_base.specs.Members.{In};
 ghost use Rattle.verdict.specs.Halts.{Halts};
 ghost use Rattle.verdict.specs.Linked.{IsLinked, causes_beside};
 ghost use Rattle.verdict.specs.OneVerdict.{RefusesOnly};
 ghost use Rattle.verdict.specs.Tells.{IsFollowed, TellsAll, TellsOfApp};
 ghost use Rattle.verdict.specs.Verdict.{ComesTo, IsSafeApp};
-ghost use Rattle.app_stories.specs.Stories.{AreStoriesOf, ComesToStories, HasStories, OneJudgement, Tells};
+ghost use Rattle.app_stories.specs.Stories.{AreStories, AreStoriesOf, ComesToStories, HasStories, OneJudgement, Tells};
 
 use crate::stories::stories_of;
 use fact_rows::Row;
@@ -39,6 +44,48 @@ pub struct Told {
 /// prove.
 fn give_back(_linked: Linked) {}
 
+/// The first row that tells each finding.
+fn arrivals_in(alloc: Global, linked: &Linked, rows: &[Row]) -> Result<Vec<Row>, Memory>
+    requires sound { SoundApp linked.now.app }
+    requires within { AreWithin linked.now.app rows.now }
+    ensures { IfOk result (λ v. AreFirstArrivals linked.now.app linked.now.papers.lists linked.now.papers.declaration
+        rows.now (findings_of linked.now.app linked.now.papers.lists linked.now.papers.declaration rows.now) v.items) }
+{
+    let papers = &linked.papers;
+    first_arrivals(
+        alloc,
+        &linked.app,
+        papers.lists.get(),
+        &papers.declaration,
+        rows,
+    )
+}
+
+/// A story for each of these rows of the table.
+fn stories_in(
+    alloc: Global,
+    linked: &Linked,
+    table: &[Row],
+    goals: &[Row],
+    seed: u64,
+) -> Result<Vec<Story>, Memory>
+    requires app { SoundApp linked.now.app }
+    requires lists { SoundLists linked.now.papers.lists }
+    requires derivable { AreDerivable linked.now.app linked.now.papers.lists table.now }
+    requires there { (row : FactRow) → In row goals.now → In row table.now }
+    ensures { IfOk result (λ v. AreStories (Follows linked.now.app linked.now.papers.lists) (Starts linked.now.app)
+        goals.now v.items) }
+{
+    stories_of(
+        alloc,
+        &linked.app,
+        linked.papers.lists.get(),
+        table,
+        goals,
+        seed,
+    )
+}
+
 /// The stories of the findings that the rows tell.
 #[tactic(auto, using(crate::proofs::Gathered::rows_are_within, crate::proofs::Gathered::goals_there))]
 fn stories_by_rows(
@@ -56,9 +103,8 @@ fn stories_by_rows(
 {
     rules_stay_in_app();
     app_rules_are_a_rule_set();
-    let papers = &linked.papers;
-    let goals = first_arrivals(alloc, &linked.app, &papers.lists, &papers.declaration, rows)?;
-    let stories = stories_of(alloc, &linked.app, &papers.lists, rows, &goals, seed)?;
+    let goals = arrivals_in(alloc, linked, rows)?;
+    let stories = stories_in(alloc, linked, rows, &goals, seed)?;
     Ok(Seq::from_vec(stories))
 }
 

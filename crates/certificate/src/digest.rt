@@ -6,7 +6,7 @@ ghost use Rattle.sha2.specs.Sha256.{sha256};
 ghost use Rattle.certificate.specs.Digests.{IsShort, part_bytes, parts_bytes};
 
 use sha2::{Digest, Sha256};
-use vet_base::Seq;
+use vet_base::Shared;
 
 fn add(hasher: &mut Sha256, part: &[u8])
     requires { IsShort part.now }
@@ -17,7 +17,7 @@ fn add(hasher: &mut Sha256, part: &[u8])
     hasher.update(part);
 }
 
-fn add_all(hasher: &mut Sha256, parts: &[Seq<u8>])
+fn add_all(hasher: &mut Sha256, parts: &[Shared<u8>])
     requires { AllByRecursion IsShort parts.now }
     ensures { (m : List ℕ) → Holds256 hasher.old m → Holds256 hasher.new (m ++ parts_bytes parts.now) }
 {
@@ -37,7 +37,7 @@ pub fn digest_of(
     layouts: &[u8],
     declaration: &[u8],
     lists: &[u8],
-    dex: &[Seq<u8>],
+    dex: &[Shared<u8>],
 ) -> [u8; 32]
     requires manifest { IsShort manifest.now }
     requires layouts { IsShort layouts.now }

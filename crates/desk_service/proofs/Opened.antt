@@ -12,8 +12,6 @@ use Rattle.office_forms.specs.Office.{office_form}
 use Rattle.office_forms.specs.OneForm.{OneFormOrFault}
 use Rattle.desk_service.specs.declared.opening.Paper.{Paper}
 use Rattle.desk_service.specs.declared.opening.Paper.TheVariants.{Office, Lists}
-use Rattle.std.specs.Prelude.{Vec}
-use Rattle.std.specs.declared.alloc.Global.{Global}
 use Rattle.sha2.specs.Sha256.{sha256}
 use Rattle.desk_service.specs.declared.lists_judge.OfficeLists.{OfficeLists}
 use Rattle.desk_service.specs.declared.opening.Halt.{Halt}
@@ -152,25 +150,25 @@ lists_halt forms told mid folder office (ReadFault which) same says is = tt
 lists_halt forms told mid folder office Memory same says is = tt
 
 pub desk_opens : OneFormOrFault → (told mid : Option Told) (folder : List ℕ) (office : SaidOffice)
-    (lists : Vec ℕ Global) (judge : OfficeLists) → mid ≡ told → OpensOffice told folder (Ok office)
-    → OpensLists mid folder (Ok lists) → judge.lists ≡ lists.items → judge.edition ≡ sha256 lists.items
+    (lists : List ℕ) (judge : OfficeLists) → mid ≡ told → OpensOffice told folder (Ok office)
+    → OpensLists mid folder (Ok lists) → judge.lists ≡ lists → judge.edition ≡ sha256 lists
     → OpensDesk told folder (Ok (record { office = office; judge = judge }))
 desk_opens forms told mid folder office lists judge same says has bytes edition =
-    let here : HasLists told folder lists.items =
-    subst (λ (t : Option Told). HasLists t folder lists.items) same has in (
+    let here : HasLists told folder lists =
+    subst (λ (t : Option Told). HasLists t folder lists) same has in (
       opens_both forms told folder (record { office = office; lists = judge.lists }) says
           (subst (λ (b : List ℕ). HasLists told folder b) (sym bytes) here),
       edition ∙ ap sha256 (sym bytes),
     )
 
 -- the two files were read, one behind the other
-pub gave_office : (folder : List ℕ) (office : SaidOffice) (lists : Vec ℕ Global) (judge : OfficeLists) (old mid new : List Entry)
-    → GaveSaid old mid folder office → new ≡ mid ++ (paper_path folder Lists, lists.items) ∷ [] → judge.lists ≡ lists.items
+pub gave_office : (folder : List ℕ) (office : SaidOffice) (lists : List ℕ) (judge : OfficeLists) (old mid new : List Entry)
+    → GaveSaid old mid folder office → new ≡ mid ++ (paper_path folder Lists, lists) ∷ [] → judge.lists ≡ lists
     → GaveOffice old new folder (record { office = office; lists = judge.lists })
 gave_office folder office lists judge old mid new said rest same = record {
   text = said.0;
   form = said.1;
-  heard = rest ∙ (ap (λ (es : List Entry). es ++ (paper_path folder Lists, lists.items) ∷ []) said.2
-      ∙ (append_assoc old ((paper_path folder Office, said.0) ∷ []) ((paper_path folder Lists, lists.items) ∷ [])
+  heard = rest ∙ (ap (λ (es : List Entry). es ++ (paper_path folder Lists, lists) ∷ []) said.2
+      ∙ (append_assoc old ((paper_path folder Office, said.0) ∷ []) ((paper_path folder Lists, lists) ∷ [])
       ∙ ap (λ (bytes : List ℕ). old ++ (paper_path folder Office, said.0) ∷ (paper_path folder Lists, bytes) ∷ []) (sym same)));
 }

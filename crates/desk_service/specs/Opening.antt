@@ -125,8 +125,8 @@ OpensOffice told folder (Err (ReadFault which)) = Unit {0}
 OpensOffice told folder (Err Memory) = Unit {0}
 
 -- what reading the lists returned
-abbrev pub OpensLists : Option Told → List ℕ → Result (Vec ℕ Global) Halt → Type 0
-OpensLists told folder (Ok bytes) = HasLists told folder bytes.items
+abbrev pub OpensLists : Option Told → List ℕ → Result (List ℕ) Halt → Type 0
+OpensLists told folder (Ok bytes) = HasLists told folder bytes
 OpensLists told folder (Err (Refused which unfit)) = (which ≡ Lists) × IsUnfitLists told folder unfit
 OpensLists told folder (Err (ReadFault which)) = Unit {0}
 OpensLists told folder (Err Memory) = Unit {0}

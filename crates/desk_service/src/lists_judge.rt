@@ -9,6 +9,7 @@ ghost use Rattle.desk_service.specs.Judging.{IsJudged, JudgesApps, parts_of, wor
 
 use case_rules::{Content, OutcomeWord};
 use desk_serving::{Judge, Judged};
+use form_texts::{ListsText, ManifestText};
 use sha2::{Digest, Sha256};
 use std::alloc::Global;
 use std::marker::Sync;
@@ -22,8 +23,8 @@ use worker_pool::{Crew, Lookout};
 /// The lists of the office.
 #[derive(Drop)]
 pub struct OfficeLists {
-    /// The bytes of `lists.toml`.
-    pub(crate) lists: Shared<u8>,
+    /// The bytes of `lists.toml`, with what they say.
+    pub(crate) lists: ListsText,
     /// The SHA-256 of these bytes.
     pub(crate) edition: [u8; 32],
 }
@@ -46,29 +47,23 @@ fn edition_of(lists: &[u8]) -> [u8; 32]
 }
 
 impl OfficeLists {
-    /// The lists of these bytes.
-    pub fn new(alloc: Global, lists: Vec<u8>) -> Result<OfficeLists, Memory>
-        ensures lists { IfOk result (λ j. j.lists ≡ lists.items) }
-        ensures edition { IfOk result (λ j. j.edition ≡ sha256 lists.items) }
+    /// These lists, with their edition.
+    pub fn new(lists: ListsText) -> OfficeLists
+        ensures lists { result.lists ≡ lists }
+        ensures edition { result.edition ≡ sha256 lists }
     {
-        let edition = edition_of(&lists);
-        let lists = Shared::from_vec(alloc, lists)?;
-        Ok(OfficeLists { lists, edition })
+        let edition = edition_of(lists.as_slice());
+        OfficeLists { lists, edition }
     }
 }
 
-fn copied(alloc: Global, bytes: &Shared<u8>) -> Result<Seq<u8>, Memory>
-    ensures { IfOk result (λ seq. seq ≡ bytes.now) }
-{
-    Ok(Seq::from_vec(bytes.as_slice().to_vec(alloc)?))
-}
-
-fn all_copied(alloc: Global, files: &[Shared<u8>]) -> Result<Seq<Seq<u8>>, Memory>
+/// The same files, of which none is copied.
+fn all_lent(alloc: Global, files: &[Shared<u8>]) -> Result<Seq<Shared<u8>>, Memory>
     ensures { IfOk result (λ seq. seq ≡ files.now) }
 {
     let mut all = Vec::new(alloc);
     for file in files {
-        all.push(copied(alloc, file)?)?;
+        all.push(file.copy()?)?;
     }
     Ok(Seq::from_vec(all))
 }
@@ -76,36 +71,36 @@ fn all_copied(alloc: Global, files: &[Shared<u8>]) -> Result<Seq<Seq<u8>>, Memor
 /// Manifest and layouts.
 #[derive(Drop)]
 struct AppTexts {
-    manifest: Seq<u8>,
-    layouts: Seq<u8>,
+    manifest: ManifestText,
+    layouts: Shared<u8>,
 }
 
 /// Declaration and lists.
 #[derive(Drop)]
 struct FlowTexts {
-    declaration: Seq<u8>,
-    lists: Seq<u8>,
+    declaration: Shared<u8>,
+    lists: ListsText,
 }
 
-fn app_texts_of(alloc: Global, content: &Content) -> Result<AppTexts, Memory>
+fn app_texts_of(content: &Content) -> Result<AppTexts, Memory>
     ensures manifest { IfOk result (λ texts. texts.manifest ≡ content.now.manifest) }
     ensures layouts { IfOk result (λ texts. texts.layouts ≡ content.now.layouts) }
 {
-    let manifest = copied(alloc, &content.manifest)?;
-    let layouts = copied(alloc, &content.layouts)?;
+    let manifest = ManifestText::new(content.manifest.copy()?);
+    let layouts = content.layouts.copy()?;
     Ok(AppTexts { manifest, layouts })
 }
 
-fn flow_texts_of(alloc: Global, lists: &Shared<u8>, content: &Content) -> Result<FlowTexts, Memory>
+fn flow_texts_of(lists: &ListsText, content: &Content) -> Result<FlowTexts, Memory>
     ensures declaration { IfOk result (λ texts. texts.declaration ≡ content.now.declaration) }
     ensures lists { IfOk result (λ texts. texts.lists ≡ lists.now) }
 {
-    let declaration = copied(alloc, &content.declaration)?;
-    let lists = copied(alloc, lists)?;
+    let declaration = content.declaration.copy()?;
+    let lists = lists.copy()?;
     Ok(FlowTexts { declaration, lists })
 }
 
-fn joined(app: AppTexts, flow: FlowTexts, dex: Seq<Seq<u8>>) -> Parts
+fn joined(app: AppTexts, flow: FlowTexts, dex: Seq<Shared<u8>>) -> Parts
     ensures { result ≡ record {
       manifest = app.manifest;
       layouts = app.layouts;
@@ -123,13 +118,13 @@ fn joined(app: AppTexts, flow: FlowTexts, dex: Seq<Seq<u8>>) -> Parts
     }
 }
 
-/// The parts of an app, with the lists by which it is judged.
-fn parts_of(alloc: Global, lists: &Shared<u8>, content: &Content) -> Result<Parts, Memory>
+/// The parts of an app, with the lists by which it is judged. No content is copied, and no list is read anew.
+fn parts_of(alloc: Global, lists: &ListsText, content: &Content) -> Result<Parts, Memory>
     ensures { IfOk result (λ parts. parts ≡ parts_of lists.now content.now) }
 {
-    let app = app_texts_of(alloc, content)?;
-    let flow = flow_texts_of(alloc, lists, content)?;
-    let dex = all_copied(alloc, content.dex.as_slice())?;
+    let app = app_texts_of(content)?;
+    let flow = flow_texts_of(lists, content)?;
+    let dex = all_lent(alloc, content.dex.as_slice())?;
     Ok(joined(app, flow, dex))
 }
 

@@ -7,13 +7,14 @@ ghost use Rattle.desk_service.specs.Opening.{HaltsForm, OpensOffice, OpensLists,
 
 use crate::lists_judge::OfficeLists;
 use desk_serving::Desk;
+use form_texts::ListsText;
 use heard_files::Files;
-use office_forms::{FormFault, one_form_or_fault, read_lists, read_office};
+use office_forms::{FormFault, one_form_or_fault, read_office};
 use printed_text::FILE_LIMIT;
 use std::alloc::{AllocError, Global};
 use store_office::Office;
 use verdict_report::Unfit;
-use vet_base::{FileFault, Memory};
+use vet_base::{FileFault, Memory, Shared};
 
 /// A file of the office.
 #[derive(Clone, Copy)]
@@ -118,17 +119,18 @@ fn office_in<F: Files>(alloc: Global, files: &mut F, folder: &str) -> Result<Off
     }
 }
 
-/// The bytes of the lists, which are of their form.
-fn lists_in<F: Files>(alloc: Global, files: &mut F, folder: &str) -> Result<Vec<u8>, Halt>
+/// The lists, which are read here and not again.
+fn lists_in<F: Files>(alloc: Global, files: &mut F, folder: &str) -> Result<ListsText, Halt>
     ensures opens { OpensLists (F.told files.old) folder.now result }
     ensures leaves { Leaves (F.told files.old) (F.told files.new) (F.fault_count files.old) (F.fault_count files.new)
         folder.now result }
-    ensures heard { IfOk result (λ bytes. F.heard files.new
-        ≡ F.heard files.old ++ (paper_path folder.now Lists, bytes.items) ∷ []) }
+    ensures heard { IfOk result (λ lists. F.heard files.new
+        ≡ F.heard files.old ++ (paper_path folder.now Lists, lists) ∷ []) }
 {
-    let text = paper_in(alloc, files, folder, Paper::Lists)?;
-    match read_lists(alloc, &text) {
-        Ok(_) => Ok(text),
+    let bytes = paper_in(alloc, files, folder, Paper::Lists)?;
+    let text = Shared::from_vec(alloc, bytes)?;
+    match ListsText::read(alloc, text) {
+        Ok(lists) => Ok(lists),
         Err(fault) => Err(halt_of(Paper::Lists, fault)),
     }
 }
@@ -149,6 +151,6 @@ pub(crate) fn desk_in<F: Files>(
     one_form_or_fault();
     let office = office_in(alloc, files, folder)?;
     let lists = lists_in(alloc, files, folder)?;
-    let judge = OfficeLists::new(alloc, lists)?;
+    let judge = OfficeLists::new(lists);
     Ok(Desk { office, judge })
 }

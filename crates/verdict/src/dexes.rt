@@ -58,7 +58,8 @@ pub fn dexes_of(alloc: Global, parts: &Parts, papers: &Papers) -> Result<Vec<Dex
     ensures err { IfErr result (λ h. Halts (RefusesOnly parts.now) h) }
 {
     let mut dexes = Vec::new(alloc);
-    for i in 0..papers.manifest.dex_files {
+    let count = papers.dex_files();
+    for i in 0..count {
         let dex = dex_at(alloc, parts, papers, &dexes, i)?;
         dexes.push(dex)?;
     }

@@ -3,7 +3,7 @@
 ghost use Rattle.std.specs.Prelude.{◌≡◌, ◌⊎◌, ◌++◌, IfOk, IfErr, IfNone, IfSome, IsErr, IsTrue, List};
 ghost use Rattle.app_machine.specs.SoundLists.{SoundLists};
 ghost use Rattle.app_machine.specs.Sound.{SoundApp};
-ghost use Rattle.app_flow.specs.Flow.{IsGoodFlow};
+ghost use Rattle.app_flow.specs.Flow.{IsFlow, IsGoodFlow};
 ghost use Rattle.fact_rows.specs.declared.row.Row.{Row as FactRow};
 ghost use Rattle.flow_rules.specs.Rules.{GoodTable};
 ghost use Rattle.flow_telling.specs.Told.{told_of, TellsNothing};
@@ -58,9 +58,9 @@ fn causes_beside(alloc: Global, linked: &Linked) -> Result<Vec<Cause>, Memory>
         alloc,
         &linked.app,
         &linked.access,
-        &papers.lists,
-        &papers.device,
-        papers.named.as_slice(),
+        papers.lists.get(),
+        papers.device.get(),
+        papers.named.get().as_slice(),
     )
 }
 
@@ -76,7 +76,7 @@ pub fn outcome_of_rows(alloc: Global, linked: &Linked, rows: &[Row]) -> Result<O
     let told = told_by_rows(
         alloc,
         &linked.app,
-        &papers.lists,
+        papers.lists.get(),
         &papers.declaration,
         beside,
         rows,
@@ -105,7 +105,7 @@ fn told_in<T: Threads + Sync, L>(
     told_by_flow(
         alloc,
         &linked.app,
-        &papers.lists,
+        papers.lists.get(),
         &papers.declaration,
         beside,
         rows,
@@ -183,6 +183,20 @@ fn judged_by<T: Threads + Sync, L>(
     }
 }
 
+/// The flow of a linked app.
+fn flow_in<T: Threads + Wait + Sync, L: Lookout>(
+    alloc: Global,
+    linked: &Linked,
+    crew: &Crew<'_, T, L>,
+) -> Result<Flow, Memory>
+    requires sound { SoundApp linked.now.app }
+    requires lists { SoundLists linked.now.papers.lists }
+    ensures flow { IfOk result (λ flow. IsFlow linked.now.app linked.now.papers.lists flow) }
+    ensures good { IfOk result (λ flow. IsGoodFlow linked.now.app linked.now.papers.lists flow) }
+{
+    flow_of(alloc, &linked.app, linked.papers.lists.get(), crew)
+}
+
 /// What a linked app comes to, as `judge` says of its parts: the app, the lists and the declaration are those that
 /// `linked_parts` gave, so nothing is linked a second time.
 pub fn judge_linked<T: Threads + Wait + Sync, L: Lookout>(
@@ -202,7 +216,7 @@ pub fn judge_linked<T: Threads + Wait + Sync, L: Lookout>(
 {
     nothing_is_left_out();
     every_good_table_covers_every_run();
-    let flow = flow_of(alloc, &linked.app, &linked.papers.lists, crew)?;
+    let flow = flow_in(alloc, linked, crew)?;
     match judged_by(alloc, linked, flow, crew)? {
         Some(judged) => Ok(judged),
         // The checker refuses nothing that the crew finds.

@@ -73,7 +73,7 @@ fn linked_app(alloc: Global, parts: &Parts, papers: &Papers, dexes: &[Dex]) -> R
     ensures err { IfErr result (λ h. Halts (RefusesOnly parts.now) h) }
 {
     lower_laws();
-    match link(alloc, dexes, &papers.manifest, &papers.layouts) {
+    match link(alloc, dexes, papers.manifest.get(), &papers.layouts) {
         Ok(app) => Ok(app),
         Err(fault) => Err(halt_of(fault)),
     }

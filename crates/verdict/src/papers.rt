@@ -3,6 +3,7 @@
 ghost use Rattle.std.specs.Prelude.{◌≡◌, IfOk, IfErr};
 ghost use Rattle.app_machine.specs.SoundLists.{SoundLists};
 ghost use Rattle.form_fields.specs.Form.{IsForm};
+ghost use Rattle.form_texts.specs.Said.{manifest_of, lists_of};
 ghost use Rattle.office_forms.specs.Manifest.{manifest_form};
 ghost use Rattle.office_forms.specs.Layouts.{layouts_form};
 ghost use Rattle.office_forms.specs.Declaration.{declaration_form};
@@ -16,23 +17,31 @@ use crate::laws::lower_laws;
 use crate::{Part, Parts, Reason};
 use app_model::{Declaration, Layouts, Lists, Manifest};
 use device_lists::DeviceLists;
-use office_forms::{
-    AppManifest, FormFault, StoreLists, read_declaration, read_layouts, read_lists, read_manifest,
-};
+use form_texts::{Kept, SaidLists, SaidManifest};
+use office_forms::{FormFault, read_declaration, read_layouts};
 use std::alloc::Global;
 use vet_base::{Name, Seq, Stop};
 
 /// What the forms say.
 #[derive(Drop)]
 pub struct Papers {
-    pub manifest: Manifest,
+    pub manifest: Kept<Manifest>,
     pub layouts: Layouts,
     pub declaration: Declaration,
-    pub lists: Lists,
+    pub lists: Kept<Lists>,
     /// What the lists say of a device.
-    pub device: DeviceLists,
+    pub device: Kept<DeviceLists>,
     /// The classes that the manifest says are named elsewhere.
-    pub named: Seq<Name>,
+    pub named: Kept<Seq<Name>>,
+}
+
+impl Papers {
+    /// How many DEX files the manifest says that there are.
+    pub(crate) fn dex_files(&self) -> u32
+        ensures { result ≡ self.now.manifest.dex_files }
+    {
+        self.manifest.get().dex_files
+    }
 }
 
 /// What is refused, and why.
@@ -67,13 +76,13 @@ fn halt_of(part: Part, fault: FormFault) -> Halt
 }
 
 #[tactic(auto, using(crate::proofs::Halting::of_manifest))]
-fn manifest_form_of(alloc: Global, parts: &Parts) -> Result<AppManifest, Halt>
-    ensures ok { IfOk result (λ m. IsForm manifest_form parts.now.manifest m) }
+fn manifest_form_of(alloc: Global, parts: &Parts) -> Result<SaidManifest, Halt>
+    ensures ok { IfOk result (λ m. IsForm manifest_form parts.now.manifest (manifest_of m)) }
     ensures sound { IfOk result (λ m. SoundManifest m.manifest) }
     ensures err { IfErr result (λ h. Halts (RefusesOnly parts.now) h) }
 {
     lower_laws();
-    match read_manifest(alloc, parts.manifest.as_slice()) {
+    match parts.manifest.said(alloc) {
         Ok(manifest) => Ok(manifest),
         Err(fault) => Err(halt_of(Part::Manifest, fault)),
     }
@@ -81,14 +90,15 @@ fn manifest_form_of(alloc: Global, parts: &Parts) -> Result<AppManifest, Halt>
 
 /// The manifest, which tells the number of DEX files.
 #[tactic(auto, using(crate::proofs::Halting::of_count))]
-fn manifest_of(alloc: Global, parts: &Parts) -> Result<AppManifest, Halt>
-    ensures ok { IfOk result (λ m. HasManifest parts.now m) }
+fn manifest_of(alloc: Global, parts: &Parts) -> Result<SaidManifest, Halt>
+    ensures ok { IfOk result (λ m. HasManifest parts.now (manifest_of m)) }
     ensures sound { IfOk result (λ m. SoundManifest m.manifest) }
     ensures err { IfErr result (λ h. Halts (RefusesOnly parts.now) h) }
 {
     lower_laws();
     let manifest = manifest_form_of(alloc, parts)?;
-    if manifest.manifest.dex_files as usize != parts.dex.len() {
+    let count = manifest.dex_files();
+    if count as usize != parts.dex.len() {
         let key = Name::from_bytes(alloc, b"dex_files".as_slice())?;
         return Err(Stop::Fault(Refusal {
             part: Part::Manifest,
@@ -98,8 +108,8 @@ fn manifest_of(alloc: Global, parts: &Parts) -> Result<AppManifest, Halt>
     Ok(manifest)
 }
 
-fn layouts_of(alloc: Global, parts: &Parts, manifest: &AppManifest) -> Result<Layouts, Halt>
-    requires { HasManifest parts.now manifest.now }
+fn layouts_of(alloc: Global, parts: &Parts, manifest: &SaidManifest) -> Result<Layouts, Halt>
+    requires { HasManifest parts.now (manifest_of manifest.now) }
     ensures ok { IfOk result (λ l. IsForm layouts_form parts.now.layouts l) }
     ensures sound { IfOk result SoundLayouts }
     ensures err { IfErr result (λ h. Halts (RefusesOnly parts.now) h) }
@@ -114,10 +124,10 @@ fn layouts_of(alloc: Global, parts: &Parts, manifest: &AppManifest) -> Result<La
 fn declaration_of(
     alloc: Global,
     parts: &Parts,
-    manifest: &AppManifest,
+    manifest: &SaidManifest,
     layouts: &Layouts,
 ) -> Result<Declaration, Halt>
-    requires manifest { HasManifest parts.now manifest.now }
+    requires manifest { HasManifest parts.now (manifest_of manifest.now) }
     requires layouts { IsForm layouts_form parts.now.layouts layouts.now }
     ensures ok { IfOk result (λ d. IsForm declaration_form parts.now.declaration d) }
     ensures err { IfErr result (λ h. Halts (RefusesOnly parts.now) h) }
@@ -132,19 +142,19 @@ fn declaration_of(
 fn lists_of(
     alloc: Global,
     parts: &Parts,
-    manifest: &AppManifest,
+    manifest: &SaidManifest,
     layouts: &Layouts,
     declaration: &Declaration,
-) -> Result<StoreLists, Halt>
-    requires manifest { HasManifest parts.now manifest.now }
+) -> Result<SaidLists, Halt>
+    requires manifest { HasManifest parts.now (manifest_of manifest.now) }
     requires layouts { IsForm layouts_form parts.now.layouts layouts.now }
     requires declaration { IsForm declaration_form parts.now.declaration declaration.now }
-    ensures ok { IfOk result (λ ls. IsForm lists_form parts.now.lists ls) }
+    ensures ok { IfOk result (λ ls. IsForm lists_form parts.now.lists (lists_of ls)) }
     ensures lists { IfOk result (λ ls. SoundLists ls.lists) }
     ensures err { IfErr result (λ h. Halts (RefusesOnly parts.now) h) }
 {
     lower_laws();
-    match read_lists(alloc, parts.lists.as_slice()) {
+    match parts.lists.said(alloc) {
         Ok(lists) => Ok(lists),
         Err(fault) => Err(halt_of(Part::Lists, fault)),
     }
@@ -153,7 +163,7 @@ fn lists_of(
 /// What manifest and layouts say.
 #[derive(Drop)]
 struct AppForms {
-    manifest: AppManifest,
+    manifest: SaidManifest,
     layouts: Layouts,
 }
 
@@ -161,11 +171,11 @@ struct AppForms {
 #[derive(Drop)]
 struct FlowForms {
     declaration: Declaration,
-    lists: StoreLists,
+    lists: SaidLists,
 }
 
 fn app_forms_of(alloc: Global, parts: &Parts) -> Result<AppForms, Halt>
-    ensures manifest { IfOk result (λ f. HasManifest parts.now f.manifest) }
+    ensures manifest { IfOk result (λ f. HasManifest parts.now (manifest_of f.manifest)) }
     ensures layouts { IfOk result (λ f. IsForm layouts_form parts.now.layouts f.layouts) }
     ensures of_app { IfOk result (λ f. SoundManifest f.manifest.manifest) }
     ensures of_layouts { IfOk result (λ f. SoundLayouts f.layouts) }
@@ -177,10 +187,10 @@ fn app_forms_of(alloc: Global, parts: &Parts) -> Result<AppForms, Halt>
 }
 
 fn flow_forms_of(alloc: Global, parts: &Parts, app: &AppForms) -> Result<FlowForms, Halt>
-    requires manifest { HasManifest parts.now app.now.manifest }
+    requires manifest { HasManifest parts.now (manifest_of app.now.manifest) }
     requires layouts { IsForm layouts_form parts.now.layouts app.now.layouts }
     ensures declaration { IfOk result (λ f. IsForm declaration_form parts.now.declaration f.declaration) }
-    ensures lists { IfOk result (λ f. IsForm lists_form parts.now.lists f.lists) }
+    ensures lists { IfOk result (λ f. IsForm lists_form parts.now.lists (lists_of f.lists)) }
     ensures sound { IfOk result (λ f. SoundLists f.lists.lists) }
     ensures err { IfErr result (λ h. Halts (RefusesOnly parts.now) h) }
 {
@@ -201,8 +211,8 @@ fn joined(app: AppForms, flow: FlowForms) -> Papers
 {
     let AppForms { manifest, layouts } = app;
     let FlowForms { declaration, lists } = flow;
-    let AppManifest { manifest, named } = manifest;
-    let StoreLists { lists, device } = lists;
+    let SaidManifest { manifest, named } = manifest;
+    let SaidLists { lists, device } = lists;
     Papers {
         manifest,
         layouts,

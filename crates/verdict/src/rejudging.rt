@@ -60,7 +60,7 @@ fn rejudged_app(
 {
     nothing_is_left_out();
     every_good_table_covers_every_run();
-    let found = defect_of(alloc, &linked.app, &linked.papers.lists, rows, seed)?;
+    let found = defect_of(alloc, &linked.app, linked.papers.lists.get(), rows, seed)?;
     let rechecked = rechecked_by(alloc, linked, rows, found)?;
     Ok(rechecked)
 }

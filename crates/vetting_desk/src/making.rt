@@ -11,19 +11,20 @@ ghost use Rattle.vetting_desk.specs.Found.{FindsDue};
 ghost use Rattle.vetting_desk.specs.Made.{made_parts};
 
 use crate::answer::Answer;
+use form_texts::{ListsText, ManifestText};
 use made_apps::{declaration_text, layouts_text, lists_text, made_dex, manifest_text};
 use std::alloc::Global;
 use std::marker::Sync;
 use std::sync::Wait;
 use std::thread::Threads;
 use verdict::{FlowRows, Judged, Outcome, Parts, judge};
-use vet_base::{Memory, Seq};
+use vet_base::{Memory, Seq, Shared};
 use worker_pool::{Crew, Lookout};
 
-fn listed(alloc: Global, text: &[u8]) -> Result<Seq<u8>, Memory>
+fn listed(alloc: Global, text: &[u8]) -> Result<Shared<u8>, Memory>
     ensures { IfOk result (λ s. s ≡ text.now) }
 {
-    Ok(Seq::from_vec(text.to_vec(alloc)?))
+    Shared::from_vec(alloc, text.to_vec(alloc)?)
 }
 
 /// The parts of the app that is drawn from a seed.
@@ -36,12 +37,12 @@ fn made_parts(alloc: Global, seed: u32, size: u32) -> Result<Parts, Memory>
 {
     let bytes = made_dex(alloc, seed, size)?;
     let mut dex = Vec::new(alloc);
-    dex.push(Seq::from_vec(bytes))?;
+    dex.push(Shared::from_vec(alloc, bytes)?)?;
     Ok(Parts {
-        manifest: listed(alloc, manifest_text())?,
+        manifest: ManifestText::new(listed(alloc, manifest_text())?),
         layouts: listed(alloc, layouts_text())?,
         declaration: listed(alloc, declaration_text())?,
-        lists: listed(alloc, lists_text())?,
+        lists: ListsText::new(listed(alloc, lists_text())?),
         dex: Seq::from_vec(dex),
     })
 }

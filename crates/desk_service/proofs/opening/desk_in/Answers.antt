@@ -16,11 +16,11 @@ returns-in_err-lists-clause-opens g c =
 
 pub returns-clause-opens : goal.returns-clause-opens
 returns-clause-opens g c =
-    desk_opens c.one_form_or_fault.ensures _ _ _ c.in_ok-office.office c.in_ok-lists.lists c.in_ok-judge.judge
+    desk_opens c.one_form_or_fault.ensures _ _ _ c.in_ok-office.office c.in_ok-lists.lists c.new-judge.result
     c.in_ok-office.ensures.leaves.0 c.in_ok-office.ensures.opens c.in_ok-lists.ensures.opens
-    c.in_ok-judge.ensures.lists c.in_ok-judge.ensures.edition
+    c.new-judge.ensures.lists c.new-judge.ensures.edition
 
 pub returns-clause-gave : goal.returns-clause-gave
 returns-clause-gave g c =
-    gave_office _ c.in_ok-office.office c.in_ok-lists.lists c.in_ok-judge.judge _ _ _ c.in_ok-office.ensures.heard
-    c.in_ok-lists.ensures.heard c.in_ok-judge.ensures.lists
+    gave_office _ c.in_ok-office.office c.in_ok-lists.lists c.new-judge.result _ _ _ c.in_ok-office.ensures.heard
+    c.in_ok-lists.ensures.heard c.new-judge.ensures.lists
