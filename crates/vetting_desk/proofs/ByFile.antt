@@ -11,6 +11,7 @@ use Rattle.vetting_desk.specs.declared.answer.Answer.{Answer}
 use Rattle.app_folder.specs.Due.{Due}
 use Rattle.vetting_desk.specs.Due.{no_certificate, long_certificate, due_of}
 use Rattle.vetting_desk.specs.PartsDue.{FileTold, RechecksBy, Rechecks}
+use Rattle.vetting_desk.specs.Answer.{ComesByRows}
 use Rattle.vetting_desk.specs.Found.{FindsOfParts, FindsByFile, said, unread}
 use Rattle.app_folder.specs.Reading.{TellsRead, SameFiles}
 
@@ -41,7 +42,7 @@ only_absent path told parts none tells _ (Rechecks.absent is) = refl
 only_absent path told parts none tells _ (Rechecks.too_long is) = absurd (none_or_long 536870912 (held_by told path) (none tells) (is tells))
 only_absent path told parts none tells _ (Rechecks.read bytes due is within has) = absurd (none_or_some (held_by told path) bytes (none tells) (is tells))
 
-pub finds_absent : (path : List ℕ) (told : Option Told) (parts : Parts) → FileTold told path (λ file. file ≡ None) → FindsOfParts (IsTrue (is_some told)) (Rechecks path told) parts (no_certificate path)
+pub finds_absent : (path : List ℕ) (told : Option Told) (parts : Parts) → FileTold told path (λ file. file ≡ None) → FindsOfParts (IsTrue (is_some told)) (Rechecks path told) ComesByRows parts (no_certificate path)
 finds_absent path told parts none = record { is = Rechecks.absent none; only = only_absent path told parts none; safe = λ zero. absurd (omega (arith, zero)); full = λ found. absurd (no_finding 3 (omega arith) found) }
 
 only_long : (path : List ℕ) (told : Option Told) (parts : Parts) → FileTold told path (λ file. IsSomeAnd file (λ bytes. 536870912 < length bytes)) → IsTrue (is_some told)
@@ -51,7 +52,7 @@ only_long path told parts long tells _ (Rechecks.too_long is) = refl
 only_long path told parts long tells _ (Rechecks.read bytes due is within has) = absurd (not_longer 536870912 (held_by told path) bytes (long tells) (is tells) within)
 
 pub finds_long : (path : List ℕ) (told : Option Told) (parts : Parts) → FileTold told path (λ file. IsSomeAnd file (λ bytes. 536870912 < length bytes))
-    → FindsOfParts (IsTrue (is_some told)) (Rechecks path told) parts (long_certificate path)
+    → FindsOfParts (IsTrue (is_some told)) (Rechecks path told) ComesByRows parts (long_certificate path)
 finds_long path told parts long = record { is = Rechecks.too_long long; only = only_long path told parts long; safe = λ zero. absurd (omega (arith, zero)); full = λ found. absurd (no_finding 3 (omega arith) found) }
 
 only_read : (path : List ℕ) (told : Option Told) (parts : Parts) (bytes : List ℕ) (due : Due) → FileTold told path (λ file. file ≡ Some bytes) → length bytes ≤ 536870912
@@ -63,7 +64,7 @@ only_read path told parts bytes due some within only tells _ (Rechecks.read byte
     only due2 (subst (λ (b : List ℕ). RechecksBy b parts due2) same has)
 
 finds_read : (path : List ℕ) (told : Option Told) (parts : Parts) (bytes : List ℕ) (due : Due) → FileTold told path (λ file. file ≡ Some bytes) → length bytes ≤ 536870912
-    → FindsOfParts (Unit {0}) (RechecksBy bytes) parts due → FindsOfParts (IsTrue (is_some told)) (Rechecks path told) parts due
+    → FindsOfParts (Unit {0}) (RechecksBy bytes) ComesByRows parts due → FindsOfParts (IsTrue (is_some told)) (Rechecks path told) ComesByRows parts due
 finds_read path told parts bytes due some within finds = record {
   is = Rechecks.read bytes due some within finds.is;
   only = only_read path told parts bytes due some within (finds.only tt);
@@ -73,7 +74,7 @@ finds_read path told parts bytes due some within finds = record {
 
 -- the file was read
 pub found_read : (path : List ℕ) (told new : Option Told) (parts : Parts) (bytes : List ℕ) (before after : ℕ) (answer : Result Answer NoMemory)
-    → FileTold told path (λ file. file ≡ Some bytes) → length bytes ≤ 536870912 → IfOk answer (λ a. FindsOfParts (Unit {0}) (RechecksBy bytes) parts (due_of a)) → new ≡ told → after ≡ before
+    → FileTold told path (λ file. file ≡ Some bytes) → length bytes ≤ 536870912 → IfOk answer (λ a. FindsOfParts (Unit {0}) (RechecksBy bytes) ComesByRows parts (due_of a)) → new ≡ told → after ≡ before
     → FindsByFile path parts told new before after (said answer)
 found_read path told new parts bytes before after (Ok answer) some within finds same count = (finds_read path told parts bytes (due_of answer) some within finds, same, count)
 found_read path told new parts bytes before after (Err e) some within finds same count = (same, count)

@@ -9,12 +9,11 @@ use Rattle.cert_report.specs.declared.refusal.CertRefusal.{CertRefusal}
 use Rattle.cert_report.specs.Refusal.{refusal_text}
 use Rattle.verdict.specs.declared.outcome.Outcome.{Outcome}
 use Rattle.verdict.specs.declared.outcome.Outcome.TheVariants.{Clear, Flagged, Undecided, Refused}
-use Rattle.verdict.specs.declared.outcome.Rechecked.{Rechecked}
 use Rattle.verdict.specs.declared.outcome.Rechecked.TheVariants as rechecks
 use Rattle.verdict.specs.declared.parts.Parts.{Parts}
 use Rattle.verdict.specs.Outcome.{status_of}
 use Rattle.verdict_report.specs.Printed.{counted_line}
-use Rattle.verdict_report.specs.Report.{report_text, clear_text, flagged_text, undecided_text, refused_text}
+use Rattle.verdict_report.specs.Report.{report_text, flagged_text, undecided_text, refused_text}
 use Rattle.app_folder.specs.Due.{Due}
 use Rattle.app_folder.specs.FolderDue.{FolderDue, Checks}
 use Rattle.app_folder.specs.Outside.{Tells, Outside}

@@ -1,9 +1,10 @@
 -- From what is found of a folder to what is due to the words.
-use Rattle.std.proofs.Common.{◌≡◌, ◌≤◌, ◌⊎◌, inl, inr, ℕ, List, [], ◌++◌, Option, Some, None, Result, Ok, Err, append-nil, refl, sym, ◌∙◌, ap, subst, append_assoc, arith}
+use Rattle.std.proofs.Common.{◌≡◌, ◌≤◌, ◌⊎◌, inl, inr, ℕ, List, [], ◌++◌, Option, Some, None, Result, Ok, Err, refl, sym, ◌∙◌, ap, subst, append_assoc, arith}
 use Rattle.std.specs.Prelude.{IfOk, IsTrue, is_some, string_bytes}
 use Rattle.vet_base.specs.Outside.{Told, held_by}
 use Rattle.vet_base.specs.declared.memory.Memory.{Memory as NoMemory}
 use Rattle.office_forms.specs.OneForm.{OneFormOrFault}
+use Rattle.verdict.specs.declared.outcome.Outcome.{Outcome}
 use Rattle.verdict.specs.declared.outcome.Outcome.TheVariants as outcomes
 use Rattle.verdict.specs.declared.outcome.Part.{Part}
 use Rattle.verdict.specs.declared.outcome.Reason.{Reason}
@@ -17,7 +18,7 @@ use Rattle.desk_words.specs.Words.{Words, Check, Certify, Recheck, Story}
 use Rattle.app_folder.specs.Folder.{IsFileIn}
 use Rattle.app_folder.specs.Heard.{entries_of, GaveParts}
 use Rattle.heard_files.specs.Outside.{Entry}
-use Rattle.vetting_desk.specs.Answer.{Answers, Alike, HasSafeApp, SaysClear, IsSafe, HasFullReport, SaysFound, IsFullReport, IsFileOf}
+use Rattle.vetting_desk.specs.Answer.{Answers, Alike, ComesByRows, HasSafeApp, SaysClear, IsSafe, HasFullReport, SaysFound, IsFullReport, IsFileOf}
 use Rattle.app_folder.specs.Due.{Due, reported}
 use Rattle.vetting_desk.specs.Due.{SameButStories, usage, due_of}
 use Rattle.app_folder.specs.FolderDue.{FolderDue, Checks}
@@ -27,7 +28,6 @@ use Rattle.app_folder.specs.Outside.{Tells}
 use Rattle.app_folder.specs.Reading.{GathersTold, GathersAs, Leaves, FailsAt}
 use Rattle.app_folder.proofs.Holding.{holds_parts}
 use Rattle.app_folder.proofs.OneFolder.{one_gathered, only_of_parts, only_of_refusal}
-use Rattle.verdict_report.specs.Report.{report_text}
 use Rattle.vet_base.proofs.Results.{one_ok, ok_or_err}
 
 abbrev tells_of : Option Told → Option (List ℕ) → Tells
@@ -42,8 +42,11 @@ pub record AsksOf (words : Option Words) (dir : List ℕ) (told : Option Told) (
   pub clear : (status : ℕ) → SaysClear words status → status ≡ 0
   pub safe : (printed : Option (List ℕ)) → HasSafeApp dir told ho hn → IsSafe words (tells_of told printed) ho hn
   pub found : (status : ℕ) → SaysFound words status → (status ≡ 1) ⊎ (status ≡ 2)
-  pub full : (printed : Option (List ℕ)) (status : ℕ) (text : List ℕ) → HasFullReport dir told ho hn status text → IsFullReport words (tells_of told printed) ho hn status text
   pub file : (name : List ℕ) → IsFileIn dir name → IsFileOf words name
+
+-- such words of which a report of what their parts come to so is a full one
+abbrev ReportsBy : Option Words → List ℕ → Option Told → List Entry → List Entry → (Parts → Outcome → Type 0) → Type 0
+ReportsBy words dir told ho hn Comes = (printed : Option (List ℕ)) (status : ℕ) (text : List ℕ) → HasFullReport Comes dir told ho hn status text → IsFullReport words (tells_of told printed) ho hn status text
 
 only_check : (dir : List ℕ) (n : ℕ) (told : Option Told) (printed : Option (List ℕ)) (due : Due) → Answers (Some (Check dir n)) (tells_of told printed) due → FolderDue Checks dir told due
 only_check dir n told printed _ (Answers.no_command e) = absurd cc
@@ -98,7 +101,6 @@ check_asks dir n told ho hn = record {
   clear = λ status zero. zero;
   safe = λ printed has. has;
   found = λ status is. is;
-  full = λ printed status text has. has;
   file = λ name is. is;
 }
 
@@ -110,7 +112,6 @@ certify_asks dir path told ho hn = record {
   clear = λ status zero. zero;
   safe = λ printed has. has;
   found = λ status is. is;
-  full = λ printed status text has. has;
   file = λ name is. is;
 }
 
@@ -122,7 +123,6 @@ recheck_asks dir path told ho hn = record {
   clear = λ status zero. zero;
   safe = λ printed has. has;
   found = λ status is. is;
-  full = λ printed status text has. has;
   file = λ name is. inl is;
 }
 
@@ -134,15 +134,15 @@ story_asks dir told ho hn = record {
   clear = λ status zero. zero;
   safe = λ printed has. has;
   found = λ status is. is;
-  full = λ printed status text has. record { report = text; rest = []; text = sym (append-nil text); full = has };
   file = λ name is. is;
 }
 
 -- what is found of the parts that the folder gives is due
 finds_due : (forms : OneFormOrFault) (words : Option Words) (dir : List ℕ) (told : Option Told) (ho hn : List Entry) (PartsDue : Parts → Due → Type 0) → AsksOf words dir told ho hn PartsDue
-    → (Sure : Type 0) → (IsTrue (is_some told) → Sure) → (parts : Parts) (due : Due) → GaveParts ho hn dir parts → GathersTold told dir (Ok parts) → FindsOfParts Sure PartsDue parts due
+    → (Comes : Parts → Outcome → Type 0) → ReportsBy words dir told ho hn Comes
+    → (Sure : Type 0) → (IsTrue (is_some told) → Sure) → (parts : Parts) (due : Due) → GaveParts ho hn dir parts → GathersTold told dir (Ok parts) → FindsOfParts Sure PartsDue Comes parts due
     → FindsDue words told ho hn due
-finds_due forms words dir told ho hn PartsDue asks Sure sure parts due gave gathers finds = λ printed. record {
+finds_due forms words dir told ho hn PartsDue asks Comes reports Sure sure parts due gave gathers finds = λ printed. record {
   answers = asks.answers printed due (FolderDue.given parts due gathers finds.is);
   only = λ tells other is.
       asks.alike printed due other (FolderDue.given parts due gathers finds.is)
@@ -150,7 +150,7 @@ finds_due forms words dir told ho hn PartsDue asks Sure sure parts due gave gath
   safe = λ clear. asks.safe printed (record { parts = parts; gave = gave; holds = λ tells. holds_parts (held_by told) dir parts (gathers tells); safe = finds.safe (asks.clear due.status clear) });
   full = λ found.
       let all = finds.full (asks.found due.status found) in
-      asks.full printed due.status due.text
+      reports printed due.status due.text
       (record { parts = parts; gave = gave; holds = λ tells. holds_parts (held_by told) dir parts (gathers tells); outcome = all.outcome; comes = all.comes; status = all.status; text = all.text; tells = all.tells });
 }
 
@@ -184,12 +184,13 @@ finds_usage told ho hn = λ printed. record { answers = Answers.no_command refl;
 
 -- what was found of the parts
 pub found_said : (forms : OneFormOrFault) (words : Option Words) (dir : List ℕ) (told : Option Told) (ho hn : List Entry) (PartsDue : Parts → Due → Type 0) → AsksOf words dir told ho hn PartsDue
+    → (Comes : Parts → Outcome → Type 0) → ReportsBy words dir told ho hn Comes
     → (parts : Parts) (new : Option Told) (before after : ℕ) (answer : Result Answer NoMemory)
-    → GaveParts ho hn dir parts → GathersTold told dir (Ok parts) → IfOk answer (λ a. FindsOfParts (Unit {0}) PartsDue parts (due_of a))
+    → GaveParts ho hn dir parts → GathersTold told dir (Ok parts) → IfOk answer (λ a. FindsOfParts (Unit {0}) PartsDue Comes parts (due_of a))
     → new ≡ told → after ≡ before → IsFound words told new before after ho hn (said answer)
-found_said forms words dir told ho hn PartsDue asks parts new before after (Ok answer) gave gathers finds same count =
-    (finds_due forms words dir told ho hn PartsDue asks (Unit {0}) (λ tells. tt) parts (due_of answer) gave gathers finds, same, count)
-found_said forms words dir told ho hn PartsDue asks parts new before after (Err e) gave gathers finds same count = (same, count)
+found_said forms words dir told ho hn PartsDue asks Comes reports parts new before after (Ok answer) gave gathers finds same count =
+    (finds_due forms words dir told ho hn PartsDue asks Comes reports (Unit {0}) (λ tells. tt) parts (due_of answer) gave gathers finds, same, count)
+found_said forms words dir told ho hn PartsDue asks Comes reports parts new before after (Err e) gave gathers finds same count = (same, count)
 
 -- what is due to a folder where stories are asked for is so of the parts that it gives
 of_parts : (forms : OneFormOrFault) (dir : List ℕ) (told : Option Told) (parts : Parts) (due : Due)
@@ -210,12 +211,7 @@ finds_story forms dir told ho hn parts due gave gathers finds = λ printed. reco
   safe = λ clear. record { parts = parts; gave = gave; holds = λ tells. holds_parts (held_by told) dir parts (gathers tells); safe = finds.safe clear };
   full = λ found.
       let all = finds.full found in
-      record {
-        report = report_text all.outcome;
-        rest = all.rest;
-        text = all.text;
-        full = record { parts = parts; gave = gave; holds = λ tells. holds_parts (held_by told) dir parts (gathers tells); outcome = all.outcome; comes = all.comes; status = all.status; text = refl; tells = all.tells };
-      };
+      record { parts = parts; gave = gave; holds = λ tells. holds_parts (held_by told) dir parts (gathers tells); outcome = all.outcome; stories = all.stories; retells = all.retells; status = all.status; text = all.text; tells = all.tells };
 }
 
 -- what stories were found of the parts
@@ -251,7 +247,7 @@ by_file : (forms : OneFormOrFault) (dir path : List ℕ) (told : Option Told) (h
     → GaveParts ho hn dir parts → GathersTold told dir (Ok parts) → FindsByFile path parts told new before after found
     → IsFound (Some (Recheck dir path)) told new before after ho hn found
 by_file forms dir path told ho hn parts new before after (Said answer) gave gathers finds =
-    (finds_due forms (Some (Recheck dir path)) dir told ho hn (Rechecks path told) (recheck_asks dir path told ho hn) (IsTrue (is_some told)) (λ tells. tells) parts (due_of answer) gave gathers finds.0, finds.1, finds.2)
+    (finds_due forms (Some (Recheck dir path)) dir told ho hn (Rechecks path told) (recheck_asks dir path told ho hn) ComesByRows (λ printed status text has. has) (IsTrue (is_some told)) (λ tells. tells) parts (due_of answer) gave gathers finds.0, finds.1, finds.2)
 by_file forms dir path told ho hn parts new before after (ReadFault name) gave gathers finds = record { of_command = inr finds.0; risen = finds.1; last = finds.2; kept = finds.3 }
 by_file forms dir path told ho hn parts new before after Memory gave gathers finds = finds
 

@@ -20,10 +20,10 @@ use Rattle.verdict.specs.Outcome.{status_of}
 use Rattle.verdict.specs.Recheck.{Rejudgement, TellsBy}
 use Rattle.verdict_report.specs.Report.{report_text}
 use Rattle.verdict.specs.Tells.{IsFollowed, TellsOfApp}
-use Rattle.verdict.specs.Verdict.{Judgement, IsSafeApp}
+use Rattle.verdict.specs.Verdict.{Judgement, IsSafeApp, Verdict}
 use Rattle.vetting_desk.specs.declared.answer.Answer.{Answer}
 use Rattle.app_folder.specs.Due.{Due, reported}
-use Rattle.vetting_desk.specs.Answer.{by_judgement, by_rows}
+use Rattle.vetting_desk.specs.Answer.{ComesByRows}
 use Rattle.vetting_desk.specs.Due.{certified, uncertified, due_of}
 use Rattle.app_folder.specs.FolderDue.{Checks}
 use Rattle.vetting_desk.specs.PartsDue.{Certifies, digest_of, rechecked, RechecksBy}
@@ -52,12 +52,12 @@ only_checked parts judged one _ (Checks.report outcome verdict) = ap (λ (j : Ju
 pub finds_checked : {E : Type 0} (parts : Parts) (judged : Judged)
     → Judgement parts judged → (judged.outcome ≡ Clear → IsSafeApp parts) → (IsFollowed judged.outcome → TellsOfApp parts judged.outcome)
     → ((j : Judged) → Judgement parts j → (let r : Result Judged E = Ok judged in r ≡ Ok j) ⊎ (let r : Result Judged E = Ok judged in IsErr r))
-    → FindsOfParts (Unit {0}) Checks parts (reported judged.outcome)
+    → FindsOfParts (Unit {0}) Checks Verdict parts (reported judged.outcome)
 finds_checked {E} parts judged is safe tells one = record {
   is = Checks.report judged.outcome (judged.table, is);
   only = λ sure. only_checked parts judged (one_judged {E = E} parts judged one);
   safe = λ zero. safe (is_clear judged.outcome zero);
-  full = λ found. record { outcome = judged.outcome; comes = by_judgement (judged.table, is); status = refl; text = refl; tells = tells };
+  full = λ found. record { outcome = judged.outcome; comes = (judged.table, is); status = refl; text = refl; tells = tells };
 }
 
 certifies : (path : List ℕ) (parts : Parts) (outcome : Outcome) (table : Option (List Row)) (due : Due)
@@ -90,12 +90,12 @@ text_as path parts outcome (Some rows) due same = ap (λ (d : Due). d.text) same
 pub finds_certified : {E : Type 0} (path : List ℕ) (parts : Parts) (judged : Judged) (due : Due)
     → Judgement parts judged → (judged.outcome ≡ Clear → IsSafeApp parts) → (IsFollowed judged.outcome → TellsOfApp parts judged.outcome)
     → ((j : Judged) → Judgement parts j → (let r : Result Judged E = Ok judged in r ≡ Ok j) ⊎ (let r : Result Judged E = Ok judged in IsErr r))
-    → CertifiedAs path parts judged.outcome judged.table due → FindsOfParts (Unit {0}) (Certifies path) parts due
+    → CertifiedAs path parts judged.outcome judged.table due → FindsOfParts (Unit {0}) (Certifies path) Verdict parts due
 finds_certified {E} path parts judged due is safe tells one same = record {
   is = certifies path parts judged.outcome judged.table due is same;
   only = λ sure. only_certified path parts judged due (one_judged {E = E} parts judged one) same;
   safe = λ zero. safe (is_clear judged.outcome (sym (status_as path parts judged.outcome judged.table due same) ∙ zero));
-  full = λ found. record { outcome = judged.outcome; comes = by_judgement (judged.table, is); status = status_as path parts judged.outcome judged.table due same; text = text_as path parts judged.outcome judged.table due same; tells = tells };
+  full = λ found. record { outcome = judged.outcome; comes = (judged.table, is); status = status_as path parts judged.outcome judged.table due same; text = text_as path parts judged.outcome judged.table due same; tells = tells };
 }
 
 -- a status from 3 on is none of a finding
@@ -108,13 +108,13 @@ only_unread laws bytes parts fault first _ (RechecksBy.unread fault2 first2) = a
 only_unread laws bytes parts fault first _ (RechecksBy.other_digest digest rows reads apart) = absurd (laws.not_both bytes digest rows fault reads first)
 only_unread laws bytes parts fault first _ (RechecksBy.judged rows by reads is) = absurd (laws.not_both bytes (digest_of parts) rows fault reads first)
 
-refuses : (PartsDue : Parts → Due → Type 0) (parts : Parts) (refusal : CertRefusal) → PartsDue parts (uncertified refusal) → ((other : Due) → PartsDue parts other → other ≡ uncertified refusal)
-    → FindsOfParts (Unit {0}) PartsDue parts (uncertified refusal)
-refuses PartsDue parts refusal is only = record { is = is; only = λ sure. only; safe = λ zero. absurd (omega (arith, zero)); full = λ found. absurd (no_finding 9 (omega arith) found) }
+refuses : (PartsDue : Parts → Due → Type 0) (Comes : Parts → Outcome → Type 0) (parts : Parts) (refusal : CertRefusal) → PartsDue parts (uncertified refusal) → ((other : Due) → PartsDue parts other → other ≡ uncertified refusal)
+    → FindsOfParts (Unit {0}) PartsDue Comes parts (uncertified refusal)
+refuses PartsDue Comes parts refusal is only = record { is = is; only = λ sure. only; safe = λ zero. absurd (omega (arith, zero)); full = λ found. absurd (no_finding 9 (omega arith) found) }
 
 -- the bytes are no certificate
-pub finds_unread : (laws : CertLaws) (bytes : List ℕ) (parts : Parts) (fault : CertFault) → FirstCertFault bytes fault → FindsOfParts (Unit {0}) (RechecksBy bytes) parts (uncertified (refusals.Fault fault))
-finds_unread laws bytes parts fault first = refuses (RechecksBy bytes) parts (refusals.Fault fault) (RechecksBy.unread fault first) (only_unread laws bytes parts fault first)
+pub finds_unread : (laws : CertLaws) (bytes : List ℕ) (parts : Parts) (fault : CertFault) → FirstCertFault bytes fault → FindsOfParts (Unit {0}) (RechecksBy bytes) ComesByRows parts (uncertified (refusals.Fault fault))
+finds_unread laws bytes parts fault first = refuses (RechecksBy bytes) ComesByRows parts (refusals.Fault fault) (RechecksBy.unread fault first) (only_unread laws bytes parts fault first)
 
 only_other_digest : (laws : CertLaws) (bytes : List ℕ) (parts : Parts) (digest : List ℕ) (rows : List Row) → IsCert bytes digest rows → digest ≢ digest_of parts
     → (other : Due) → RechecksBy bytes parts other → other ≡ uncertified (refusals.Digest digest (digest_of parts))
@@ -125,12 +125,12 @@ only_other_digest laws bytes parts digest rows reads apart _ (RechecksBy.judged 
 
 -- it is about other files
 pub finds_other_digest : (laws : CertLaws) (bytes : List ℕ) (parts : Parts) (digest of_parts : List ℕ) (rows : List Row) → IsCert bytes digest rows → of_parts ≡ digest_of parts → digest ≢ of_parts
-    → FindsOfParts (Unit {0}) (RechecksBy bytes) parts (uncertified (refusals.Digest digest of_parts))
+    → FindsOfParts (Unit {0}) (RechecksBy bytes) ComesByRows parts (uncertified (refusals.Digest digest of_parts))
 finds_other_digest laws bytes parts digest of_parts rows reads same apart =
-    let P : List ℕ → Type 0 = λ d. FindsOfParts (Unit {0}) (RechecksBy bytes) parts (uncertified (refusals.Digest digest d)) in
+    let P : List ℕ → Type 0 = λ d. FindsOfParts (Unit {0}) (RechecksBy bytes) ComesByRows parts (uncertified (refusals.Digest digest d)) in
     let ne : digest ≢ digest_of parts = λ e. apart (e ∙ sym same) in
     subst P (sym same)
-    (refuses (RechecksBy bytes) parts (refusals.Digest digest (digest_of parts)) (RechecksBy.other_digest digest rows reads ne) (only_other_digest laws bytes parts digest rows reads ne))
+    (refuses (RechecksBy bytes) ComesByRows parts (refusals.Digest digest (digest_of parts)) (RechecksBy.other_digest digest rows reads ne) (only_other_digest laws bytes parts digest rows reads ne))
 
 -- what the rows of a certificate make of the parts is one thing
 one_rejudged : {E : Type 0} (parts : Parts) (rows : List Row) (by : Rechecked)
@@ -155,10 +155,10 @@ safe_by parts (rechecks.Refused part reason) safe zero = absurd (omega (arith, z
 safe_by parts (rechecks.Defect defect) safe zero = absurd (omega (arith, zero))
 safe_by parts (rechecks.By outcome) safe zero = safe (ap (λ (o : Outcome). rechecks.By o) (is_clear outcome zero))
 
-full_by : (parts : Parts) (rows : List Row) (by : Rechecked) → Rejudgement parts rows by → TellsBy parts by → ((rechecked by).status ≡ 1) ⊎ ((rechecked by).status ≡ 2) → ReportsAll parts (rechecked by)
+full_by : (parts : Parts) (rows : List Row) (by : Rechecked) → Rejudgement parts rows by → TellsBy parts by → ((rechecked by).status ≡ 1) ⊎ ((rechecked by).status ≡ 2) → ReportsAll ComesByRows parts (rechecked by)
 full_by parts rows (rechecks.Refused part reason) is tells found = absurd (no_finding 3 (omega arith) found)
 full_by parts rows (rechecks.Defect defect) is tells found = absurd (no_finding 9 (omega arith) found)
-full_by parts rows (rechecks.By outcome) is tells found = record { outcome = outcome; comes = by_rows rows is; status = refl; text = refl; tells = λ followed. tells }
+full_by parts rows (rechecks.By outcome) is tells found = record { outcome = outcome; comes = (rows, is); status = refl; text = refl; tells = λ followed. tells }
 
 -- what its rows make of the parts
 pub finds_rechecked : {E : Type 0} (laws : CertLaws) (bytes : List ℕ) (parts : Parts) (digest of_parts : List ℕ) (rows : List Row) (by : Rechecked) (due : Due)
@@ -166,10 +166,10 @@ pub finds_rechecked : {E : Type 0} (laws : CertLaws) (bytes : List ℕ) (parts :
     → Rejudgement parts rows by
     → ((r : Rechecked) → Rejudgement parts rows r → (let s : Result Rechecked E = Ok by in s ≡ Ok r) ⊎ (let s : Result Rechecked E = Ok by in IsErr s))
     → TellsBy parts by → (by ≡ rechecks.By Clear → IsSafeApp parts) → due ≡ rechecked by
-    → FindsOfParts (Unit {0}) (RechecksBy bytes) parts due
+    → FindsOfParts (Unit {0}) (RechecksBy bytes) ComesByRows parts due
 finds_rechecked {E} laws bytes parts digest of_parts rows by due reads same_parts same is one tells safe says =
     let reads_parts : IsCert bytes (digest_of parts) rows = subst (λ (d : List ℕ). IsCert bytes d rows) (same ∙ same_parts) reads in
-    subst (λ (d : Due). FindsOfParts (Unit {0}) (RechecksBy bytes) parts d) (sym says) (record {
+    subst (λ (d : Due). FindsOfParts (Unit {0}) (RechecksBy bytes) ComesByRows parts d) (sym says) (record {
       is = RechecksBy.judged rows by reads_parts is;
       only = λ sure. only_rechecked laws bytes parts rows by reads_parts (one_rejudged {E = E} parts rows by one);
       safe = safe_by parts by safe;
@@ -178,7 +178,7 @@ finds_rechecked {E} laws bytes parts digest of_parts rows by due reads same_part
 
 -- what is answered where the bytes are no certificate
 pub finds_unreadable : (laws : CertLaws) (bytes : List ℕ) (parts : Parts) (stop : Stop CertFault) (answer : Answer) → IsStopOf bytes stop → IsUnreadable stop answer
-    → FindsOfParts (Unit {0}) (RechecksBy bytes) parts (due_of answer)
+    → FindsOfParts (Unit {0}) (RechecksBy bytes) ComesByRows parts (due_of answer)
 finds_unreadable laws bytes parts stops.Memory answer is says = absurd says
 finds_unreadable laws bytes parts (stops.Fault fault) answer is says =
-    subst (λ (a : Answer). FindsOfParts (Unit {0}) (RechecksBy bytes) parts (due_of a)) (sym says) (finds_unread laws bytes parts fault is)
+    subst (λ (a : Answer). FindsOfParts (Unit {0}) (RechecksBy bytes) ComesByRows parts (due_of a)) (sym says) (finds_unread laws bytes parts fault is)

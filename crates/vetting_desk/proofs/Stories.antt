@@ -1,5 +1,5 @@
 -- What is found of parts of which stories are told.
-use Rattle.std.proofs.Common.{◌≡◌, ◌⊎◌, inl, inr, ℕ, suc, List, [], ◌∷◌, ◌++◌, length, append-nil, Option, Some, None, refl, sym, ◌∙◌, ap, subst, arith}
+use Rattle.std.proofs.Common.{◌≡◌, ℕ, suc, List, [], ◌∷◌, length, Option, Some, None, refl, sym, ◌∙◌, ap, arith}
 use Rattle.std.specs.Option.{option_map}
 use Rattle.app_machine.specs.declared.app.App.{App}
 use Rattle.app_machine.specs.declared.lists.Lists.{Lists}
@@ -13,15 +13,12 @@ use Rattle.verdict.specs.declared.outcome.Outcome.TheVariants.{Clear, Flagged, U
 use Rattle.verdict.specs.declared.parts.Parts.{Parts}
 use Rattle.verdict.specs.Outcome.{findings_in, status_of}
 use Rattle.verdict.specs.Tells.{IsFollowed, TellsOfApp}
-use Rattle.verdict.specs.Verdict.{Judgement, IsSafeApp}
-use Rattle.verdict_report.specs.Report.{report_text}
-use Rattle.story_report.specs.StoryText.{stories_text}
+use Rattle.verdict.specs.Verdict.{IsSafeApp}
 use Rattle.app_stories.specs.Stories.{Story, AreStories, AreStoriesOf, Tells, alone, told, OneJudgement}
 use Rattle.app_folder.specs.Due.{Due}
-use Rattle.vetting_desk.specs.Answer.{IsOutcomeOf, by_judgement}
 use Rattle.vetting_desk.specs.Due.{SameButStories, storied}
 use Rattle.vetting_desk.specs.PartsDue.{Retells}
-use Rattle.vetting_desk.specs.Found.{BeginsReportingAll, FindsStories}
+use Rattle.vetting_desk.specs.Found.{FindsStories}
 
 is_clear : (outcome : Outcome) → status_of outcome ≡ 0 → outcome ≡ Clear
 is_clear Clear zero = refl
@@ -75,14 +72,6 @@ only_told parts outcome stories one tells _ (Retells.stories other others too) =
     let same = same_telling parts outcome other stories others one tells too in
     record { outcome = outcome; first = stories; second = others; one_is = refl; other_is = ap (λ (o : Outcome). storied o others) same.outcomes; as_many = same.counts }
 
-comes_of : (parts : Parts) (outcome : Outcome) (stories : Option (List Story)) → Tells parts outcome stories → IsOutcomeOf parts outcome
-comes_of parts _ _ (alone outcome is) = by_judgement (None, is)
-comes_of parts _ _ (told outcome rows linked stories is of are) = by_judgement (Some rows, is)
-
-begins : (parts : Parts) (outcome : Outcome) (stories : Option (List Story)) → IsOutcomeOf parts outcome → (IsFollowed outcome → TellsOfApp parts outcome) → BeginsReportingAll parts (storied outcome stories)
-begins parts outcome None comes tells = record { outcome = outcome; comes = comes; rest = []; status = refl; text = sym (append-nil (report_text outcome)); tells = tells }
-begins parts outcome (Some stories) comes tells = record { outcome = outcome; comes = comes; rest = stories_text stories; status = refl; text = refl; tells = tells }
-
 -- parts of which stories were told
 pub finds_stories : (parts : Parts) (outcome : Outcome) (stories : Option (List Story)) → Tells parts outcome stories → OneJudgement parts → (IsFollowed outcome → TellsOfApp parts outcome) → (outcome ≡ Clear → IsSafeApp parts) →
     FindsStories parts (storied outcome stories)
@@ -90,5 +79,5 @@ finds_stories parts outcome stories tells one followed safe = record {
   is = Retells.stories outcome stories tells;
   only = only_told parts outcome stories one tells;
   safe = λ zero. safe (is_clear outcome zero);
-  full = λ found. begins parts outcome stories (comes_of parts outcome stories tells) followed;
+  full = λ found. record { outcome = outcome; stories = stories; retells = tells; status = refl; text = refl; tells = followed };
 }

@@ -16,7 +16,8 @@ use Rattle.verdict.specs.declared.outcome.Rechecked.TheVariants.{By}
 use Rattle.fact_rows.specs.declared.row.Row.{Row}
 use Rattle.desk_words.specs.Words.{Words, Check, Certify, Recheck, Story, Make}
 use Rattle.app_folder.specs.Due.{Due, reported}
-use Rattle.vetting_desk.specs.Due.{SameButStories, summarised, usage}
+use Rattle.app_stories.specs.Stories.{Story as StoryOfFinding, Tells as TellsStories}
+use Rattle.vetting_desk.specs.Due.{SameButStories, storied_text, summarised, usage}
 use Rattle.app_folder.specs.Folder.{Holds, IsFileIn}
 use Rattle.app_folder.specs.Heard.{GaveParts}
 use Rattle.app_folder.specs.FolderDue.{FolderDue, Checks}
@@ -90,29 +91,33 @@ IsSafe (Some (Recheck dir cert)) tells old new = HasSafeApp dir tells.files old 
 IsSafe (Some (Story dir)) tells old new = HasSafeApp dir tells.files old new
 IsSafe (Some (Make seed size n)) tells old new = IsSafeApp (made_parts seed size)
 
--- what the parts come to, by the judgement of their app, or by rows that someone gave
-pub data IsOutcomeOf (parts : Parts) (outcome : Outcome) : Type 0 where
-  by_judgement : Verdict parts outcome → IsOutcomeOf parts outcome
-  by_rows : (rows : List Row) → Rejudgement parts rows (By outcome) → IsOutcomeOf parts outcome
+-- what parts come to by rows that someone gave
+abbrev pub ComesByRows : Parts → Outcome → Type 0
+ComesByRows parts outcome = (rows : List Row) × Rejudgement parts rows (By outcome)
 
 -- The text is the report of what these parts come to, which leaves out nothing that a run of their app does, unless the app is
 -- too large. The first reads of this call gave these parts; and where the files of the folder are told, they hold them.
-pub record HasFullReport (dir : List ℕ) (told : Option Told) (old new : List Entry) (n : ℕ) (printed : List ℕ) : Type 0 where
+pub record HasFullReport (Comes : Parts → Outcome → Type 0) (dir : List ℕ) (told : Option Told) (old new : List Entry) (n : ℕ) (printed : List ℕ) : Type 0 where
   pub parts : Parts
   pub gave : GaveParts old new dir parts
   pub holds : IsTrue (is_some told) → Holds (held_by told) dir parts
   pub outcome : Outcome
-  pub comes : IsOutcomeOf parts outcome
+  pub comes : Comes parts outcome
   pub status : n ≡ status_of outcome
   pub text : printed ≡ report_text outcome
   pub tells : IsFollowed outcome → TellsOfApp parts outcome
 
--- the text begins with such a report
-pub record BeginsWithFullReport (dir : List ℕ) (told : Option Told) (old new : List Entry) (n : ℕ) (printed : List ℕ) : Type 0 where
-  pub report : List ℕ
-  pub rest : List ℕ
-  pub text : printed ≡ report ++ rest
-  pub full : HasFullReport dir told old new n report
+-- The same of what these parts come to by their judgement, with the stories of the findings behind it.
+pub record HasFullStories (dir : List ℕ) (told : Option Told) (old new : List Entry) (n : ℕ) (printed : List ℕ) : Type 0 where
+  pub parts : Parts
+  pub gave : GaveParts old new dir parts
+  pub holds : IsTrue (is_some told) → Holds (held_by told) dir parts
+  pub outcome : Outcome
+  pub stories : Option (List StoryOfFinding)
+  pub retells : TellsStories parts outcome stories
+  pub status : n ≡ status_of outcome
+  pub text : printed ≡ storied_text outcome stories
+  pub tells : IsFollowed outcome → TellsOfApp parts outcome
 
 -- the status says that the app of the words is flagged or undecided, and a report is printed
 abbrev pub SaysFound : Option Words → ℕ → Type 0
@@ -126,10 +131,10 @@ SaysFound (Some (Make seed size n)) status = ⊥
 -- the text leaves out nothing of the app that the words name
 abbrev pub IsFullReport : Option Words → Tells → List Entry → List Entry → ℕ → List ℕ → Type 0
 IsFullReport None tells old new status text = ⊥
-IsFullReport (Some (Check dir n)) tells old new status text = HasFullReport dir tells.files old new status text
-IsFullReport (Some (Certify dir cert)) tells old new status text = HasFullReport dir tells.files old new status text
-IsFullReport (Some (Recheck dir cert)) tells old new status text = HasFullReport dir tells.files old new status text
-IsFullReport (Some (Story dir)) tells old new status text = BeginsWithFullReport dir tells.files old new status text
+IsFullReport (Some (Check dir n)) tells old new status text = HasFullReport Verdict dir tells.files old new status text
+IsFullReport (Some (Certify dir cert)) tells old new status text = HasFullReport Verdict dir tells.files old new status text
+IsFullReport (Some (Recheck dir cert)) tells old new status text = HasFullReport ComesByRows dir tells.files old new status text
+IsFullReport (Some (Story dir)) tells old new status text = HasFullStories dir tells.files old new status text
 IsFullReport (Some (Make seed size n)) tells old new status text = ⊥
 
 -- the command reads the file of this name

@@ -1,5 +1,5 @@
 -- What is found of the words and the files before anything is written or printed.
-use Rattle.std.specs.Prelude.{◌≡◌, ◌⊎◌, ◌++◌, ℕ, List, Option, Some, None, Result, Ok, Err, String, string_bytes, IsTrue, is_some}
+use Rattle.std.specs.Prelude.{◌≡◌, ◌⊎◌, ℕ, List, Option, Some, None, Result, Ok, Err, String, string_bytes, IsTrue, is_some}
 use Rattle.std.specs.declared.alloc.Global.{Global}
 use Rattle.vet_base.specs.Outside.{HasRisen, Told}
 use Rattle.heard_files.specs.Outside.{Entry}
@@ -26,36 +26,37 @@ use Rattle.vetting_desk.specs.declared.finding.Found.TheVariants.{Said, ReadFaul
 use Rattle.app_folder.specs.declared.folder.Halt.{Halt}
 use Rattle.app_folder.specs.declared.folder.Halt.TheVariants as halts
 use Rattle.desk_words.specs.Words.{Words}
-use Rattle.vetting_desk.specs.Answer.{IsOutcomeOf, Answers, Alike, SaysClear, IsSafe, SaysFound, IsFullReport, IsFileOf}
+use Rattle.vetting_desk.specs.Answer.{ComesByRows, Answers, Alike, SaysClear, IsSafe, SaysFound, IsFullReport, IsFileOf}
 use Rattle.app_folder.specs.Due.{Due, NewFile, reported}
-use Rattle.vetting_desk.specs.Due.{SameButStories, certified, due_of, read_fault_text}
+use Rattle.app_stories.specs.Stories.{Story, Tells as TellsStories}
+use Rattle.vetting_desk.specs.Due.{SameButStories, certified, due_of, read_fault_text, storied_text}
 use Rattle.vetting_desk.specs.PartsDue.{digest_of, Rechecks, Retells}
 use Rattle.app_folder.specs.Outside.{Tells, TellsInput}
 use Rattle.app_folder.specs.Reading.{TellsRead, SameFiles}
 
 -- The text is the report of what the parts come to, which leaves out nothing that a run of their app does, unless it is too large.
-pub record ReportsAll (parts : Parts) (due : Due) : Type 0 where
+pub record ReportsAll (Comes : Parts → Outcome → Type 0) (parts : Parts) (due : Due) : Type 0 where
   pub outcome : Outcome
-  pub comes : IsOutcomeOf parts outcome
+  pub comes : Comes parts outcome
   pub status : due.status ≡ status_of outcome
   pub text : due.text ≡ report_text outcome
   pub tells : IsFollowed outcome → TellsOfApp parts outcome
 
 -- What is found of parts of which this is asked: what is due, and, where it is sure, that nothing else is; that clear is sound, and that
 -- flagged and undecided leave out nothing.
-pub record FindsOfParts (Sure : Type 0) (PartsDue : Parts → Due → Type 0) (parts : Parts) (due : Due) : Type 0 where
+pub record FindsOfParts (Sure : Type 0) (PartsDue : Parts → Due → Type 0) (Comes : Parts → Outcome → Type 0) (parts : Parts) (due : Due) : Type 0 where
   pub is : PartsDue parts due
   pub only : Sure → (other : Due) → PartsDue parts other → other ≡ due
   pub safe : due.status ≡ 0 → IsSafeApp parts
-  pub full : (due.status ≡ 1) ⊎ (due.status ≡ 2) → ReportsAll parts due
+  pub full : (due.status ≡ 1) ⊎ (due.status ≡ 2) → ReportsAll Comes parts due
 
--- the text begins with such a report
-pub record BeginsReportingAll (parts : Parts) (due : Due) : Type 0 where
+-- the same with the stories of the findings behind it
+pub record ReportsStories (parts : Parts) (due : Due) : Type 0 where
   pub outcome : Outcome
-  pub comes : IsOutcomeOf parts outcome
-  pub rest : List ℕ
+  pub stories : Option (List Story)
+  pub retells : TellsStories parts outcome stories
   pub status : due.status ≡ status_of outcome
-  pub text : due.text ≡ report_text outcome ++ rest
+  pub text : due.text ≡ storied_text outcome stories
   pub tells : IsFollowed outcome → TellsOfApp parts outcome
 
 -- What is found of parts of which stories are asked for: what is due, and that nothing else is but other stories; that clear is sound, and
@@ -64,7 +65,7 @@ pub record FindsStories (parts : Parts) (due : Due) : Type 0 where
   pub is : Retells parts due
   pub only : (other : Due) → Retells parts other → SameButStories due other
   pub safe : due.status ≡ 0 → IsSafeApp parts
-  pub full : (due.status ≡ 1) ⊎ (due.status ≡ 2) → BeginsReportingAll parts due
+  pub full : (due.status ≡ 1) ⊎ (due.status ≡ 2) → ReportsStories parts due
 
 -- the report, with the certificate of the table where there is one
 abbrev pub CertifiedAs : List ℕ → Parts → Outcome → Option (List Row) → Due → Type 0
@@ -97,7 +98,7 @@ IsFound words old new before after ho hn Memory = (new ≡ old) × (after ≡ be
 
 -- what is found of parts by the certificate in a file
 abbrev pub FindsByFile : List ℕ → Parts → Option Told → Option Told → ℕ → ℕ → Found → Type 0
-FindsByFile path parts old new before after (Said answer) = FindsOfParts (IsTrue (is_some old)) (Rechecks path old) parts (due_of answer) × (new ≡ old) × (after ≡ before)
+FindsByFile path parts old new before after (Said answer) = FindsOfParts (IsTrue (is_some old)) (Rechecks path old) ComesByRows parts (due_of answer) × (new ≡ old) × (after ≡ before)
 FindsByFile path parts old new before after (ReadFault name) = (string_bytes name ≡ path) × HasRisen before after × TellsRead new (string_bytes name) × SameFiles old new
 FindsByFile path parts old new before after Memory = (new ≡ old) × (after ≡ before)
 

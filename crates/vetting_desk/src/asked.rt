@@ -3,6 +3,8 @@
 ghost use Rattle.std.specs.Prelude.{◌≡◌, ℕ, List, IfOk, IfSome, string_bytes};
 ghost use Rattle.certificate.specs.Cert.{IsCert};
 ghost use Rattle.verdict.specs.Table.{IsTable};
+ghost use Rattle.verdict.specs.Verdict.{Verdict};
+ghost use Rattle.vetting_desk.specs.Answer.{ComesByRows};
 ghost use Rattle.vetting_desk.specs.Due.{due_of};
 ghost use Rattle.app_folder.specs.FolderDue.{Checks};
 ghost use Rattle.vetting_desk.specs.PartsDue.{Certifies, RechecksBy, digest_of, refusal_of, rechecked};
@@ -31,7 +33,7 @@ pub fn checked<T: Threads + Wait + Sync, L: Lookout>(
     parts: &Parts,
     crew: &Crew<'_, T, L>,
 ) -> Result<Answer, Memory>
-    ensures { IfOk result (λ a. FindsOfParts (Unit {0}) Checks parts.now (due_of a)) }
+    ensures { IfOk result (λ a. FindsOfParts (Unit {0}) Checks Verdict parts.now (due_of a)) }
 {
     let judged = judge(alloc, parts, crew)?;
     Ok(Answer::Vetted(judged.outcome))
@@ -106,7 +108,7 @@ pub fn certified<T: Threads + Wait + Sync, L: Lookout>(
     crew: &Crew<'_, T, L>,
 ) -> Result<Answer, Memory>
     requires { AreShort parts.now }
-    ensures { IfOk result (λ a. FindsOfParts (Unit {0}) (Certifies path.now) parts.now (due_of a)) }
+    ensures { IfOk result (λ a. FindsOfParts (Unit {0}) (Certifies path.now) Verdict parts.now (due_of a)) }
 {
     let judged = judge(alloc, parts, crew)?;
     let answer = with_certificate(alloc, parts, path, judged)?;
@@ -147,7 +149,7 @@ fn unreadable(stop: Stop<CertFault>) -> Result<Answer, Memory>
 fn rechecked_by(alloc: Global, parts: &Parts, cert: &Cert, seed: u64) -> Result<Answer, Memory>
     requires { AreShort parts.now }
     ensures { (bytes : List ℕ) → IsCert bytes cert.now.digest cert.now.rows
-        → IfOk result (λ a. FindsOfParts (Unit {0}) (RechecksBy bytes) parts.now (due_of a)) }
+        → IfOk result (λ a. FindsOfParts (Unit {0}) (RechecksBy bytes) ComesByRows parts.now (due_of a)) }
 {
     certificates_keep_their_laws();
     let digest = digest_of(parts);
@@ -161,7 +163,7 @@ fn rechecked_by(alloc: Global, parts: &Parts, cert: &Cert, seed: u64) -> Result<
 /// What parts come to by the certificate of these bytes.
 pub fn rechecked(alloc: Global, parts: &Parts, bytes: &[u8], seed: u64) -> Result<Answer, Memory>
     requires { AreShort parts.now }
-    ensures { IfOk result (λ a. FindsOfParts (Unit {0}) (RechecksBy bytes.now) parts.now (due_of a)) }
+    ensures { IfOk result (λ a. FindsOfParts (Unit {0}) (RechecksBy bytes.now) ComesByRows parts.now (due_of a)) }
 {
     certificates_keep_their_laws();
     match read_cert(alloc, bytes) {
