@@ -1,5 +1,5 @@
 -- A journal that was opened: what it keeps, what is told of it, and what a crash leaves meanwhile.
-use Rattle.std.proofs.Common.{◌≡◌, ◌<◌, ◌≤◌, inl, inr, ℕ, Bool, true, false, List, [], ◌∷◌, ◌++◌, length, take, drop, refl, sym, ◌∙◌, ap, subst, arith, Option, Some, None, Result, Ok, Err}
+use Rattle.std.proofs.Common.{◌≡◌, ◌⊎◌, ◌<◌, ◌≤◌, inl, inr, ℕ, Bool, true, false, List, [], ◌∷◌, ◌++◌, length, take, drop, refl, sym, ◌∙◌, ap, subst, arith, Option, Some, None, Result, Ok, Err}
 use Rattle.std.specs.Prelude.{IfSome, IfOk, OnErr}
 use Rattle.std.proofs.lemmas.List.{take_at, length-take-le}
 use Rattle.disks.specs.declared.disk.DiskFault.{DiskFault}
@@ -18,10 +18,11 @@ use Rattle.journal_reading.specs.declared.fault.OpenFault.TheVariants as faults
 use Rattle.journal_reading.specs.declared.opening.Opened.{Opened}
 use Rattle.journal_law.specs.Journal.{Holds, IsForeign}
 use Rattle.journal_reading.specs.Keeping.{Keeps, IsOpen, NoOther, MayBe, IsSafe, LeavesCases, StaysSafe, told_by}
-use Rattle.journal_reading.specs.Opening.{IsSettled, Answers, Replays}
+use Rattle.journal_reading.specs.Opening.{IsSettled, Answers, HoldsCases, IsNoJournal, LeavesAlone, Replays, Spares}
 use Rattle.journal_law.specs.Fronts.{IsFront, IsReadTo}
 use Rattle.journal_law.specs.Reading.{cases_in}
 use Rattle.journal_law.proofs.Fronts.{front_begins, front_holds}
+use Rattle.journal_law.proofs.OneReading.{have_one_reading}
 use Rattle.journal_reading.proofs.Leaving.{leaves_so, leaves_on, leaves_none, leaves_one, last_leaves}
 use Rattle.journal_law.proofs.Replayed.{read_holds, stops_bad}
 use Rattle.journal_law.proofs.TellsRight.{tells_the_cases}
@@ -315,3 +316,42 @@ known_so o known is begins = subst (λ b. IfSome o (λ t. IsKnown b t.now.bytes)
 pub end_so : (o : Option Told) (end len : ℕ) (cases : List Case) → IfSome o (IsSettled len) → IfSome o (IsRead end cases) → IfSome o (IsEnd end)
 end_so None end len cases is read = tt
 end_so (Some t) end len cases is read = read_end end cases t len is read
+
+-- Bytes that hold cases are a journal.
+no_journal : (t : Told) → HoldsCases t → IsNoJournal t → ⊥
+no_journal t holds (inl foreign) = have_one_reading.not_foreign t.now.bytes (cases_in t.now.bytes) holds foreign
+no_journal t holds (inr bad) = have_one_reading.not_bad t.now.bytes (cases_in t.now.bytes) bad.0 holds bad.1
+
+pub held_alone : (o a : Option Told) → IfSome o HoldsCases → LeavesAlone o a
+held_alone None a holds = tt
+held_alone (Some t) a holds = λ none. absurd (no_journal t holds none)
+
+pub held_spared : (o a : Option Told) → IfSome o HoldsCases → Spares o a
+held_spared None a holds = tt
+held_spared (Some t) a holds = λ none. absurd (no_journal t holds none)
+
+-- What only reads leaves bytes alone that are no journal.
+pub unchanged_alone : (o a : Option Told) → a ≡ o → LeavesAlone o a
+unchanged_alone None a same = tt
+unchanged_alone (Some t) a same = λ none. same
+
+pub unchanged_spared : (o a : Option Told) → a ≡ o → Spares o a
+unchanged_spared None a same = tt
+unchanged_spared (Some t) a same = λ none. inl same
+
+pub settled_failed_spared : (X : Type 0) (o a : Option Told) (fault : DiskFault) → Settles {X = X} o a (Err fault) → Spares o a
+settled_failed_spared X None a fault same = tt
+settled_failed_spared X (Some t) a fault same = λ none. same
+
+-- and so does a sync with what leaves them alone behind it
+pub then_spared : {X : Type 0} (x : X) (o a b : Option Told) → Settles o a (Ok x) → LeavesAlone a b → Spares o b
+then_spared x None a b same alone = tt
+then_spared x (Some t) a b same alone =
+    let on = subst (λ z. LeavesAlone z b) same alone in
+    λ none. inr (on none)
+
+-- At most nine bytes that were synced are a journal.
+pub short_spared : {X : Type 0} (x : X) (o a b : Option Told) → Settles o a (Ok x) → IfSome a IsShort → Spares o b
+short_spared x None a b same short = tt
+short_spared x (Some t) a b same short =
+    held_spared (Some t) b (few_answer (Some (settled t t.now.bytes)) (subst (λ z. IfSome z IsShort) same short))

@@ -1,9 +1,10 @@
 -- How a journal is opened: what is made of its records, what is answered, and what is then kept.
-use Rattle.std.specs.Prelude.{◌≡◌, ◌≤◌, ℕ, List, length, drop, Option, Some, None, Result, Ok, Err}
+use Rattle.std.specs.Prelude.{◌≡◌, ◌⊎◌, ◌≤◌, ℕ, List, length, drop, Option, Some, None, Result, Ok, Err}
 use Rattle.vet_base.specs.Script.{run}
 use Rattle.vet_base.specs.Outside.{HasRisen}
 use Rattle.disks.specs.Disks.{Told, solid}
 use Rattle.gated_log.specs.Format.{NoRecord}
+use Rattle.gated_log.specs.Calls.{settled}
 use Rattle.case_rules.specs.declared.case.Case.{Case}
 use Rattle.case_rules.specs.declared.reply.Change.{Change}
 use Rattle.case_rules.specs.Cases.{after}
@@ -65,3 +66,21 @@ OpenCause before now (Err Memory) = now ≡ before
 pub record IsSettled (len : ℕ) (t : Told) : Type 0 where
   pub solid : t.now ≡ solid t.now.bytes
   pub long : length t.now.bytes ≡ len
+
+-- The bytes hold cases: those that are told of them.
+abbrev pub HoldsCases : Told → Type 0
+HoldsCases t = Holds t.now.bytes (cases_in t.now.bytes)
+
+-- The bytes are no journal: they are foreign, or bad at some offset.
+abbrev pub IsNoJournal : Told → Type 0
+IsNoJournal t = IsForeign t.now.bytes ⊎ ((at : ℕ) × IsBad t.now.bytes at)
+
+-- Where the bytes are no journal the disk is as it was.
+abbrev pub LeavesAlone : Option Told → Option Told → Type 0
+LeavesAlone None new = Unit {0}
+LeavesAlone (Some t) new = IsNoJournal t → new ≡ Some t
+
+-- Where the bytes are no journal nothing but a sync came, whatever was answered: they are as they were.
+abbrev pub Spares : Option Told → Option Told → Type 0
+Spares None new = Unit {0}
+Spares (Some t) new = IsNoJournal t → (new ≡ Some t) ⊎ (new ≡ Some (settled t t.now.bytes))

@@ -1,7 +1,7 @@
 //! How a journal is opened: its disk is synced, its records are read, and its end is made one closed gate.
 ghost use Rattle.std.specs.Prelude.{◌≡◌, ◌<◌, Some, None, [], IfOk, IfSome, OnErr};
 ghost use Rattle.gated_log.specs.Ends.{IsShort};
-ghost use Rattle.journal_reading.specs.Opening.{Answers, OpenCause, IsSettled};
+ghost use Rattle.journal_reading.specs.Opening.{Answers, LeavesAlone, OpenCause, IsSettled, Spares};
 ghost use Rattle.journal_reading.specs.Keeping.{IsOpen, NoOther, LeavesCases, StaysSafe, told_by};
 
 use crate::OpenFault;
@@ -48,6 +48,7 @@ fn read_in<D: Disk>(alloc: Global, disk: &mut D, len: u64) -> Result<Opened, Ope
     ensures as_before { OnErr result (told_by None (D.told disk.new) ≡ told_by None (D.told disk.old)) }
     ensures any_moment { LeavesCases NoOther None (D.told disk.old) (D.told disk.new) }
     ensures safe { OnErr result (StaysSafe None None (D.told disk.old) (D.told disk.new)) }
+    ensures alone { LeavesAlone (D.told disk.old) (D.told disk.new) }
     ensures cause { OpenCause (D.fault_count disk.old) (D.fault_count disk.new) result }
 {
     let known = begins_as_log(alloc, disk)?;
@@ -65,7 +66,7 @@ fn read_in<D: Disk>(alloc: Global, disk: &mut D, len: u64) -> Result<Opened, Ope
     })
 }
 
-/// Opens the journal of a disk. After a fault its cases are as before.
+/// Opens the journal of a disk. After a fault its cases are as before, and bytes that are no journal are left alone.
 pub fn opened_journal<D: Disk>(alloc: Global, disk: &mut D) -> Result<Opened, OpenFault>
     ensures answer { IfSome (D.told disk.old) (λ t. Answers t.now.bytes result) }
     ensures kept { IfOk result (IsOpen (D.told disk.new)) }
@@ -74,6 +75,7 @@ pub fn opened_journal<D: Disk>(alloc: Global, disk: &mut D) -> Result<Opened, Op
     ensures as_before { OnErr result (told_by None (D.told disk.new) ≡ told_by None (D.told disk.old)) }
     ensures any_moment { LeavesCases NoOther None (D.told disk.old) (D.told disk.new) }
     ensures safe { OnErr result (StaysSafe None None (D.told disk.old) (D.told disk.new)) }
+    ensures spares { Spares (D.told disk.old) (D.told disk.new) }
     ensures cause { OpenCause (D.fault_count disk.old) (D.fault_count disk.new) result }
 {
     let len = settled_length(disk)?;

@@ -86,3 +86,22 @@ pub read_in-requires-clause-settled : goal.read_in-requires-clause-settled
 read_in-requires-clause-settled g c =
     let told = g.D.Disk.told in
     opened.then_settled c.in_ok-len.len (told c.args.disk.now) (told c.settled_length.new.disk) c.in_ok-len.len c.in_ok-len.ensures.settles c.in_ok-len.ensures.length
+
+pub returns-in_err-len-clause-spares : goal.returns-in_err-len-clause-spares
+returns-in_err-len-clause-spares g c =
+    let told = g.D.Disk.told in
+    opened.settled_failed_spared ℕ (told c.args.disk.now) (told c.settled_length.new.disk) _ c.in_err-len.ensures.settles
+
+pub returns-then-len-le9-clause-spares : goal.returns-then-len-le9-clause-spares
+returns-then-len-le9-clause-spares g c =
+    let told = g.D.Disk.told in
+    let o = told c.args.disk.now in
+    let a = told c.settled_length.new.disk in
+    let len = c.in_ok-len.len in
+    let short = opened.settled_short a len c.if-len-le9.true (opened.then_settled len o a len c.in_ok-len.ensures.settles c.in_ok-len.ensures.length) in
+    opened.short_spared len o a (told c.begin.new.disk) c.in_ok-len.ensures.settles short
+
+pub returns-clause-spares : goal.returns-clause-spares
+returns-clause-spares g c =
+    let told = g.D.Disk.told in
+    opened.then_spared c.in_ok-len.len (told c.args.disk.now) (told c.settled_length.new.disk) (told c.read_in.new.disk) c.in_ok-len.ensures.settles c.read_in.ensures.alone

@@ -256,3 +256,41 @@ returns-clause-any_moment g c =
     let read = subst (λ z. IfSome z (opened.IsRead end cases)) c.in_ok-known.ensures.told c.in_ok-replayed.ensures.replays in
     let run = subst (λ z. LeavesFront end z a) same c.in_ok-log.ensures.any_moment in
     opened.closed_moments end cases o a read run
+
+pub returns-in_err-known-clause-alone : goal.returns-in_err-known-clause-alone
+returns-in_err-known-clause-alone g c =
+    let told = g.D.Disk.told in
+    opened.unchanged_alone (told c.args.disk.now) (told c.begins_as_log.new.disk) (c.in_err-known.ensures.told)
+
+pub returns-then-not-known-clause-alone : goal.returns-then-not-known-clause-alone
+returns-then-not-known-clause-alone g c =
+    let told = g.D.Disk.told in
+    opened.unchanged_alone (told c.args.disk.now) (told c.begins_as_log.new.disk) (c.in_ok-known.ensures.told)
+
+pub returns-in_err-replayed-clause-alone : goal.returns-in_err-replayed-clause-alone
+returns-in_err-replayed-clause-alone g c =
+    let told = g.D.Disk.told in
+    opened.unchanged_alone (told c.args.disk.now) (told c.replay.new.disk) (c.in_err-replayed.ensures.told ∙ c.in_ok-known.ensures.told)
+
+pub returns-then-replayed-clause-alone : goal.returns-then-replayed-clause-alone
+returns-then-replayed-clause-alone g c =
+    let told = g.D.Disk.told in
+    opened.unchanged_alone (told c.args.disk.now) (told c.replay.new.disk) (c.in_ok-replayed.ensures.told ∙ c.in_ok-known.ensures.told)
+
+pub returns-in_err-log-clause-alone : goal.returns-in_err-log-clause-alone
+returns-in_err-log-clause-alone g c =
+    let told = g.D.Disk.told in
+    let o = told c.args.disk.now in
+    let end = c.in_ok-replayed.replayed.end in
+    let cases = c.in_ok-replayed.replayed.held.cases in
+    let read = subst (λ z. IfSome z (opened.IsRead end cases)) c.in_ok-known.ensures.told c.in_ok-replayed.ensures.replays in
+    opened.held_alone o (told c.closed_log.new.disk) (opened.closed_answer end cases o read)
+
+pub returns-clause-alone : goal.returns-clause-alone
+returns-clause-alone g c =
+    let told = g.D.Disk.told in
+    let o = told c.args.disk.now in
+    let end = c.in_ok-replayed.replayed.end in
+    let cases = c.in_ok-replayed.replayed.held.cases in
+    let read = subst (λ z. IfSome z (opened.IsRead end cases)) c.in_ok-known.ensures.told c.in_ok-replayed.ensures.replays in
+    opened.held_alone o (told c.closed_log.new.disk) (opened.closed_answer end cases o read)
