@@ -1,14 +1,14 @@
 #!/usr/bin/env python3
-"""The desk under load: 10,000 requests one after the other, 200 connections that say nothing, 1,000 that break off, 100 that
-announce the greatest body and send ten bytes of it, and one that sends a byte every five seconds.
+"""The desk under load: 10,000 requests one after the other, 200 connections that say nothing, sixteen that stay
+silent beside an honest one, 1,000 that break off, 100 that announce the greatest body and send ten bytes of it,
+sixteen that announce a body and stop, 200 that never read their reply, and one that sends a byte every five seconds.
 
 usage: bench/serve_load.py PROGRAM [REQUESTS [SILENT [BROKEN]]]
 
-PROGRAM is the built program, as crates/vet/out/vet. The desk is started in a copy of examples/office on a free port. Each
-whole request has to be answered, those that come behind silent and broken connections too. A silent connection holds the
-desk for 10 seconds, so the silent ones are closed by their peers once a hundred stand in the queue; one more stays silent
-until the desk gives it up. Printed are requests per second, beside those of `python3 -m http.server` on this machine, and the
-desk's memory before and after.
+PROGRAM is the built program, as crates/vet/out/vet. The desk is started in a copy of examples/office on a free port.
+Each whole request has to be answered, those that come behind silent and broken connections too, and beside sixteen
+that are silent or slow within 100 milliseconds. Printed are requests per second, beside those of `python3 -m
+http.server` on this machine, how long an honest peer waited at most, and the desk's memory before and after.
 """
 
 import json
@@ -101,6 +101,41 @@ def dripped(s):
         pass
 
 
+def is_closed(s):
+    """Whether the desk closed the connection, of which it sends nothing before."""
+    s.setblocking(False)
+    try:
+        return s.recv(1) == b""
+    except BlockingIOError:
+        return False
+    except OSError:
+        return True
+
+
+def waited(desk, request):
+    """After how many milliseconds a request is answered."""
+    begin = time.monotonic()
+    assert status(desk.exchanged(request)) == 200
+    return (time.monotonic() - begin) * 1000
+
+
+def beside_others(desk, request, sent, seconds, count=16):
+    """How long the requests of an honest peer wait at most, while others have sent this and do no more."""
+    others = []
+    for _ in range(count):
+        desk.take()
+        others.append(connected(desk.port))
+        others[-1].sendall(sent)
+    end = time.monotonic() + seconds
+    longest = 0
+    while time.monotonic() < end:
+        longest = max(longest, waited(desk, request))
+        time.sleep(0.02)
+    for s in others:
+        s.close()
+    return longest
+
+
 def rate(count, once):
     begin = time.monotonic()
     for _ in range(count):
@@ -186,19 +221,25 @@ def main():
                 s.close()
         assert status(desk.exchanged(listed)) == 200
         print(f"{silent} that said nothing: the next request was answered after {time.monotonic() - begin:.1f} s")
-        desk.take()
-        with connected(desk.port):
-            begin = time.monotonic()
-            assert status(desk.exchanged(listed)) == 200
-            print(f"one that stayed: the next request was answered after {time.monotonic() - begin:.1f} s")
+        longest = beside_others(desk, listed, b"", 12)
+        print(f"sixteen silent ones, until they were given up: an honest one was answered within {longest:.0f} ms")
+        assert longest < 100, longest
+        longest = beside_others(desk, listed, announced, 12)
+        print(f"sixteen that announced a body and stopped: an honest one was answered within {longest:.0f} ms")
+        assert longest < 100, longest
+        longest = beside_others(desk, listed, listed, 2, 200)
+        print(f"200 that never read their reply: an honest one was answered within {longest:.0f} ms")
         desk.take()
         with connected(desk.port) as slow:
             threading.Thread(target=dripped, args=(slow,), daemon=True).start()
             begin = time.monotonic()
-            assert status(desk.exchanged(listed)) == 200
-            waited = time.monotonic() - begin
-            assert 115 < waited < 135, waited
-            print(f"one that sent a byte every 5 s: the next request was answered after {waited:.1f} s")
+            longest = 0
+            while not is_closed(slow):
+                longest = max(longest, waited(desk, listed))
+                time.sleep(0.5)
+            held = time.monotonic() - begin
+            assert 115 < held < 135, held
+            print(f"one that sent a byte every 5 s for {held:.1f} s: an honest one was answered within {longest:.0f} ms")
         after = memory(desk.process)
         print(f"memory in KB before {before[0]} (at most {before[1]}), after {after[0]} (at most {after[1]})")
         desk.end()

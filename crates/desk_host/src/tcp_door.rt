@@ -2,33 +2,30 @@ ghost use Rattle.std.specs.Prelude.{◌≡◌, None, IfOk};
 ghost use Rattle.std.specs.Io.{ReadsAtMost};
 ghost use Rattle.desk_links.specs.Links.{IsFront};
 
+use crate::present::Present;
+use crate::queue::Queue;
 use desk_links::{Door, DoorFault, Link, LinkFault};
 use std::alloc::Global;
 use std::io;
-use std::io::{ErrorKind, Read, Write};
-use std::net::{Ipv4Addr, Net, OpenListener, OpenStream, Shutdown, SocketAddr};
-use std::time::{Clock, Duration};
+use std::io::ErrorKind;
+use std::net::{Ipv4Addr, Net, SocketAddr};
+use std::time::Clock;
 
-/// The longest that one read or write waits, in seconds.
-const CALL_LIMIT: u64 = 10;
-
-/// The longest that all reads and writes of one connection wait together, in seconds.
-const CONNECTION_LIMIT: u64 = 120;
-
-/// The longest that a read waits for what a peer still sends once the reply was written, in milliseconds.
-const LINGER: u64 = 200;
-
-/// A door on a port of 127.0.0.1, bound when the first connection is asked for. A read or a write that waits for more
-/// than 10 seconds fails, and so does each once those of its connection waited for 120 seconds together. Before a
-/// connection is closed what its peer still sends is waited for, 12.8 seconds at most. So a peer that is slow or silent
-/// costs 132.8 seconds at most, and its own connection alone. The time that the desk takes to answer does not count.
+/// A door on a port of 127.0.0.1, bound when the first connection is asked for. It takes up to 256 connections and
+/// hands each out once: first those whose request seems whole, then those that ended, then those whose peer said
+/// nothing for 10 seconds or was waited for for 120 seconds together, in the order in which they came. So a peer that
+/// is slow or silent costs its own connection alone. What came of a connection is held: 65,536 bytes each, and of one
+/// at a time as much as the desk takes. A failed accept is tried again, for 10 seconds.
+///
+/// Once a connection is handed out, a read or a write that waits for more than 10 seconds fails, and so does each once
+/// its peer was waited for for 120 seconds together. The time that the desk takes to answer does not count. What a peer
+/// sends behind its reply is taken beside the others, 12.8 seconds at most.
 #[derive(Drop)]
 pub struct TcpDoor<R: Net + Clock + Drop> {
     rt: R,
     listener: Option<R::Listener>,
-    stream: Option<R::Stream>,
-    /// For how long the present connection may wait still.
-    left: Duration,
+    queue: Option<Queue<R::Stream>>,
+    present: Option<Present<R::Stream>>,
     faults: u64,
 }
 
@@ -40,8 +37,8 @@ impl<R: Net + Clock + Drop> TcpDoor<R> {
         TcpDoor {
             rt,
             listener: None,
-            stream: None,
-            left: Duration::ZERO,
+            queue: None,
+            present: None,
             faults: 0,
         }
     }
@@ -53,44 +50,10 @@ impl<R: Net + Clock + Drop> TcpDoor<R> {
         TcpDoor {
             rt,
             listener: Some(listener),
-            stream: None,
-            left: Duration::ZERO,
+            queue: None,
+            present: None,
             faults: 0,
         }
-    }
-}
-
-/// For how long the next call may wait, where the connection may wait so long still.
-fn wait_of(left: Duration) -> io::Result<Duration> {
-    if left.is_zero() {
-        return Err(io::Error::from(ErrorKind::TimedOut));
-    }
-    Ok(left.min(Duration::from_secs(CALL_LIMIT)))
-}
-
-fn read_of<S: Read + OpenStream>(
-    stream: &mut S,
-    wait: Duration,
-    room: &mut [u8],
-) -> io::Result<usize>
-    ensures { ReadsAtMost result room.new }
-{
-    stream.set_read_timeout(Some(wait))?;
-    stream.read(room)
-}
-
-/// Writes some of the bytes, one at least where there are some.
-fn write_of<S: Write + OpenStream>(
-    stream: &mut S,
-    wait: Duration,
-    bytes: &[u8],
-) -> io::Result<usize>
-    ensures { IfOk result (λ n. IsFront n bytes.now) }
-{
-    stream.set_write_timeout(Some(wait))?;
-    match stream.write(bytes)? {
-        0 if !bytes.is_empty() => Err(io::Error::from(ErrorKind::WriteZero)),
-        count => Ok(count),
     }
 }
 
@@ -98,95 +61,69 @@ fn no_connection() -> io::Error {
     io::Error::from(ErrorKind::NotConnected)
 }
 
-/// Tells the peer that no more comes, and takes a little of what it still sends, so that the reply is not lost to it.
-fn end<S: Read + OpenStream>(stream: &mut S) -> io::Result<()> {
-    stream.shutdown(Shutdown::Write)?;
-    stream.set_read_timeout(Some(Duration::from_millis(LINGER)))?;
-    let mut room = [0; 4096];
-    for _ in 0..64 {
-        if stream.read(&mut room)? == 0 {
-            return Ok(());
-        }
-    }
-    Ok(())
-}
-
 impl<R: Net + Clock + Drop> TcpDoor<R> {
-    /// Counts the time since then as waiting.
-    fn waited(&mut self, since: Duration) -> io::Result<()>
-        ensures count_stays { self.new.faults ≡ self.old.faults }
-    {
-        let now = self.rt.monotonic()?;
-        self.left = self.left.saturating_sub(now.saturating_sub(since));
-        Ok(())
-    }
-
     fn read_within(&mut self, room: &mut [u8]) -> io::Result<usize>
         ensures count_stays { self.new.faults ≡ self.old.faults }
         ensures within { ReadsAtMost result room.new }
     {
-        let wait = wait_of(self.left)?;
-        let since = self.rt.monotonic()?;
-        let Some(stream) = &mut self.stream else {
-            return Err(no_connection());
-        };
-        let count = read_of(stream, wait, room)?;
-        self.waited(since)?;
-        Ok(count)
+        match &mut self.present {
+            Some(present) => present.read(&self.rt, room),
+            None => Err(no_connection()),
+        }
     }
 
     fn write_within(&mut self, bytes: &[u8]) -> io::Result<usize>
         ensures count_stays { self.new.faults ≡ self.old.faults }
         ensures front { IfOk result (λ n. IsFront n bytes.now) }
     {
-        let wait = wait_of(self.left)?;
-        let since = self.rt.monotonic()?;
-        let Some(stream) = &mut self.stream else {
-            return Err(no_connection());
-        };
-        let count = write_of(stream, wait, bytes)?;
-        self.waited(since)?;
-        Ok(count)
+        match &mut self.present {
+            Some(present) => present.write(&self.rt, bytes),
+            None => Err(no_connection()),
+        }
     }
 
     /// Ends the present connection, whose peer may be gone.
     fn close(&mut self)
         ensures count_stays { self.new.faults ≡ self.old.faults }
     {
-        if let Some(stream) = &mut self.stream {
-            let _ = end(stream);
+        if let Some(present) = self.present.take() {
+            if let Some(queue) = &mut self.queue {
+                present.end(queue);
+            }
         }
-        self.stream = None;
     }
 
-    fn bound(&mut self, port: u16) -> io::Result<()>
+    fn bound(&mut self, alloc: Global, port: u16) -> io::Result<()>
         ensures count_stays { self.new.faults ≡ self.old.faults }
     {
         if self.listener.is_none() {
             let address = SocketAddr::from((Ipv4Addr::LOCALHOST, port));
             self.listener = Some(self.rt.bind(address)?);
         }
+        if self.queue.is_none() {
+            self.queue = Some(Queue::new(alloc)?);
+        }
         Ok(())
     }
 
-    fn accepted(&mut self) -> io::Result<()>
+    /// Hands out the next connection.
+    fn handed_out(&mut self, alloc: Global) -> io::Result<()>
         ensures count_stays { self.new.faults ≡ self.old.faults }
     {
-        let Some(listener) = &self.listener else {
+        let (Some(listener), Some(queue)) = (&self.listener, &mut self.queue) else {
             return Err(no_connection());
         };
-        let (stream, _) = listener.accept()?;
-        self.left = Duration::from_secs(CONNECTION_LIMIT);
-        self.stream = Some(stream);
+        let held = queue.next(alloc, &self.rt, listener)?;
+        self.present = Some(Present::new(held));
         Ok(())
     }
 
-    fn open(&mut self, port: u16) -> io::Result<()>
+    fn open(&mut self, alloc: Global, port: u16) -> io::Result<()>
         ensures count_stays { self.new.faults ≡ self.old.faults }
     {
         self.close();
-        self.bound(port)?;
-        self.accepted()
+        self.bound(alloc, port)?;
+        self.handed_out(alloc)
     }
 }
 
@@ -221,8 +158,8 @@ impl<R: Net + Clock + Drop> Link for TcpDoor<R> {
 }
 
 impl<R: Net + Clock + Drop> Door for TcpDoor<R> {
-    fn next(&mut self, _alloc: Global, port: u16) -> Result<bool, DoorFault> {
-        match self.open(port) {
+    fn next(&mut self, alloc: Global, port: u16) -> Result<bool, DoorFault> {
+        match self.open(alloc, port) {
             Ok(()) => Ok(true),
             Err(e) => match e.kind() {
                 ErrorKind::OutOfMemory => Err(DoorFault::Memory),

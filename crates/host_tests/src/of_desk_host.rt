@@ -65,6 +65,30 @@ fn a_door_takes_a_connection(rt: HostRuntime) -> Result<(), Fail> {
     Ok(())
 }
 
+/// Sixteen peers that say nothing.
+fn silent_peers(rt: HostRuntime, address: SocketAddr) -> io::Result<Vec<TcpStream>> {
+    let mut peers = Vec::new(rt.alloc());
+    for _ in 0..16 {
+        peers.push(TcpStream::connect(&rt, address)?)?;
+    }
+    Ok(peers)
+}
+
+/// The conversation with a peer that comes behind silent ones.
+fn conversation_behind(rt: HostRuntime) -> Result<Conversation, Fail> {
+    let (mut door, address) = listening(rt)?;
+    let _silent = silent_peers(rt, address)?;
+    let mut peer = TcpStream::connect(&rt, address)?;
+    converse(rt, &mut door, &mut peer)
+}
+
+#[test]
+fn a_peer_that_asks_comes_before_silent_ones(rt: HostRuntime) -> Result<(), Fail> {
+    let talk = ([3, 0], *b"ask", 4);
+    assert_eq!(rt; conversation_behind(rt)?, (true, talk, *b"told", 0));
+    Ok(())
+}
+
 /// Whether a read and a write without a connection fail, and how often the door failed then.
 fn failures<D: Door>(door: &mut D) -> (bool, bool, u64) {
     let mut room = [0; 8];
