@@ -2,8 +2,30 @@ ghost use Rattle.case_rules.specs.Docket.{IsDocket};
 
 use case_keeper::MemKeeper;
 use case_lines::reply_to;
+use std::alloc::{AllocError, Global};
 use std::io;
 use std::time::Instant;
+
+/// The line with the number of a hundred in the place of `@`.
+fn in_hundred(alloc: Global, line: &str, hundred: u32) -> Result<String, AllocError> {
+    let number = hundred.to_string(alloc)?;
+    line.replace(alloc, "@", number.as_str())
+}
+
+/// The line with the number of a turn in the place of `%`, and that of its hundred in the place of `@`.
+fn in_turn(alloc: Global, line: &str, turn: u32) -> Result<String, AllocError> {
+    let number = turn.to_string(alloc)?;
+    let line = line.replace(alloc, "%", number.as_str())?;
+    in_hundred(alloc, line.as_str(), turn / 100)
+}
+
+/// Whether there is a reply to a line.
+fn is_replied(alloc: Global, keeper: &mut MemKeeper, line: &str) -> bool
+    requires { IsDocket keeper.old.cases }
+    ensures { IsDocket keeper.new.cases }
+{
+    reply_to(alloc, keeper, line).is_ok()
+}
 
 /// Puts a line as often as said, and says how often there was a reply; `%` in the line is the number of the turn and
 /// `@` that of its hundred.
@@ -13,11 +35,8 @@ fn replied(rt: &HostRuntime, keeper: &mut MemKeeper, turns: u32, line: &str) -> 
 {
     let mut replied = 0u32;
     for turn in 0..turns {
-        let number = turn.to_string(rt.alloc())?;
-        let hundred = (turn / 100).to_string(rt.alloc())?;
-        let line = line.replace(rt.alloc(), "%", number.as_str())?;
-        let line = line.as_str().replace(rt.alloc(), "@", hundred.as_str())?;
-        if reply_to(rt.alloc(), keeper, line.as_str()).is_ok() {
+        let line = in_turn(rt.alloc(), line, turn)?;
+        if is_replied(rt.alloc(), keeper, line.as_str()) {
             replied = replied.saturating_add(1);
         }
     }

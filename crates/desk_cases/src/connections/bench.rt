@@ -75,11 +75,16 @@ fn store(alloc: Global, call: Option<u64>) -> Result<Store, AllocError> {
     Ok(Store::failing(alloc, calls))
 }
 
-/// A bench on day 100 under the edition 1, with a store that fails at this call.
-pub fn new_bench(alloc: Global, call: Option<u64>) -> Result<Bench, AllocError> {
-    Ok(Bench {
-        desk: desk(alloc, 1).map_err(want)?,
-        store: store(alloc, call)?,
+/// The desk of this edition.
+fn desk_of(alloc: Global, edition: u8) -> Result<Desk<FirstByte>, AllocError> {
+    desk(alloc, edition).map_err(want)
+}
+
+/// A bench of a desk and its store on day 100.
+fn bench_of(alloc: Global, desk: Desk<FirstByte>, store: Store, call: Option<u64>) -> Bench {
+    Bench {
+        desk,
+        store,
         call,
         day: 100,
         outside: plain_links(alloc),
@@ -91,7 +96,14 @@ pub fn new_bench(alloc: Global, call: Option<u64>) -> Result<Bench, AllocError> 
         looked_at: 0,
         store_failed: Vec::new(alloc),
         due: 0,
-    })
+    }
+}
+
+/// A bench on day 100 under the edition 1, with a store that fails at this call.
+pub fn new_bench(alloc: Global, call: Option<u64>) -> Result<Bench, AllocError> {
+    let store = store(alloc, call)?;
+    let desk = desk_of(alloc, 1)?;
+    Ok(bench_of(alloc, desk, store, call))
 }
 
 /// The numbers in a text.
@@ -166,7 +178,7 @@ fn set_store(alloc: Global, bench: &mut Bench, calls: &str) -> Result<(), AllocE
 /// Takes a line that says what the desk and its door are, and gives whether it is one.
 fn set_desk(alloc: Global, bench: &mut Bench, line: &str) -> Result<bool, AllocError> {
     if let Some(edition) = line.strip_prefix("edition ") {
-        bench.desk = desk(alloc, edition.parse::<u8>().unwrap_or(0)).map_err(want)?;
+        bench.desk = desk_of(alloc, edition.parse::<u8>().unwrap_or(0))?;
     } else if let Some(most) = line.strip_prefix("door ") {
         open_door(alloc, bench, most);
     } else if let Some(reply) = line.strip_prefix("store failed ") {
@@ -201,23 +213,34 @@ fn come(alloc: Global, bench: &mut Bench, way: Way, text: &str) -> Result<(), Al
     Ok(())
 }
 
+/// How the bytes come where a line begins with `> `, after a line with bytes that came so.
+fn next_way(way: Way) -> Way {
+    match way {
+        Way::Door => Way::Door,
+        _ => Way::Once,
+    }
+}
+
+/// How the bytes of a line come, and their text; nothing of a line that says something else.
+fn way_and_text(way: Way, line: &str) -> Option<(Way, &str)> {
+    if let Some(text) = line.strip_prefix("> ") {
+        Some((next_way(way), text))
+    } else if let Some(text) = line.strip_prefix("each front of ") {
+        Some((Way::EachFront, text))
+    } else if let Some(text) = line.strip_prefix("each room of ") {
+        Some((Way::EachRoom, text))
+    } else if let Some(text) = line.strip_prefix("each call of ") {
+        Some((Way::EachCall, text))
+    } else {
+        None
+    }
+}
+
 /// Takes a line that says what comes, and gives whether it is one.
 pub fn ask(alloc: Global, bench: &mut Bench, line: &str) -> Result<bool, AllocError> {
-    if let Some(text) = line.strip_prefix("> ") {
-        let way = if bench.way == Way::Door {
-            Way::Door
-        } else {
-            Way::Once
-        };
-        come(alloc, bench, way, text)?;
-    } else if let Some(text) = line.strip_prefix("each front of ") {
-        come(alloc, bench, Way::EachFront, text)?;
-    } else if let Some(text) = line.strip_prefix("each room of ") {
-        come(alloc, bench, Way::EachRoom, text)?;
-    } else if let Some(text) = line.strip_prefix("each call of ") {
-        come(alloc, bench, Way::EachCall, text)?;
-    } else {
+    let Some((way, text)) = way_and_text(bench.way, line) else {
         return Ok(false);
-    }
+    };
+    come(alloc, bench, way, text)?;
     Ok(true)
 }

@@ -4,6 +4,13 @@ use serving_lines::{bytes_of, shown};
 use std::alloc::{AllocError, Global};
 use std::io;
 
+/// Prints what was found in place of what is due, with the title of its case.
+fn say<R: Print + AllocGlobal>(rt: &R, title: &str, found: &[u8], due: &[u8]) -> io::Result<()> {
+    let found = shown(rt.alloc(), found)?;
+    let due = shown(rt.alloc(), due)?;
+    println!(rt; "{title}: {found} in place of {due}")
+}
+
 /// Counts what is due; what is not is printed with the title of its case.
 fn count<R: Print + AllocGlobal>(
     rt: &R,
@@ -15,10 +22,7 @@ fn count<R: Print + AllocGlobal>(
         bench.due = bench.due.saturating_add(1);
         return Ok(());
     }
-    let title = bench.title.as_str();
-    let found = shown(rt.alloc(), found)?;
-    let due = shown(rt.alloc(), due)?;
-    println!(rt; "{title}: {found} in place of {due}")
+    say(rt, bench.title.as_str(), found, due)
 }
 
 /// The bytes that come on the one connection.

@@ -45,6 +45,16 @@ fn reply_of(alloc: Global, said: Served, written: &[u8]) -> Result<Vec<u8>, Allo
     }
 }
 
+/// What is found on a link.
+fn found_on(alloc: Global, bench: &mut Bench, link: &mut MemLink) -> Result<Found, AllocError> {
+    let said = bench.store.serve(alloc, &bench.desk, link, bench.day);
+    let reply = reply_of(alloc, said, link.written())?;
+    Ok(Found {
+        reply,
+        failed: link.faults() > 0,
+    })
+}
+
 /// What is found where these bytes come on a link that takes so much and fails at these calls.
 pub fn found_with(
     alloc: Global,
@@ -56,11 +66,7 @@ pub fn found_with(
     let input = input.to_vec(alloc)?;
     let pieces = bench.outside.pieces.to_vec(alloc)?;
     let mut link = MemLink::new(alloc, input, pieces, room, failing).map_err(want)?;
-    let said = bench.store.serve(alloc, &bench.desk, &mut link, bench.day);
-    Ok(Found {
-        reply: reply_of(alloc, said, link.written())?,
-        failed: link.faults() > 0,
-    })
+    found_on(alloc, bench, &mut link)
 }
 
 /// What is replied where these bytes come on a link as the lines say.

@@ -2,11 +2,11 @@
 
 ghost use Rattle.desk_serving.specs.Obeying.{TellsDocket};
 
-use crate::databases::store::{Calls, Filed, reopened};
+use crate::databases::keepers::FileKeeper;
+use crate::databases::store::Calls;
 use crate::databases::telling::{asked, told};
 use case_keeper::{Keeper, MemKeeper};
 use case_lines::reply_to;
-use sqlite_keeper::OpenKeeper;
 use std::alloc::Global;
 use std::io;
 
@@ -20,6 +20,14 @@ pub struct Run<'a> {
     pub questions: &'a str,
 }
 
+/// Whether a command is told as done.
+fn is_done<K: Keeper>(alloc: Global, keeper: &mut K, command: &str) -> bool
+    requires { TellsDocket (K.told keeper.old) }
+    ensures { TellsDocket (K.told keeper.new) }
+{
+    reply_to(alloc, keeper, asked(command)).is_ok()
+}
+
 /// How many of the commands, and at most so many, are told as done up to the first that is not.
 fn done_of<K: Keeper>(alloc: Global, keeper: &mut K, commands: &str, most: usize) -> usize
     requires { TellsDocket (K.told keeper.old) }
@@ -27,7 +35,7 @@ fn done_of<K: Keeper>(alloc: Global, keeper: &mut K, commands: &str, most: usize
 {
     let mut done = 0usize;
     for command in commands.lines() {
-        if done >= most || reply_to(alloc, keeper, asked(command)).is_err() {
+        if done >= most || !is_done(alloc, keeper, command) {
             break;
         }
         done = done.saturating_add(1);
@@ -35,61 +43,108 @@ fn done_of<K: Keeper>(alloc: Global, keeper: &mut K, commands: &str, most: usize
     done
 }
 
-/// What a database tells whose files stop, once they have come back, and how many of the commands were told as done.
-/// Nothing where the files stop before the statements have run.
-fn told_after<S: Filed>(
+/// What a keeper tells once its files have come back.
+fn told_back<K: FileKeeper>(alloc: Global, keeper: K, questions: &str) -> io::Result<String> {
+    let mut keeper = keeper.reopened(alloc, true)?;
+    told(alloc, &mut keeper, questions)
+}
+
+/// Whether a keeper tells this once it was given as many of the commands, behind those that make in memory what the
+/// statements make.
+fn tells_after<K: Keeper>(
     alloc: Global,
+    keeper: &mut K,
     run: Run<'_>,
-    calls: Calls,
-) -> io::Result<Option<(String, usize)>> {
-    let mut connection = S::blank(alloc, calls)?;
-    if connection.execute_batch(run.statements).is_err() {
-        return Ok(None);
-    }
-    let mut keeper = OpenKeeper::adopt(connection);
-    let done = done_of(alloc, &mut keeper, run.commands, usize::MAX);
-    let mut keeper = reopened(alloc, keeper, true)?;
-    let found = told(alloc, &mut keeper, run.questions)?;
-    Ok(Some((found, done)))
+    done: usize,
+    found: &str,
+) -> io::Result<bool>
+    requires { TellsDocket (K.told keeper.old) }
+    ensures { TellsDocket (K.told keeper.new) }
+{
+    done_of(alloc, keeper, run.like_these, usize::MAX);
+    done_of(alloc, keeper, run.commands, done);
+    let due = told(alloc, keeper, run.questions)?;
+    Ok(due.as_str() == found)
 }
 
 /// Whether memory tells this after so many of the commands.
 fn is_told_after(alloc: Global, run: Run<'_>, done: usize, found: &str) -> io::Result<bool> {
     let mut memory = MemKeeper::new(alloc);
-    done_of(alloc, &mut memory, run.like_these, usize::MAX);
-    done_of(alloc, &mut memory, run.commands, done);
-    let due = told(alloc, &mut memory, run.questions)?;
-    Ok(due.as_str() == found)
+    tells_after(alloc, &mut memory, run, done, found)
+}
+
+/// How a run ended whose files stop.
+#[derive(Clone, Copy)]
+enum End {
+    /// The files stopped before the statements had run.
+    Unmade,
+    /// The database then had neither what was told as done nor that with one command more.
+    Lost,
+    /// Not all commands were told as done.
+    Early,
+    /// All commands were told as done.
+    Late,
+}
+
+/// How a run ended of which so many commands were told as done, and whose database then told this.
+fn end_of(alloc: Global, run: Run<'_>, done: usize, found: &str) -> io::Result<End> {
+    let is_kept = is_told_after(alloc, run, done, found)?
+        || is_told_after(alloc, run, done.saturating_add(1), found)?;
+    if !is_kept {
+        Ok(End::Lost)
+    } else if done < run.commands.lines().count() {
+        Ok(End::Early)
+    } else {
+        Ok(End::Late)
+    }
+}
+
+/// How a run ends with a keeper whose files stop, once the statements have run.
+fn end_with<K: FileKeeper>(alloc: Global, keeper: K, run: Run<'_>) -> io::Result<End>
+    requires { TellsDocket (K.told keeper) }
+{
+    let mut keeper = keeper;
+    let done = done_of(alloc, &mut keeper, run.commands, usize::MAX);
+    let found = told_back(alloc, keeper, run.questions)?;
+    end_of(alloc, run, done, found.as_str())
+}
+
+/// How a run ends whose files do so many calls and then stop.
+fn end_at<K: FileKeeper>(alloc: Global, run: Run<'_>, calls: Calls) -> io::Result<End> {
+    match K::blank(alloc, calls)?.after(run.statements) {
+        Ok(keeper) => end_with(alloc, keeper, run),
+        Err(_) => Ok(End::Unmade),
+    }
+}
+
+/// Files of which the log, or the database file, does so many calls and then stops.
+fn calls_at(of_log: bool, number: u64) -> Calls {
+    Calls {
+        log: if of_log { number } else { u64::MAX },
+        db: if of_log { u64::MAX } else { number },
+    }
 }
 
 /// At how many calls of the log, or of the database file, not all commands are told as done: the files stop at the
 /// first call, at the second and so on, so many in all at most, and of the log up to the first at which all are done
 /// again. Nothing where a database then has neither what was told as done nor that with one command more.
-pub fn stops_of<S: Filed>(
+pub fn stops_of<K: FileKeeper>(
     alloc: Global,
     run: Run<'_>,
     of_log: bool,
     most: u64,
 ) -> io::Result<Option<u64>> {
-    let all = run.commands.lines().count();
     let mut stops = 0u64;
     for number in 0..most {
-        let calls = Calls {
-            log: if of_log { number } else { u64::MAX },
-            db: if of_log { u64::MAX } else { number },
-        };
-        let Some((found, done)) = told_after::<S>(alloc, run, calls)? else {
-            continue;
-        };
-        let is_kept = is_told_after(alloc, run, done, found.as_str())?
-            || is_told_after(alloc, run, done.saturating_add(1), found.as_str())?;
-        if !is_kept {
-            return Ok(None);
-        }
-        if done < all {
-            stops = stops.saturating_add(1);
-        } else if of_log && stops > 0 {
-            break;
+        match end_at::<K>(alloc, run, calls_at(of_log, number))? {
+            End::Unmade => {}
+            End::Lost => return Ok(None),
+            End::Early => stops = stops.saturating_add(1),
+            End::Late => {
+                if of_log && stops > 0 {
+                    break;
+                }
+            }
         }
     }
     Ok(Some(stops))

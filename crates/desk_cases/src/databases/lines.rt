@@ -1,144 +1,190 @@
 //! Files of commands and of connections, put to a database.
 
-use crate::databases::store::{Filed, after, new_keeper, reopened};
+ghost use Rattle.std.specs.Prelude.{IfOk};
+ghost use Rattle.desk_serving.specs.Obeying.{TellsDocket};
+
+use crate::databases::keepers::FileKeeper;
+use crate::databases::store::LASTING;
+use case_keeper::Keeper;
 use case_lines::due_in;
 use desk_links::{FixedClock, MemLink};
 use desk_serving::{Desk, serve_one};
 use serving_lines::{FirstByte, bytes_of, desk};
-use sqlite::Alter;
-use sqlite_keeper::OpenKeeper;
 use std::alloc::Global;
 use std::{fs, io};
 use vet_base::Memory;
 
-/// The keeper in a place, taken out of it; where there is none, one over a new database.
-fn taken<S: Filed>(alloc: Global, place: &mut Option<OpenKeeper<S>>) -> io::Result<OpenKeeper<S>> {
-    match place.take() {
-        Some(keeper) => Ok(keeper),
-        None => new_keeper(alloc),
+/// The keeper once the statements of a file have run.
+fn after_file<K: FileKeeper>(rt: &HostRuntime, keeper: K, name: &str) -> io::Result<K>
+    ensures { IfOk result (λ next. TellsDocket (K.told next)) }
+{
+    let statements = fs::read_to_string(rt, name)?;
+    keeper.after(statements.as_str())
+}
+
+/// Whether a line is a command.
+fn is_command(line: &str) -> bool {
+    line != "keeper" && line != "again" && !line.starts_with("sql ")
+}
+
+/// The keeper once it is as a line says that is no command: a new one, one behind the statements of a file, or the same
+/// over its files opened anew.
+fn set<K: FileKeeper>(rt: &HostRuntime, keeper: K, line: &str) -> io::Result<K>
+    ensures { IfOk result (λ next. TellsDocket (K.told next)) }
+{
+    if line == "keeper" {
+        return K::blank(rt.alloc(), LASTING);
+    }
+    match line.strip_prefix("sql ") {
+        Some(name) => after_file(rt, keeper, name),
+        None => keeper.reopened(rt.alloc(), false),
     }
 }
 
-/// Runs the statements of a file.
-fn run_file<S: Filed>(
-    rt: &HostRuntime,
-    place: &mut Option<OpenKeeper<S>>,
-    name: &str,
-) -> io::Result<()> {
-    let statements = fs::read_to_string(rt, name)?;
-    let keeper = taken(rt.alloc(), place)?;
-    *place = Some(after(keeper, statements.as_str())?);
-    Ok(())
-}
-
-/// Closes the files and opens them again.
-fn open_again<S: Filed>(alloc: Global, place: &mut Option<OpenKeeper<S>>) -> io::Result<()> {
-    let keeper = taken(alloc, place)?;
-    *place = Some(reopened(alloc, keeper, false)?);
-    Ok(())
+/// The keeper to which a command is put: the same, or over its files opened anew.
+fn before_command<K: FileKeeper>(alloc: Global, keeper: K, reopens: bool) -> io::Result<K>
+    requires { TellsDocket (K.told keeper) }
+    ensures { IfOk result (λ next. TellsDocket (K.told next)) }
+{
+    if reopens {
+        keeper.reopened(alloc, false)
+    } else {
+        Ok(keeper)
+    }
 }
 
 /// Puts a command, and gives how many replies to it are due.
-fn due_to<S: Filed>(
+fn due_to<K: FileKeeper>(
     rt: &HostRuntime,
-    place: &mut Option<OpenKeeper<S>>,
+    keeper: K,
     title: &str,
     line: &str,
-) -> io::Result<u64> {
-    let mut keeper = taken(rt.alloc(), place)?;
-    let due = due_in(rt, &mut keeper, title, line);
-    *place = Some(keeper);
-    due
+) -> io::Result<(K, u64)>
+    requires { TellsDocket (K.told keeper) }
+    ensures { IfOk result (λ taken. TellsDocket (K.told taken.0)) }
+{
+    let mut keeper = keeper;
+    let due = due_in(rt, &mut keeper, title, line)?;
+    Ok((keeper, due))
 }
 
 /// Takes a line: what is done to the database, or a command. Gives how many replies are due.
-fn take_line<S: Filed>(
+fn take_line<K: FileKeeper>(
     rt: &HostRuntime,
-    place: &mut Option<OpenKeeper<S>>,
+    keeper: K,
     title: &str,
     line: &str,
     reopens: bool,
-) -> io::Result<u64> {
-    if line == "keeper" {
-        *place = None;
-    } else if let Some(name) = line.strip_prefix("sql ") {
-        run_file(rt, place, name)?;
-    } else if line == "again" {
-        open_again(rt.alloc(), place)?;
-    } else if !line.is_empty() {
-        if reopens {
-            open_again(rt.alloc(), place)?;
-        }
-        return due_to(rt, place, title, line);
+) -> io::Result<(K, u64)>
+    requires { TellsDocket (K.told keeper) }
+    ensures { IfOk result (λ taken. TellsDocket (K.told taken.0)) }
+{
+    if line.is_empty() {
+        return Ok((keeper, 0));
     }
-    Ok(0)
+    if is_command(line) {
+        let keeper = before_command(rt.alloc(), keeper, reopens)?;
+        return due_to(rt, keeper, title, line);
+    }
+    let keeper = set(rt, keeper, line)?;
+    Ok((keeper, 0))
 }
 
 /// How many commands of a text get the reply that is due. A line `## TITLE` begins a case, and `keeper` a new
 /// database; `sql FILE` runs the statements of a file, and `again` closes the files and opens them again, which is
 /// also done before each command where `reopens`. Each other line is a command and behind ` > ` the reply that is due.
-pub fn due_in_text<S: Filed>(rt: &HostRuntime, text: &str, reopens: bool) -> io::Result<u64> {
-    let mut place: Option<OpenKeeper<S>> = None;
+pub fn due_in_text<K: FileKeeper>(rt: &HostRuntime, text: &str, reopens: bool) -> io::Result<u64> {
+    let mut keeper = K::blank(rt.alloc(), LASTING)?;
     let mut title = "";
     let mut due = 0u64;
     for line in text.lines() {
         if let Some(rest) = line.strip_prefix("## ") {
             title = rest;
         } else {
-            due = due.saturating_add(take_line(rt, &mut place, title, line, reopens)?);
+            let (next, count) = take_line(rt, keeper, title, line, reopens)?;
+            keeper = next;
+            due = due.saturating_add(count);
         }
     }
     Ok(due)
 }
 
-/// Whether what is written on a link, which is served on this day, is due.
-fn writes<S: Alter + Drop>(
+/// A link on which these bytes come.
+fn link_of(alloc: Global, bytes: &str) -> Result<MemLink, Memory> {
+    let come = bytes_of(alloc, bytes)?;
+    MemLink::new(alloc, come, Vec::new(alloc), 4096, Vec::new(alloc))
+}
+
+/// Serves a link on this day.
+fn serve<K: Keeper>(
     alloc: Global,
     desk: &Desk<FirstByte>,
-    keeper: &mut OpenKeeper<S>,
+    keeper: &mut K,
     day: u32,
-    link: MemLink,
-    due: &[u8],
-) -> bool {
-    let mut link = link;
+    link: &mut MemLink,
+)
+    requires { TellsDocket (K.told keeper.old) }
+    ensures { TellsDocket (K.told keeper.new) }
+{
     let mut clock = FixedClock::new(day);
-    serve_one(alloc, desk, keeper, &mut link, &mut clock);
-    link.written() == due
+    serve_one(alloc, desk, keeper, link, &mut clock);
+}
+
+/// Whether what is written on a link is due.
+fn is_written(alloc: Global, link: &MemLink, due: &str) -> Result<bool, Memory> {
+    let due = bytes_of(alloc, due)?;
+    Ok(link.written() == due.as_slice())
 }
 
 /// Whether the bytes of a connection, which comes on this day under this edition, get the reply that is due.
-fn is_due<S: Alter + Drop>(
+fn is_due<K: Keeper>(
     alloc: Global,
-    keeper: &mut OpenKeeper<S>,
+    keeper: &mut K,
     when: (u32, u8),
     bytes: &str,
     due: &str,
-) -> Result<bool, Memory> {
+) -> Result<bool, Memory>
+    requires { TellsDocket (K.told keeper.old) }
+    ensures { TellsDocket (K.told keeper.new) }
+{
     let (day, edition) = when;
-    let come = bytes_of(alloc, bytes)?;
-    let due = bytes_of(alloc, due)?;
-    let link = MemLink::new(alloc, come, Vec::new(alloc), 4096, Vec::new(alloc))?;
     let desk = desk(alloc, edition)?;
-    Ok(writes(alloc, &desk, keeper, day, link, due.as_slice()))
+    let mut link = link_of(alloc, bytes)?;
+    serve(alloc, &desk, keeper, day, &mut link);
+    is_written(alloc, &link, due)
 }
 
-/// How many connections of a text get the reply that is due; another one is told. A line `day N` or `edition N` says
-/// when what follows comes; behind `> ` stand the bytes of a connection, and behind `< ` its reply.
-pub fn due_over_http<S: Filed>(rt: &HostRuntime, text: &str) -> io::Result<u64> {
-    let mut keeper = new_keeper::<S>(rt.alloc())?;
+/// Whether a connection gets the reply that is due; another one is told.
+fn is_answered<K: Keeper>(
+    rt: &HostRuntime,
+    keeper: &mut K,
+    when: (u32, u8),
+    come: &str,
+    reply: &str,
+) -> io::Result<bool>
+    requires { TellsDocket (K.told keeper.old) }
+    ensures { TellsDocket (K.told keeper.new) }
+{
+    let is_due = matches!(is_due(rt.alloc(), keeper, when, come, reply), Ok(true));
+    if !is_due {
+        println!(rt; "{come}: not {reply}")?;
+    }
+    Ok(is_due)
+}
+
+/// How many connections of a text get the reply that is due of a keeper; another one is told.
+fn due_with<K: Keeper>(rt: &HostRuntime, keeper: &mut K, text: &str) -> io::Result<u64>
+    requires { TellsDocket (K.told keeper.old) }
+    ensures { TellsDocket (K.told keeper.new) }
+{
     let (mut day, mut edition, mut due) = (0u32, 0u8, 0u64);
     let mut come = "";
     for line in text.lines() {
         if let Some(bytes) = line.strip_prefix("> ") {
             come = bytes;
         } else if let Some(reply) = line.strip_prefix("< ") {
-            if matches!(
-                is_due(rt.alloc(), &mut keeper, (day, edition), come, reply),
-                Ok(true)
-            ) {
+            if is_answered(rt, keeper, (day, edition), come, reply)? {
                 due = due.saturating_add(1);
-            } else {
-                println!(rt; "{come}: not {reply}")?;
             }
         } else if let Some(number) = line.strip_prefix("day ") {
             day = number.parse::<u32>().unwrap_or(0);
@@ -147,4 +193,11 @@ pub fn due_over_http<S: Filed>(rt: &HostRuntime, text: &str) -> io::Result<u64> 
         }
     }
     Ok(due)
+}
+
+/// How many connections of a text get the reply that is due; another one is told. A line `day N` or `edition N` says
+/// when what follows comes; behind `> ` stand the bytes of a connection, and behind `< ` its reply.
+pub fn due_over_http<K: FileKeeper>(rt: &HostRuntime, text: &str) -> io::Result<u64> {
+    let mut keeper = K::blank(rt.alloc(), LASTING)?;
+    due_with(rt, &mut keeper, text)
 }

@@ -4,7 +4,6 @@
 
 use sqlite::{Alter, Connection, FileStore, Files, Options};
 use sqlite_disk::{Crash, Fuse, Memory};
-use sqlite_keeper::OpenKeeper;
 use std::alloc::Global;
 use std::io;
 
@@ -117,32 +116,5 @@ impl<D: Stopping> Filed for FileStore<D> {
         may_have_stopped: bool,
     ) -> io::Result<Connection<FileStore<D>>> {
         closed_and_opened(alloc, self, may_have_stopped)
-    }
-}
-
-/// A keeper over an empty database.
-pub fn new_keeper<S: Filed>(alloc: Global) -> io::Result<OpenKeeper<S>> {
-    Ok(OpenKeeper::adopt(S::blank(alloc, LASTING)?))
-}
-
-/// The keeper over the same files, which are closed and opened again.
-pub fn reopened<S: Filed>(
-    alloc: Global,
-    keeper: OpenKeeper<S>,
-    may_have_stopped: bool,
-) -> io::Result<OpenKeeper<S>> {
-    let store = keeper.give_back().into_store();
-    Ok(OpenKeeper::adopt(store.reopened(alloc, may_have_stopped)?))
-}
-
-/// The keeper once the statements have run.
-pub fn after<S: Alter + Drop>(
-    keeper: OpenKeeper<S>,
-    statements: &str,
-) -> io::Result<OpenKeeper<S>> {
-    let mut connection = keeper.give_back();
-    match connection.execute_batch(statements) {
-        Ok(()) => Ok(OpenKeeper::adopt(connection)),
-        Err(_) => Err(io::Error::other("a statement is refused")),
     }
 }

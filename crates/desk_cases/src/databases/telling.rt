@@ -2,7 +2,7 @@
 
 ghost use Rattle.desk_serving.specs.Obeying.{TellsDocket};
 
-use case_keeper::{KeepFault, Keeper};
+use case_keeper::{KeepFault, Keeper, MemKeeper};
 use case_lines::reply_to;
 use case_rules::{Case, Reply};
 use std::alloc::Global;
@@ -103,15 +103,60 @@ fn put_queued<K: Keeper>(alloc: Global, keeper: &mut K, text: &mut String) -> io
     Ok(())
 }
 
+/// Puts behind the text what the keeper replies to each of the questions, and what it has queued.
+fn put_told<K: Keeper>(
+    alloc: Global,
+    keeper: &mut K,
+    questions: &str,
+    text: &mut String,
+) -> io::Result<()>
+    requires { TellsDocket (K.told keeper.old) }
+    ensures { TellsDocket (K.told keeper.new) }
+{
+    put_replies(alloc, keeper, questions, text)?;
+    put_queued(alloc, keeper, text)
+}
+
 /// What the keeper replies to each of the questions, and what it has queued.
 pub fn told<K: Keeper>(alloc: Global, keeper: &mut K, questions: &str) -> io::Result<String>
     requires { TellsDocket (K.told keeper.old) }
     ensures { TellsDocket (K.told keeper.new) }
 {
     let mut text = String::new(alloc);
-    put_replies(alloc, keeper, questions, &mut text)?;
-    put_queued(alloc, keeper, &mut text)?;
+    put_told(alloc, keeper, questions, &mut text)?;
     Ok(text)
+}
+
+/// Puts what the keeper replies to a command behind the text, and then what it tells.
+fn put_turn<K: Keeper>(
+    alloc: Global,
+    keeper: &mut K,
+    command: &str,
+    questions: &str,
+    text: &mut String,
+) -> io::Result<()>
+    requires { TellsDocket (K.told keeper.old) }
+    ensures { TellsDocket (K.told keeper.new) }
+{
+    put_replies(alloc, keeper, command, text)?;
+    put_told(alloc, keeper, questions, text)
+}
+
+/// Puts behind the text what the keeper replies to each command and, after each, what it tells.
+fn put_story<K: Keeper>(
+    alloc: Global,
+    keeper: &mut K,
+    commands: &str,
+    questions: &str,
+    text: &mut String,
+) -> io::Result<()>
+    requires { TellsDocket (K.told keeper.old) }
+    ensures { TellsDocket (K.told keeper.new) }
+{
+    for command in commands.lines() {
+        put_turn(alloc, keeper, command, questions, text)?;
+    }
+    Ok(())
 }
 
 /// What the keeper replies to each command and, after each, to the questions; so it ends with what is told then.
@@ -125,10 +170,41 @@ pub fn story<K: Keeper>(
     ensures { TellsDocket (K.told keeper.new) }
 {
     let mut text = String::new(alloc);
-    for command in commands.lines() {
-        put_replies(alloc, keeper, command, &mut text)?;
-        put_replies(alloc, keeper, questions, &mut text)?;
-        put_queued(alloc, keeper, &mut text)?;
-    }
+    put_story(alloc, keeper, commands, questions, &mut text)?;
     Ok(text)
+}
+
+/// Whether a keeper tells after each command what is due.
+pub fn tells<K: Keeper>(
+    alloc: Global,
+    keeper: &mut K,
+    due: &str,
+    commands: &str,
+    questions: &str,
+) -> io::Result<bool>
+    requires { TellsDocket (K.told keeper.old) }
+    ensures { TellsDocket (K.told keeper.new) }
+{
+    let found = story(alloc, keeper, commands, questions)?;
+    Ok(found.as_str() == due)
+}
+
+/// Whether a story ends with what the keeper tells.
+pub fn tells_end<K: Keeper>(
+    alloc: Global,
+    keeper: &mut K,
+    story: &str,
+    questions: &str,
+) -> io::Result<bool>
+    requires { TellsDocket (K.told keeper.old) }
+    ensures { TellsDocket (K.told keeper.new) }
+{
+    let told = told(alloc, keeper, questions)?;
+    Ok(story.ends_with(told.as_str()))
+}
+
+/// What memory tells after each command.
+pub fn told_by_memory(alloc: Global, commands: &str, questions: &str) -> io::Result<String> {
+    let mut memory = MemKeeper::new(alloc);
+    story(alloc, &mut memory, commands, questions)
 }

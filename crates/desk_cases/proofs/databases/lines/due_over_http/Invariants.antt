@@ -1,6 +1,0 @@
-use denote.Text.{Utf8}
-use denote.Shadow.{shadow}
-use Rattle.desk_cases.proofs.databases.lines.due_over_http.Given as goal
-
-abbrev pub invariant-loop-line : goal.invariant-loop-line
-invariant-loop-line g l = shadow (Utf8 l.come)
