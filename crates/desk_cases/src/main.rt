@@ -5,10 +5,9 @@
 //! prints what a command takes with many cases.
 #![tactic(auto)]
 
-mod commands;
-mod connections;
 mod databases;
 
+use memory_cases::{commands, connections};
 use std::{env, io};
 
 fn all(rt: &HostRuntime) -> io::Result<()> {

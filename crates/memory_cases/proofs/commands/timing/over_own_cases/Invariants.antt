@@ -1,5 +1,5 @@
 use Rattle.case_rules.specs.Docket.{IsDocket}
-use Rattle.desk_cases.proofs.commands.timing.over_own_cases.Given as goal
+use Rattle.memory_cases.proofs.commands.timing.over_own_cases.Given as goal
 
 abbrev pub invariant-loop-turn : goal.invariant-loop-turn
 invariant-loop-turn l = IsDocket l.keeper.cases
