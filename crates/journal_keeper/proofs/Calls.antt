@@ -11,6 +11,7 @@ use Rattle.case_rules.specs.declared.case.Case.{Case}
 use Rattle.case_rules.specs.declared.reply.Change.{Change}
 use Rattle.journal_reading.specs.declared.opening.Opened.{Opened}
 use Rattle.journal_reading.specs.Keeping.{IsKept, IsReady, IsSafe, NoOther, LeavesCases, StaysSafe, told_by}
+use Rattle.journal_reading.specs.Opening.{HoldsCases, Spares}
 use Rattle.journal_keeper.specs.Adding.{HoldsTheSame}
 use Rattle.journal_keeper.specs.Causes.{CountsBy, IsUnopenable, Misfits, total}
 use Rattle.journal_keeper.specs.State.{JournalState, Outlasts, told_cases, all_faults}
@@ -35,6 +36,13 @@ pub made_outlasts : (old first now : JournalState) → first ≡ old → LeavesC
     → StaysSafe first.opened now.opened first.told now.told → Outlasts NoOther old now
 made_outlasts old first now same moments safe =
     subst (λ (k : JournalState). Outlasts NoOther k now) same (record { any_moment = moments; safe = safe })
+
+pub made_held : {X : Type 0} (old first : JournalState) (r : Result X KeepFault) → first ≡ old → OnOk r (IfSome first.told HoldsCases)
+    → OnOk r (IfSome old.told HoldsCases)
+made_held old first r same held = subst (λ (k : JournalState). OnOk r (IfSome k.told HoldsCases)) same held
+
+pub made_spared : (old first : JournalState) (a : Option Told) → first ≡ old → Spares first.told a → Spares old.told a
+made_spared old first a same spares = subst (λ (k : JournalState). Spares k.told a) same spares
 
 -- a call that adds nothing, where it might have added a change
 pub wider_outlasts : (Added : Change → Type 0) (old new : JournalState) → Outlasts NoOther old new → Outlasts Added old new

@@ -8,12 +8,10 @@ use Rattle.disks.specs.Disks.{Told, DiskCause}
 use Rattle.case_keeper.specs.declared.keeper.KeepFault.{KeepFault}
 use Rattle.case_keeper.specs.declared.keeper.KeepFault.TheVariants as keep
 use Rattle.case_keeper.specs.Keeper.{KeepCause}
-use Rattle.journal_law.specs.Journal.{IsForeign, IsBad}
 use Rattle.journal_reading.specs.declared.fault.OpenFault.{OpenFault}
 use Rattle.journal_reading.specs.declared.fault.OpenFault.TheVariants.{Magic, Bad, Failed, Memory}
-use Rattle.journal_reading.specs.Faults.{keep_fault_of}
-use Rattle.journal_reading.specs.Opening.{Answers, OpenCause}
-use Rattle.journal_keeper.specs.Causes.{total, Counts, CountsBy, IsUnopenable}
+use Rattle.journal_reading.specs.Opening.{Answers, IsNoJournal, OpenCause}
+use Rattle.journal_keeper.specs.Causes.{keep_fault_of, total, Counts, CountsBy, IsUnopenable}
 
 abbrev Rises : ℕ → ℕ → Type 0
 Rises before now = HasRisen before now × (before ≤ now)
@@ -47,13 +45,11 @@ kept_cause X Y d e disk.Memory cause = cause
 
 -- an opening that failed
 module _ (X Y : Type 0) (told : Option Told) where
-  foreign_bytes : (o : Option Told) → IfSome o (λ t. Answers {X = X} t.now.bytes (Err Magic))
-      → IfSome o (λ t. IsForeign t.now.bytes ⊎ ((at : ℕ) × IsBad t.now.bytes at))
+  foreign_bytes : (o : Option Told) → IfSome o (λ t. Answers {X = X} t.now.bytes (Err Magic)) → IfSome o IsNoJournal
   foreign_bytes None answer = tt
   foreign_bytes (Some t) answer = inl answer
 
-  bad_bytes : (at : ℕ) (o : Option Told) → IfSome o (λ t. Answers {X = X} t.now.bytes (Err (Bad at)))
-      → IfSome o (λ t. IsForeign t.now.bytes ⊎ ((at : ℕ) × IsBad t.now.bytes at))
+  bad_bytes : (at : ℕ) (o : Option Told) → IfSome o (λ t. Answers {X = X} t.now.bytes (Err (Bad at))) → IfSome o IsNoJournal
   bad_bytes at None answer = tt
   bad_bytes at (Some t) answer = inr (at, answer)
 

@@ -22,6 +22,7 @@ use Rattle.journal_law.proofs.Fronts.{front_added, front_holds}
 use Rattle.journal_law.proofs.TellsRight.{tells_the_cases}
 use Rattle.journal_reading.specs.declared.opening.Opened.{Opened}
 use Rattle.journal_reading.specs.Keeping.{Keeps, IsOpen, IsKept, IsReady, NoOther, HoldsUpTo, MayBe, IsPending, IsSafe, LeavesCases, StaysSafe, cases_of, told_by}
+use Rattle.journal_reading.specs.Opening.{HoldsCases}
 use Rattle.journal_reading.proofs.Leaving.{leaves_so, leaves_on, leaves_none}
 use Rattle.journal_keeper.specs.Adding.{HasTheSame, HoldsTheSame}
 
@@ -61,6 +62,21 @@ open_safe o t keeps = record {
   read = left_may_be o t keeps NoOther o.log.gate refl t.now.bytes (is_read o.log t keeps.stands);
   left = λ bytes may. left_may_be o t keeps NoOther o.log.gate refl bytes (is_left o.log t keeps.stands bytes may);
 }
+
+-- So its bytes hold cases.
+holds_cases : (t : Told) (cases : List Case) → Holds t.now.bytes cases → HoldsCases t
+holds_cases t cases holds = subst (Holds t.now.bytes) (sym (tells_the_cases.held t.now.bytes cases holds)) holds
+
+safe_holds : (opened : Option Opened) (t : Told) → MayBe opened t NoOther t.now.bytes → HoldsCases t
+safe_holds opened t (inl holds) = holds_cases t (cases_of opened t) holds
+safe_holds opened t (inr more) = holds_cases t (after more.0 (cases_of opened t)) more.1.1
+
+pub open_holds : (told : Option Told) (o : Opened) → IsOpen told o → IfSome told HoldsCases
+open_holds None o is = tt
+open_holds (Some t) o is = let safe = open_safe o t is.kept in safe_holds (Some o) t safe.read
+
+pub kept_holds : (told : Option Told) (opened : Option Opened) (o : Opened) → opened ≡ Some o → IsKept told opened → IfSome told HoldsCases
+kept_holds told opened o is kept = open_holds told o (subst (IsKept told) is kept)
 
 pub open_stays : (old : Option Opened) (o a : Option Told) (new : Opened) → IsOpen a new → StaysSafe old (Some new) o a
 open_stays old None a new is = tt

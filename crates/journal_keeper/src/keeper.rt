@@ -4,7 +4,7 @@ ghost use Rattle.case_rules.specs.declared.case.Case.{Case};
 ghost use Rattle.case_rules.specs.Docket.{Fits};
 ghost use Rattle.case_keeper.specs.Keeper.{Tells, told_after, KeepCause};
 ghost use Rattle.journal_reading.specs.Keeping.{IsReady, IsSafe, NoOther};
-ghost use Rattle.journal_reading.specs.Opening.{Answers, OpenCause};
+ghost use Rattle.journal_reading.specs.Opening.{Answers, HoldsCases, OpenCause, Spares};
 ghost use Rattle.journal_keeper.specs.Causes.{CountsBy, IsUnopenable, Misfits};
 ghost use Rattle.journal_keeper.specs.State.{told_cases, all_faults, Outlasts};
 
@@ -20,7 +20,8 @@ use std::marker::Model;
 use vet_base::{Name, Shared};
 
 /// A keeper over a journal in a disk. It tells the cases where the disk tells what it holds. Each call opens the
-/// journal where that was not done, or mends its end, before anything else.
+/// journal where that was not done, or mends its end, before anything else. A call succeeds only where the bytes hold
+/// cases; bytes that are no journal are left alone.
 #[derive(Drop)]
 pub struct JournalKeeper<D: Disk + Drop> {
     disk: D,
@@ -73,6 +74,7 @@ impl<D: Disk + Drop> JournalKeeper<D> {
         ensures safe_now { OnOk result (IfSome self.new.told (IsSafe self.new.opened)) }
         ensures told { told_cases self.new ≡ told_cases self.old }
         ensures outlasts { Outlasts NoOther self.old self.new }
+        ensures spares { Spares self.old.told self.new.told }
         ensures cause { OpenCause self.old.faults self.new.faults result }
         ensures own { self.new.own ≡ self.old.own }
     {
@@ -89,6 +91,8 @@ impl<D: Disk + Drop> JournalKeeper<D> {
         ensures ready { OnOk result (IsReady self.new.opened) }
         ensures told { told_cases self.new ≡ told_cases self.old }
         ensures outlasts { Outlasts NoOther self.old self.new }
+        ensures held { OnOk result (IfSome self.old.told HoldsCases) }
+        ensures spares { Spares self.old.told self.new.told }
         ensures counts { CountsBy (IsUnopenable self.old.opened self.old.told)
             self.old.faults self.new.faults self.old.own self.new.own result }
     {
@@ -112,6 +116,8 @@ impl<D: Disk + Drop> Keeper for JournalKeeper<D> {
         ensures cause { KeepCause (all_faults self.old) (all_faults self.new) result }
         ensures outlasts { Outlasts NoOther self.old self.new }
         ensures safe_now { OnOk result (IfSome self.new.told (IsSafe self.new.opened)) }
+        ensures held { OnOk result (IfSome self.old.told HoldsCases) }
+        ensures spares { Spares self.old.told self.new.told }
         ensures counts { CountsBy (IsUnopenable self.old.opened self.old.told)
             self.old.faults self.new.faults self.old.own self.new.own result }
     {
@@ -126,6 +132,8 @@ impl<D: Disk + Drop> Keeper for JournalKeeper<D> {
         ensures cause { KeepCause (all_faults self.old) (all_faults self.new) result }
         ensures outlasts { Outlasts NoOther self.old self.new }
         ensures safe_now { OnOk result (IfSome self.new.told (IsSafe self.new.opened)) }
+        ensures held { OnOk result (IfSome self.old.told HoldsCases) }
+        ensures spares { Spares self.old.told self.new.told }
         ensures counts { CountsBy (IsUnopenable self.old.opened self.old.told)
             self.old.faults self.new.faults self.old.own self.new.own result }
     {
@@ -139,6 +147,8 @@ impl<D: Disk + Drop> Keeper for JournalKeeper<D> {
         ensures cause { KeepCause (all_faults self.old) (all_faults self.new) result }
         ensures outlasts { Outlasts NoOther self.old self.new }
         ensures safe_now { OnOk result (IfSome self.new.told (IsSafe self.new.opened)) }
+        ensures held { OnOk result (IfSome self.old.told HoldsCases) }
+        ensures spares { Spares self.old.told self.new.told }
         ensures counts { CountsBy (IsUnopenable self.old.opened self.old.told)
             self.old.faults self.new.faults self.old.own self.new.own result }
     {
@@ -152,6 +162,8 @@ impl<D: Disk + Drop> Keeper for JournalKeeper<D> {
         ensures cause { KeepCause (all_faults self.old) (all_faults self.new) result }
         ensures outlasts { Outlasts NoOther self.old self.new }
         ensures safe_now { OnOk result (IfSome self.new.told (IsSafe self.new.opened)) }
+        ensures held { OnOk result (IfSome self.old.told HoldsCases) }
+        ensures spares { Spares self.old.told self.new.told }
         ensures counts { CountsBy (IsUnopenable self.old.opened self.old.told)
             self.old.faults self.new.faults self.old.own self.new.own result }
     {
@@ -165,6 +177,8 @@ impl<D: Disk + Drop> Keeper for JournalKeeper<D> {
         ensures cause { KeepCause (all_faults self.old) (all_faults self.new) result }
         ensures outlasts { Outlasts NoOther self.old self.new }
         ensures safe_now { OnOk result (IfSome self.new.told (IsSafe self.new.opened)) }
+        ensures held { OnOk result (IfSome self.old.told HoldsCases) }
+        ensures spares { Spares self.old.told self.new.told }
         ensures counts { CountsBy (IsUnopenable self.old.opened self.old.told)
             self.old.faults self.new.faults self.old.own self.new.own result }
     {
@@ -179,6 +193,8 @@ impl<D: Disk + Drop> Keeper for JournalKeeper<D> {
         ensures cause { KeepCause (all_faults self.old) (all_faults self.new) result }
         ensures outlasts { Outlasts (λ c. c ≡ change.now) self.old self.new }
         ensures safe_now { OnOk result (IfSome self.new.told (IsSafe self.new.opened)) }
+        ensures held { OnOk result (IfSome self.old.told HoldsCases) }
+        ensures spares { Spares self.old.told self.new.told }
         ensures counts { CountsBy (IsUnopenable self.old.opened self.old.told ⊎ Misfits change.now self.new.opened)
             self.old.faults self.new.faults self.old.own self.new.own result }
     {

@@ -1,9 +1,9 @@
 //! What each call of the journal does first: it opens the journal, or mends its end.
-ghost use Rattle.std.specs.Prelude.{◌≡◌, Some, None, IfOk, OnOk, OnErr};
+ghost use Rattle.std.specs.Prelude.{◌≡◌, Some, None, IfOk, IfSome, OnOk, OnErr};
 ghost use Rattle.case_keeper.specs.Keeper.{KeepCause};
-ghost use Rattle.journal_reading.specs.Faults.{keep_fault_of};
 ghost use Rattle.journal_reading.specs.Keeping.{IsKept, IsOpen, IsReady, NoOther, LeavesCases, StaysSafe, told_by};
-ghost use Rattle.journal_keeper.specs.Causes.{total, Counts, CountsBy, IsUnopenable};
+ghost use Rattle.journal_reading.specs.Opening.{HoldsCases, Spares};
+ghost use Rattle.journal_keeper.specs.Causes.{keep_fault_of, total, Counts, CountsBy, IsUnopenable};
 
 use case_keeper::KeepFault;
 use disks::{Disk, DiskFault};
@@ -43,6 +43,8 @@ fn open_counted<D: Disk>(alloc: Global, disk: &mut D, own: &mut u64) -> Result<O
     ensures as_before { OnErr result (told_by None (D.told disk.new) ≡ told_by None (D.told disk.old)) }
     ensures any_moment { LeavesCases NoOther None (D.told disk.old) (D.told disk.new) }
     ensures safe { OnErr result (StaysSafe None None (D.told disk.old) (D.told disk.new)) }
+    ensures held { OnOk result (IfSome (D.told disk.old) HoldsCases) }
+    ensures spares { Spares (D.told disk.old) (D.told disk.new) }
     ensures counts { CountsBy (IsUnopenable None (D.told disk.old))
         (D.fault_count disk.old) (D.fault_count disk.new) own.old own.new result }
 {
@@ -77,7 +79,8 @@ fn mend<D: Disk>(disk: &mut D, opened: &mut Opened) -> Result<(), KeepFault>
     }
 }
 
-/// Opens the journal, or mends the end of one that is open. After a fault its cases are as before.
+/// Opens the journal, or mends the end of one that is open. After a fault its cases are as before, and bytes that are
+/// no journal are left alone.
 pub(crate) fn make_ready<D: Disk>(
     alloc: Global,
     disk: &mut D,
@@ -90,6 +93,8 @@ pub(crate) fn make_ready<D: Disk>(
     ensures same { told_by opened.new (D.told disk.new) ≡ told_by opened.old (D.told disk.old) }
     ensures any_moment { LeavesCases NoOther opened.old (D.told disk.old) (D.told disk.new) }
     ensures safe { StaysSafe opened.old opened.new (D.told disk.old) (D.told disk.new) }
+    ensures held { OnOk result (IfSome (D.told disk.old) HoldsCases) }
+    ensures spares { Spares (D.told disk.old) (D.told disk.new) }
     ensures counts { CountsBy (IsUnopenable opened.old (D.told disk.old))
         (D.fault_count disk.old) (D.fault_count disk.new) own.old own.new result }
 {

@@ -3,6 +3,7 @@ use Rattle.std.proofs.lemmas.Result.{err_from_is_err_and}
 use Rattle.std.specs.Prelude.{find}
 use Rattle.case_rules.specs.declared.case.Case.{Case}
 use Rattle.case_rules.specs.Cases.{is_named}
+use Rattle.journal_reading.proofs.Openings.{held_spared}
 use Rattle.journal_keeper.specs.Causes.{IsUnopenable}
 use Rattle.journal_keeper.proofs.Counting.{err_counts, counts_cause}
 use Rattle.journal_keeper.proofs.Calls.{on_ok, ready_safe, look_safe, Readied, readied_so, ready_open, state, look_outlasts, look_told, look_counted, look_cause, look_answer}
@@ -126,3 +127,14 @@ returns-clause-safe_now g c =
     let before : Readied old (state told faults own opened) = readied_so old (state told faults own opened) c.make_ready.new.self c.self.view_is
     (record { ready = made.ready; told = made.told; outlasts = made.outlasts; faults = made.counts.0; own = made.counts.1 }) in
     on_ok c.found.result (look_safe opened c.found.new.opened told c.found.ensures.same (ready_safe opened told before.ready c.self.invariant))
+
+pub returns-in_err-make_ready-clause-held : goal.returns-in_err-make_ready-clause-held
+returns-in_err-make_ready-clause-held g c =
+    let p = err_from_is_err_and c.from_residual.result c.from_residual.ensures.1 in
+    rw p.1 tt
+
+pub returns-clause-held : goal.returns-clause-held
+returns-clause-held g c = on_ok c.found.result c.in_ok-make_ready.ensures.held
+
+pub returns-clause-spares : goal.returns-clause-spares
+returns-clause-spares g c = held_spared c.args.self.now.told _ c.in_ok-make_ready.ensures.held
