@@ -1,4 +1,5 @@
 pub mod Before
+pub mod Hashing
 pub mod Keys
 pub mod Orders
 pub mod Renumbering

@@ -6,6 +6,8 @@
 mod cutting;
 mod finding;
 mod retelling;
+mod stored;
 mod wanted;
 
 pub use finding::{find_story, keyed, story_in};
+pub use stored::Stored;

@@ -1,4 +1,4 @@
-use Rattle.std.proofs.Common.{◌≡◌, ◌<◌, ◌≤◌, ◌-◌, ◌++◌, ◌∷◌, [], reverse, sym, subst, ◌∙◌, arith}
+use Rattle.std.proofs.Common.{◌<◌, ◌-◌, sym, subst, arith}
 use Rattle.flow_trail.specs.Trails.{lines_of}
 use Rattle.story_finder.specs.Cutting.{AreNeeded}
 use Rattle.story_finder.proofs.Resting.{Cutting, cutting_begins, cutting_goes_on, cutting_is_done, greatest_some, greatest_upto}

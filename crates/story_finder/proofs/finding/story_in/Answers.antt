@@ -1,4 +1,4 @@
-use Rattle.std.proofs.Common.{◌≡◌, ◌≤◌, ◌<◌, ◌^◌, length, filter_map, sym, ap, subst, ◌∙◌, arith}
+use Rattle.std.proofs.Common.{◌≡◌, ◌≤◌, ◌<◌, ◌^◌, length, filter_map, sym, subst, ◌∙◌, arith}
 use Rattle.flow_trail.specs.Trails.{lines_of, number_in}
 use Rattle.story_finder.specs.Retelling.{retold}
 use Rattle.story_finder.proofs.Told.{no_row, before, there, tells, few_numbers, few_lines}
