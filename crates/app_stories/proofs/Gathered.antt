@@ -1,6 +1,7 @@
 -- Stories one by one, and the rows that they are of.
 use Rattle.std.proofs.Common.{◌≡◌, ◌↔◌, ◌<◌, ◌+◌, ℕ, List, [], ◌∷◌, ◌++◌, length, take, get_or, refl, sym, ap, ◌∙◌, subst, inl, inr, arith}
 use Rattle.std.proofs.lemmas.List.{take_more}
+use Rattle.app_flow.specs.Defect.{SameRows}
 use Rattle.app_flow.specs.Flow.{AreDerivable}
 use Rattle.app_machine.specs.declared.app.App.{App}
 use Rattle.app_machine.specs.declared.lists.Lists.{Lists}
@@ -12,7 +13,7 @@ use Rattle.finding_rows.specs.Arrivals.{AreFirstArrivals}
 use Rattle.flow_proof.specs.Staying.{StayInApp}
 use Rattle.flow_rules.specs.Rules.{Follows, Starts}
 use Rattle.flow_story.specs.Stories.{TellsOf}
-use Rattle.flow_trail.specs.Trails.{AreAll, Came, IsTrail}
+use Rattle.flow_trail.specs.Trails.{AreAll, AreSame, Came, IsTrail}
 use Rattle.outcomes.specs.declared.outcome.Finding.{Finding}
 use Rattle.outcomes.specs.Within.{IsWithin, AreWithin}
 use Rattle.rule_sets.specs.OfApp.{DerivesAsTheApp}
@@ -57,14 +58,23 @@ goals_there app lists declaration rows (finding ∷ findings) (goal ∷ goals) a
     subst (λ (z : Row). In z rows) (sym same) (in_slice_get rows are.0.place goal are.0.there.there)
 goals_there app lists declaration rows (finding ∷ findings) (goal ∷ goals) are row (inr later) = goals_there app lists declaration rows findings goals are.1 row later
 
--- what is derivable in the app is so by its rules
-pub all_derivable : DerivesAsTheApp → (app : App) (lists : Lists) (rows : List Row) → AreDerivable app lists rows → AreAll (Follows app lists) (Starts app) rows
-all_derivable same app lists rows derivable = record {
+-- what is derivable in the app is so by its rules, in whatever order the rows stand
+all_derivable : DerivesAsTheApp → (app : App) (lists : Lists) (table rows : List Row) → AreDerivable app lists table → SameRows rows table → AreAll (Follows app lists) (Starts app) rows
+all_derivable same app lists table rows derivable alike = record {
   each = λ row. (
-    λ there. (same app lists row).1 ((derivable.exact row).0 there),
-    λ derived. (derivable.exact row).1 ((same app lists row).0 derived),
+    λ there. (same app lists row).1 ((derivable.exact row).0 ((alike row).0 there)),
+    λ derived. (alike row).1 ((derivable.exact row).1 ((same app lists row).0 derived)),
   );
 }
+
+pub all_by_rules : DerivesAsTheApp → (app of_rules : App) (lists of_index : Lists) (table rows : List Row) → of_rules ≡ app → of_index ≡ lists → AreDerivable app lists table → SameRows rows table →
+    AreAll (Follows of_rules of_index) (Starts of_rules) rows
+all_by_rules same app of_rules lists of_index table rows one_app one_lists derivable alike =
+    subst (λ (z : App). AreAll (Follows z of_index) (Starts z) rows) (sym one_app)
+    (subst (λ (z : Lists). AreAll (Follows app z) (Starts app) rows) (sym one_lists) (all_derivable same app lists table rows derivable alike))
+
+pub same_itself : (rows : List Row) → AreSame rows rows
+same_itself rows = record { each = λ row. (λ there. there, λ there. there) }
 
 -- a row in the app names methods of the app
 is_within : (app : App) (lists : Lists) (row : Row) → InApp app lists row → IsWithin app row

@@ -1,2 +1,3 @@
 pub mod Coming
 pub mod Gathered
+pub mod Telling

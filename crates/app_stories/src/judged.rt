@@ -10,7 +10,7 @@ ghost use Rattle.outcomes.specs.Findings.{findings_of};
 ghost use Rattle.outcomes.specs.Within.{AreWithin};
 ghost use Rattle.vet_base.specs.Members.{In};
 ghost use Rattle.verdict.specs.Halts.{Halts};
-ghost use Rattle.verdict.specs.Linked.{IsLinked, causes_beside};
+ghost use Rattle.verdict.specs.Linked.{causes_beside};
 ghost use Rattle.verdict.specs.OneVerdict.{RefusesOnly};
 ghost use Rattle.verdict.specs.Tells.{IsFollowed, TellsAll, TellsOfApp};
 ghost use Rattle.verdict.specs.Verdict.{ComesTo, IsSafeApp};
@@ -21,7 +21,6 @@ use fact_rows::Row;
 use finding_rows::first_arrivals;
 use flow_proof::rules_stay_in_app;
 use flow_story::Story;
-use rule_sets::app_rules_are_a_rule_set;
 use std::alloc::Global;
 use std::marker::Sync;
 use std::sync::Wait;
@@ -65,9 +64,8 @@ fn arrivals_in(alloc: Global, linked: &Linked, rows: &[Row]) -> Result<Vec<Row>,
 fn stories_in(
     alloc: Global,
     linked: &Linked,
-    table: &[Row],
+    table: &FlowRows,
     goals: &[Row],
-    seed: u64,
 ) -> Result<Vec<Story>, Memory>
     requires app { SoundApp linked.now.app }
     requires lists { SoundLists linked.now.papers.lists }
@@ -76,24 +74,28 @@ fn stories_in(
     ensures { IfOk result (λ v. AreStories (Follows linked.now.app linked.now.papers.lists) (Starts linked.now.app)
         goals.now v.items) }
 {
-    stories_of(
-        alloc,
-        &linked.app,
-        linked.papers.lists.get(),
-        table,
-        goals,
-        seed,
-    )
+    stories_of(alloc, &linked.app, linked.papers.lists.get(), table, goals)
+}
+
+/// For each finding that the rows tell the first of them that does, in ascending order. It is looked for among those
+/// alone that tell something by themselves.
+fn goals_of(alloc: Global, linked: &Linked, rows: &FlowRows) -> Result<Vec<Row>, Memory>
+    requires sound { SoundApp linked.now.app }
+    requires lists { SoundLists linked.now.papers.lists }
+    requires derivable { AreDerivable linked.now.app linked.now.papers.lists rows.now }
+    ensures { IfOk result (λ goals. AreFirstArrivals linked.now.app linked.now.papers.lists
+        linked.now.papers.declaration rows.now (findings_of linked.now.app linked.now.papers.lists
+        linked.now.papers.declaration rows.now) goals.items) }
+{
+    rules_stay_in_app();
+    let telling = rows.telling(alloc)?;
+    let goals = arrivals_in(alloc, linked, &telling)?;
+    Ok(goals)
 }
 
 /// The stories of the findings that the rows tell.
-#[tactic(auto, using(crate::proofs::Gathered::rows_are_within, crate::proofs::Gathered::goals_there))]
-fn stories_by_rows(
-    alloc: Global,
-    linked: &Linked,
-    rows: &[Row],
-    seed: u64,
-) -> Result<Seq<Story>, Memory>
+#[tactic(auto, using(crate::proofs::Gathered::goals_there))]
+fn stories_by_rows(alloc: Global, linked: &Linked, rows: &FlowRows) -> Result<Seq<Story>, Memory>
     requires sound { SoundApp linked.now.app }
     requires lists { SoundLists linked.now.papers.lists }
     requires derivable { AreDerivable linked.now.app linked.now.papers.lists rows.now }
@@ -101,20 +103,13 @@ fn stories_by_rows(
         linked.now.papers.declaration rows.now (findings_of linked.now.app linked.now.papers.lists
         linked.now.papers.declaration rows.now) stories) }
 {
-    rules_stay_in_app();
-    app_rules_are_a_rule_set();
-    let goals = arrivals_in(alloc, linked, rows)?;
-    let stories = stories_in(alloc, linked, rows, &goals, seed)?;
+    let goals = goals_of(alloc, linked, rows)?;
+    let stories = stories_in(alloc, linked, rows, &goals)?;
     Ok(Seq::from_vec(stories))
 }
 
-/// The same by the table.
-fn stories_by_table(
-    alloc: Global,
-    linked: &Linked,
-    table: FlowRows,
-    seed: u64,
-) -> Result<Seq<Story>, Memory>
+/// The same by the table, whose memory is given back.
+fn stories_by_table(alloc: Global, linked: &Linked, table: FlowRows) -> Result<Seq<Story>, Memory>
     requires sound { SoundApp linked.now.app }
     requires lists { SoundLists linked.now.papers.lists }
     requires derivable { AreDerivable linked.now.app linked.now.papers.lists table }
@@ -122,13 +117,12 @@ fn stories_by_table(
         linked.now.papers.declaration table (findings_of linked.now.app linked.now.papers.lists
         linked.now.papers.declaration table) stories) }
 {
-    let rows = table.into_ascending(alloc)?;
-    stories_by_rows(alloc, linked, rows.as_slice(), seed)
+    stories_by_rows(alloc, linked, &table)
 }
 
 /// What an app comes to, with its stories where there is a table.
 #[tactic(auto, using(crate::proofs::Coming::of_table, crate::proofs::Coming::stories_with, crate::proofs::Coming::stories_without))]
-fn with_stories(alloc: Global, linked: &Linked, judged: Judged, seed: u64) -> Result<Told, Memory>
+fn with_stories(alloc: Global, linked: &Linked, judged: Judged) -> Result<Told, Memory>
     requires sound { SoundApp linked.now.app }
     requires lists { SoundLists linked.now.papers.lists }
     requires comes { ComesTo linked.now.app linked.now.papers.lists linked.now.papers.declaration
@@ -139,7 +133,7 @@ fn with_stories(alloc: Global, linked: &Linked, judged: Judged, seed: u64) -> Re
     let Judged { outcome, table } = judged;
     let stories = match table {
         None => None,
-        Some(rows) => Some(stories_by_table(alloc, linked, rows, seed)?),
+        Some(rows) => Some(stories_by_table(alloc, linked, rows)?),
     };
     Ok(Told { outcome, stories })
 }
@@ -158,7 +152,7 @@ fn told_of<T: Threads + Wait + Sync, L: Lookout>(
         linked.now.papers.declaration t.outcome) }
 {
     let judged = judge_linked(alloc, linked, crew)?;
-    with_stories(alloc, linked, judged, crew.seed)
+    with_stories(alloc, linked, judged)
 }
 
 /// The same of an app that nothing else is asked about.

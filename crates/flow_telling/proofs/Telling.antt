@@ -35,7 +35,7 @@ same_causes : (app : App) (rows : List Row) → causes_of app (filter tells rows
 unfolding causes_of no_summaries natives reflectives
 same_causes app rows = rw (same_places app no_summary rows, same_places app native rows, same_places app reflective rows) refl
 
-same_findings : (app : App) (lists : Lists) (declaration : Declaration) (rows : List Row) → findings_of app lists declaration (filter tells rows) ≡ findings_of app lists declaration rows
+pub same_findings : (app : App) (lists : Lists) (declaration : Declaration) (rows : List Row) → findings_of app lists declaration (filter tells rows) ≡ findings_of app lists declaration rows
 unfolding findings_of
 same_findings app lists declaration rows = rw (same_arrivals rows) refl
 

@@ -40,7 +40,7 @@ pub fn story_in<R: RuleSet, P: Places>(
 
 /// The rows of a table, found by whatever rules look for. The seed should be one that the author of the app
 /// does not know; nothing depends on it but the time.
-pub fn keyed(alloc: Global, table: &[Row], seed: u64) -> Result<HashedRows, Memory>
+fn keyed(alloc: Global, table: &[Row], seed: u64) -> Result<HashedRows, Memory>
     ensures { IfOk result (λ rows. AreSame rows table.now) }
 {
     let mut rows = HashedRows::new(alloc, seed);

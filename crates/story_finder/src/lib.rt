@@ -9,5 +9,5 @@ mod retelling;
 mod stored;
 mod wanted;
 
-pub use finding::{find_story, keyed, story_in};
+pub use finding::{find_story, story_in};
 pub use stored::Stored;
