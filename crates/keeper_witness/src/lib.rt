@@ -1,5 +1,5 @@
-//! Small facts about a keeper over a journal: what its calls do not come to. Each excludes code that does otherwise. This
-//! function does nothing; it is there for its contract.
+//! Small facts about a keeper over a journal and the disk below it: what their calls do not come to. Each excludes code
+//! that does otherwise. This function does nothing; it is there for its contract.
 #![tactic(auto)]
 
 ghost use Rattle.keeper_witness.specs.KeeperFacts.{KeepersTell};
