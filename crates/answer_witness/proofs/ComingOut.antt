@@ -27,7 +27,7 @@ large : (app : App) (lists : Lists) (declaration : Declaration) (c : Cause) (lim
     → judged_by app lists declaration (c ∷ []) (flows.TooLarge limit) ≡ record { outcome = Undecided (causes_too_large app limit) []; table = None } → ⊥
 large app lists declaration c limit same = one_more (causes_too_large app limit) c (ap (λ (j : Judged). causes_in j.outcome) same)
 
-not_both : (d : TableDefect Row) → let found : Option (TableDefect Row) = Some d in found ≡ None → ⊥
+not_both : (d : TableDefect) → let found : Option TableDefect = Some d in found ≡ None → ⊥
 not_both d same = cc
 
 pub apps_come_out : OneDefect → AppsComeOut

@@ -17,10 +17,10 @@ no_more app lists rows more (all_rows are few) = let none : ⊥ = omega (arith, 
 own_limit : (app : App) (lists : Lists) (limit : ℕ) → limit ≢ lists.rows → IsFlow app lists (TooLarge limit) → ⊥
 own_limit app lists limit other (too_large same more) = other same
 
-other_sort : (start row : Row) → let one : Option (TableDefect Row) = Some (At NoStart start) in one ≡ Some (At Stranger row) → ⊥
+other_sort : (start row : Row) → let one : Option TableDefect = Some (At NoStart start) in one ≡ Some (At Stranger row) → ⊥
 other_sort start row same = cc
 
-is_defect : (row : Row) → let one : Option (TableDefect Row) = Some (NotClosed row) in one ≡ None → ⊥
+is_defect : (row : Row) → let one : Option TableDefect = Some (NotClosed row) in one ≡ None → ⊥
 is_defect row same = cc
 
 pub flows_are_told : OneDefect → AllFlowsAreTold

@@ -17,7 +17,7 @@ use Rattle.verdict.specs.Outcome.{outcome_of}
 use Rattle.verdict.specs.Recheck.{RechecksTo}
 use Rattle.verdict.specs.Verdict.{judged_by}
 
-pub record ComesOut (app : App) (lists : Lists) (declaration : Declaration) (rows : List Row) (beside : Cause) (found : Finding) (defect : TableDefect Row) : Type 0 where
+pub record ComesOut (app : App) (lists : Lists) (declaration : Declaration) (rows : List Row) (beside : Cause) (found : Finding) (defect : TableDefect) : Type 0 where
   -- an app without a cause is flagged for what is found; it is neither clear nor undecided
   pub flagged : outcome_of [] (found ∷ []) ≡ Flagged (found ∷ [])
   -- an undecided app has its finding too; without the last there is none
@@ -29,4 +29,4 @@ pub record ComesOut (app : App) (lists : Lists) (declaration : Declaration) (row
   pub not_clear : IsTableDefect app lists rows defect → RechecksTo app lists declaration [] rows (By Clear) → ⊥
 
 abbrev pub AppsComeOut : Type 0
-AppsComeOut = (app : App) (lists : Lists) (declaration : Declaration) (rows : List Row) (beside : Cause) (found : Finding) (defect : TableDefect Row) → ComesOut app lists declaration rows beside found defect
+AppsComeOut = (app : App) (lists : Lists) (declaration : Declaration) (rows : List Row) (beside : Cause) (found : Finding) (defect : TableDefect) → ComesOut app lists declaration rows beside found defect

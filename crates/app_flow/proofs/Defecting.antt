@@ -6,13 +6,13 @@ use Rattle.std.specs.declared.cmp.Ordering.TheVariants.{Less, Equal, Greater}
 use Rattle.std.proofs.lemmas.List.{take_more}
 use Rattle.app_machine.specs.declared.app.App.{App}
 use Rattle.app_machine.specs.declared.lists.Lists.{Lists}
-use Rattle.cert_checker.specs.Defects.{LacksConsequence, IsDefect}
+use Rattle.cert_checker.specs.Defects.{HasDefect}
 use Rattle.cert_checker.specs.Least.{FollowsFrom, IsLeastFailing}
 use Rattle.fact_rows.specs.declared.row.Row.{Row}
 use Rattle.fact_rows.specs.InApp.{InApp}
 use Rattle.fact_rows.specs.Order.{RowOrder, row_cmp}
 use Rattle.flow_rules.specs.Rules.{Each, Follows, Starts, GoodTable}
-use Rattle.rule_ground.specs.declared.conclusion.Conclusion.{Conclusion}
+use Rattle.rule_ground.specs.declared.conclusion.Inference.{Inference}
 use Rattle.rule_ground.specs.Hits.{Among}
 use Rattle.rule_sets.specs.Growing.{IsNew}
 use Rattle.vet_base.specs.Members.{In}
@@ -20,6 +20,7 @@ use Rattle.vet_base.proofs.Members.{in_front, in_back, in_either}
 use Rattle.vet_base.proofs.Orders.{turned}
 use Rattle.cert_checker.specs.declared.defect.TableDefect.{TableDefect}
 use Rattle.cert_checker.specs.declared.defect.RowDefect.{RowDefect}
+use Rattle.cert_checker.specs.declared.defect.Lack.TheVariants as lacks
 use Rattle.cert_checker.specs.declared.defect.RowDefect.TheVariants.{Stranger, NoStart}
 use Rattle.cert_checker.specs.declared.defect.TableDefect.TheVariants.{At, NotClosed}
 use Rattle.app_flow.specs.Defect.{SameRows, LacksStart, IsNotClosed, IsChecked, OneDefect}
@@ -45,7 +46,7 @@ module _ (app : App) (lists : Lists) (rows : List Row) where
   all_closed : (row : Row) → IsNotClosed app lists rows row → GoodTable app lists rows → ⊥
   all_closed row open_at good = let due = open_at.lacks.due in open_at.lacks.fails (good.closed due.0 due.1.0 row due.1.1.0 due.1.1.1)
 
-  one_of : RowOrder → (one other : Option (TableDefect Row)) → IsChecked app lists rows one → IsChecked app lists rows other → one ≡ other
+  one_of : RowOrder → (one other : Option TableDefect) → IsChecked app lists rows one → IsChecked app lists rows other → one ≡ other
   one_of order None None a b = refl
   one_of order None (Some (At Stranger x)) a b = absurd (all_there x b a.in_app)
   one_of order None (Some (At NoStart x)) a b = absurd (all_started x b a.starts)
@@ -67,12 +68,12 @@ pub one_defect : RowOrder → OneDefect
 one_defect order app lists rows one other a b = one_of app lists rows order one other a b
 
 -- what the checker says of an app's rows
-pub at_is : (app : App) (lists : Lists) (rows : List Row) (what : RowDefect) (row : Row) → IsDefect (Follows app lists) (Starts app) (InApp app lists) rows (At what row) → IsChecked app lists rows (Some (At what row))
+pub at_is : (app : App) (lists : Lists) (rows : List Row) (what : RowDefect) (row : Row) → HasDefect (Follows app lists) (Starts app) (InApp app lists) rows row (lacks.At what) → IsChecked app lists rows (Some (At what row))
 at_is app lists rows Stranger row strange = strange
 at_is app lists rows NoStart row lacking = record { in_app = lacking.in_app; lacks = lacking.lacks }
 
-pub consequence_is : (app : App) (lists : Lists) (rows : List Row) (c : Conclusion) → LacksConsequence (Follows app lists) (Starts app) (InApp app lists) rows c → IsChecked app lists rows (Some (NotClosed c.row))
-consequence_is app lists rows c lacking = record { in_app = lacking.in_app; starts = lacking.starts; lacks = lacking.lacks.least }
+pub consequence_is : (app : App) (lists : Lists) (rows : List Row) (row : Row) (by : Inference) → HasDefect (Follows app lists) (Starts app) (InApp app lists) rows row (lacks.NotClosed by) → IsChecked app lists rows (Some (NotClosed row))
+consequence_is app lists rows row by lacking = record { in_app = lacking.in_app; starts = lacking.starts; lacks = lacking.lacks.least }
 
 -- one row more of a list, and of the rows that have their keys
 pub one_more : (rows : List Row) (i : ℕ) (row : Row) (old new : List Row) (fresh : Bool) → i < length rows → row ≡ get_or rows i row →
@@ -115,7 +116,7 @@ module _ (app : App) (lists : Lists) (rows others : List Row) (same : SameRows r
   follows_on : (x : Row) → FollowsFrom (Follows app lists) rows x → FollowsFrom (Follows app lists) others x
   follows_on x due = (due.0, (due.1.0, (due.1.1.0, each_there (Among rows) (Among others) (λ y. (same y).0) due.1.0 due.1.1.1)))
 
-  pub moved_checked : (found : Option (TableDefect Row)) → IsChecked app lists rows found → IsChecked app lists others found
+  pub moved_checked : (found : Option TableDefect) → IsChecked app lists rows found → IsChecked app lists others found
   moved_checked None good = record {
     in_app = λ x there. good.in_app x ((same x).1 there);
     starts = λ x start. (same x).0 (good.starts x start);
@@ -145,7 +146,7 @@ module _ (app : App) (lists : Lists) (rows others : List Row) (same : SameRows r
   }
 
 -- and so are rows of an app and lists that are the same
-pub checked_as : (app same_app : App) (lists same_lists : Lists) (rows : List Row) (found : Option (TableDefect Row)) → same_app ≡ app → same_lists ≡ lists → IsChecked same_app same_lists rows found → IsChecked app lists rows found
+pub checked_as : (app same_app : App) (lists same_lists : Lists) (rows : List Row) (found : Option TableDefect) → same_app ≡ app → same_lists ≡ lists → IsChecked same_app same_lists rows found → IsChecked app lists rows found
 checked_as app same_app lists same_lists rows found is_app is_lists checked =
     let first : IsChecked app same_lists rows found = subst (λ (a : App). IsChecked a same_lists rows found) is_app checked in
     subst (λ (ls : Lists). IsChecked app ls rows found) is_lists first

@@ -28,16 +28,16 @@ pub record IsNotClosed (app : App) (lists : Lists) (rows : List Row) (row : Row)
   pub lacks : IsLeastFailing (FollowsFrom (Follows app lists) rows) (Among rows) row
 
 -- the first of the three that holds, with the least row of which it does
-abbrev pub IsTableDefect : App → Lists → List Row → TableDefect Row → Type 0
+abbrev pub IsTableDefect : App → Lists → List Row → TableDefect → Type 0
 IsTableDefect app lists rows (At Stranger row) = IsLeastFailing (Among rows) (InApp app lists) row
 IsTableDefect app lists rows (At NoStart row) = LacksStart app lists rows row
 IsTableDefect app lists rows (NotClosed row) = IsNotClosed app lists rows row
 
 -- the rows are a good table, or have the defect
-abbrev pub IsChecked : App → Lists → List Row → Option (TableDefect Row) → Type 0
+abbrev pub IsChecked : App → Lists → List Row → Option TableDefect → Type 0
 IsChecked app lists rows None = GoodTable app lists rows
 IsChecked app lists rows (Some defect) = IsTableDefect app lists rows defect
 
 -- rows are a good table or have one defect, and not both
 abbrev pub OneDefect : Type 0
-OneDefect = (app : App) (lists : Lists) (rows : List Row) (one other : Option (TableDefect Row)) → IsChecked app lists rows one → IsChecked app lists rows other → one ≡ other
+OneDefect = (app : App) (lists : Lists) (rows : List Row) (one other : Option TableDefect) → IsChecked app lists rows one → IsChecked app lists rows other → one ≡ other

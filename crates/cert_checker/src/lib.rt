@@ -12,5 +12,5 @@ mod least;
 mod starts;
 
 pub use checking::{check, check_with};
-pub use defect::{RowDefect, TableDefect};
+pub use defect::{FoundDefect, Lack, RowDefect, TableDefect};
 pub use starts::missing_start;

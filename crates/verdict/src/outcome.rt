@@ -62,7 +62,7 @@ pub enum Rechecked {
     /// The parts are refused, whatever the rows are.
     Refused(Part, Reason),
     /// The rows are no good table of the app.
-    Defect(TableDefect<Row>),
+    Defect(TableDefect),
     /// They are one, and say this of the app.
     By(Outcome),
 }

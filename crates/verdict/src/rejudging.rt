@@ -27,7 +27,7 @@ fn rechecked_by(
     alloc: Global,
     linked: &Linked,
     rows: &[Row],
-    found: Option<TableDefect<Row>>,
+    found: Option<TableDefect>,
 ) -> Result<Rechecked, Memory>
     requires sound { SoundApp linked.now.app }
     requires found { IsChecked linked.now.app linked.now.papers.lists rows.now found }

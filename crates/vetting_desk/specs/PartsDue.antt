@@ -33,7 +33,7 @@ pub data Certifies (path : List ℕ) (parts : Parts) : Due → Type 0 where
   table : (outcome : Outcome) (rows : List Row) (bytes : List ℕ) → Judgement parts (record { outcome = outcome; table = Some rows }) → IsCert bytes (digest_of parts) rows → Certifies path parts (certified outcome path bytes)
 
 -- a certificate is refused with the defect of its table
-abbrev pub refusal_of : TableDefect Row → CertRefusal
+abbrev pub refusal_of : TableDefect → CertRefusal
 refusal_of (At Stranger row) = refusals.Stranger row
 refusal_of (At NoStart row) = refusals.NoStart row
 refusal_of (NotClosed row) = refusals.NotClosed row

@@ -116,7 +116,7 @@ pub fn certified<T: Threads + Wait + Sync, L: Lookout>(
 }
 
 /// Why the certificate of a table with this defect is refused.
-fn refusal_for(defect: TableDefect<Row>) -> CertRefusal
+fn refusal_for(defect: TableDefect) -> CertRefusal
     ensures { result ≡ refusal_of defect }
 {
     match defect {
