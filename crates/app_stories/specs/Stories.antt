@@ -27,7 +27,8 @@ AreStories Rule Start (row ∷ rows) (story ∷ stories) = TellsOf Rule Start ro
 AreStories Rule Start _ _ = ⊥
 
 -- for each of the findings, in their order, a story of the first of the rows that tells it
-pub record AreStoriesOf (app : App) (lists : Lists) (declaration : Declaration) (rows : List Row) (findings : List Finding) (stories : List Story) : Type 0 where
+pub record AreStoriesOf (app : App) (lists : Lists) (declaration : Declaration) (rows : List Row)
+    (findings : List Finding) (stories : List Story) : Type 0 where
   pub goals : List Row
   pub first : AreFirstArrivals app lists declaration rows findings goals
   pub told : AreStories (Follows app lists) (Starts app) goals stories
@@ -46,7 +47,8 @@ pub data Tells (parts : Parts) : Outcome → Option (List Story) → Type 0 wher
 -- what is told of a linked app by what it comes to
 abbrev pub StoriesBy : Linked → Outcome → Option (List Row) → Option (List Story) → Type 0
 StoriesBy linked outcome None None = Unit {0}
-StoriesBy linked outcome (Some rows) (Some stories) = AreStoriesOf linked.app linked.papers.lists linked.papers.declaration rows (findings_in outcome) stories
+StoriesBy linked outcome (Some rows) (Some stories) =
+    AreStoriesOf linked.app linked.papers.lists linked.papers.declaration rows (findings_in outcome) stories
 StoriesBy linked outcome _ _ = ⊥
 
 abbrev pub HasStories : Linked → Judged → Option (List Story) → Type 0
@@ -54,7 +56,9 @@ HasStories linked judged stories = StoriesBy linked judged.outcome judged.table 
 
 pub record ComesToStories (linked : Linked) (outcome : Outcome) (stories : Option (List Story)) : Type 0 where
   pub table : Option (List Row)
-  pub comes : ComesTo linked.app linked.papers.lists linked.papers.declaration (causes_beside linked) (record { outcome = outcome; table = table })
+  pub comes :
+      ComesTo linked.app linked.papers.lists linked.papers.declaration (causes_beside linked)
+      (record { outcome = outcome; table = table })
   pub told : StoriesBy linked outcome table stories
 
 -- the parts come to one thing

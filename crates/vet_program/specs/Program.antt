@@ -26,8 +26,8 @@ task_in None words = Vetting words
 abbrev pub task_of : List (List ℕ) → Task
 task_of words = task_in (parse_submit words) (parse_vetting words)
 
--- A vetting ends as is due to its words, and only so; clear is of a safe app, by its status and where it is printed or handed
--- over; and what is found leaves out nothing. So much was heard of the files before and after.
+-- A vetting ends as is due to its words, and only so; clear is of a safe app, by its status and where it is printed or
+-- handed over; and what is found leaves out nothing. So much was heard of the files before and after.
 pub record Vets (words : Option Words) (old new : Outside) (ho hn : List Entry) (status : ℕ) : Type 0 where
   pub ends : EndsAsDue words old new status
   pub only : EndsAsOnlyDue words old new status
@@ -46,8 +46,8 @@ Runs (Submitting asked) old new status = Ends asked old new status
 Runs (Vetting words) old new status =
     Vets words (vetted_of old) (vetted_of new) old.heard new.heard status × (new.io.dials ≡ old.io.dials)
 
--- The words as the system gives them: where memory ran out while they were read, this is the end; words that cannot be read
--- otherwise are none.
+-- The words as the system gives them: where memory ran out while they were read, this is the end; words that cannot be
+-- read otherwise are none.
 abbrev pub RunsGiven : Result (Vec (String Global) Global) Error → (List (List ℕ) → Type 0) → Type 0 → Type 0
 RunsGiven (Ok words) RunsFor NoMemory = RunsFor (map string_bytes words.items)
 RunsGiven (Err e) RunsFor NoMemory =

@@ -1,4 +1,5 @@
--- What is due to the words, and how far that is one thing; when it says clear, and what clear says; and which files a command reads.
+-- What is due to the words, and how far that is one thing; when it says clear, and what clear says; and which files a
+-- command reads.
 use Rattle.std.specs.Prelude.{◌≡◌, ◌⊎◌, ◌++◌, ℕ, List, length, Option, Some, None, IsTrue, is_some, codes}
 use Rattle.std.specs.Option.{option_map}
 use Rattle.vet_base.specs.Outside.{Told, held_by}
@@ -25,8 +26,8 @@ use Rattle.vetting_desk.specs.PartsDue.{Certifies, Rechecks, Retells}
 use Rattle.vetting_desk.specs.Made.{made_parts}
 use Rattle.app_folder.specs.Outside.{Tells}
 
--- What is due to a generated app with so many drawn methods that has so many rows and comes to this: a summary, or the report that it
--- is refused.
+-- What is due to a generated app with so many drawn methods that has so many rows and comes to this: a summary, or the
+-- report that it is refused.
 abbrev pub due_to_made : ℕ → Option ℕ → Outcome → Due
 due_to_made size rows Clear = summarised size rows Clear
 due_to_made size rows (Flagged fs) = summarised size rows (Flagged fs)
@@ -36,14 +37,29 @@ due_to_made size rows (Refused part reason) = reported (Refused part reason)
 -- What is due to the words where the outside tells this: one constructor a command.
 pub data Answers (words : Option Words) (tells : Tells) : Due → Type 0 where
   no_command : words ≡ None → Answers words tells usage
-  check : (dir : List ℕ) (n : ℕ) (due : Due) → words ≡ Some (Check dir n) → FolderDue Checks dir tells.files due → Answers words tells due
-  certify : (dir cert : List ℕ) (due : Due) → words ≡ Some (Certify dir cert) → FolderDue (Certifies cert) dir tells.files due → Answers words tells due
-  recheck : (dir cert : List ℕ) (due : Due) → words ≡ Some (Recheck dir cert) → FolderDue (Rechecks cert tells.files) dir tells.files due → Answers words tells due
-  story : (dir : List ℕ) (due : Due) → words ≡ Some (Story dir) → FolderDue Retells dir tells.files due → Answers words tells due
-  make : (seed size n : ℕ) (judged : Judged) → words ≡ Some (Make seed size n) → Judgement (made_parts seed size) judged → Answers words tells (due_to_made size (option_map (λ rows. length rows) judged.table) judged.outcome)
+  check : (dir : List ℕ) (n : ℕ) (due : Due) →
+      words ≡ Some (Check dir n) →
+      FolderDue Checks dir tells.files due →
+      Answers words tells due
+  certify : (dir cert : List ℕ) (due : Due) →
+      words ≡ Some (Certify dir cert) →
+      FolderDue (Certifies cert) dir tells.files due →
+      Answers words tells due
+  recheck : (dir cert : List ℕ) (due : Due) →
+      words ≡ Some (Recheck dir cert) →
+      FolderDue (Rechecks cert tells.files) dir tells.files due →
+      Answers words tells due
+  story : (dir : List ℕ) (due : Due) →
+      words ≡ Some (Story dir) →
+      FolderDue Retells dir tells.files due →
+      Answers words tells due
+  make : (seed size n : ℕ) (judged : Judged) →
+      words ≡ Some (Make seed size n) →
+      Judgement (made_parts seed size) judged →
+      Answers words tells (due_to_made size (option_map (λ rows. length rows) judged.table) judged.outcome)
 
--- Of two that are due to the words the one is the other; where stories are asked for, the one has right stories, and but for them is
--- the other.
+-- Of two that are due to the words the one is the other; where stories are asked for, the one has right stories, and
+-- but for them is the other.
 abbrev pub Alike : Option Words → Tells → Due → Due → Type 0
 Alike None tells one other = one ≡ other
 Alike (Some (Check dir n)) tells one other = one ≡ other
@@ -52,8 +68,8 @@ Alike (Some (Recheck dir cert)) tells one other = one ≡ other
 Alike (Some (Story dir)) tells one other = FolderDue Retells dir tells.files one × SameButStories one other
 Alike (Some (Make seed size n)) tells one other = one ≡ other
 
--- The soundness of `clear`: these parts make a safe app. The first reads of this call gave them, whatever the files are; and where
--- the files of the folder are told, they hold these parts.
+-- The soundness of `clear`: these parts make a safe app. The first reads of this call gave them, whatever the files
+-- are; and where the files of the folder are told, they hold these parts.
 pub record HasSafeApp (dir : List ℕ) (told : Option Told) (old new : List Entry) : Type 0 where
   pub parts : Parts
   pub gave : GaveParts old new dir parts
@@ -95,9 +111,11 @@ IsSafe (Some (Make seed size n)) tells old new = IsSafeApp (made_parts seed size
 abbrev pub ComesByRows : Parts → Outcome → Type 0
 ComesByRows parts outcome = (rows : List Row) × Rejudgement parts rows (By outcome)
 
--- The text is the report of what these parts come to, which leaves out nothing that a run of their app does, unless the app is
--- too large. The first reads of this call gave these parts; and where the files of the folder are told, they hold them.
-pub record HasFullReport (Comes : Parts → Outcome → Type 0) (dir : List ℕ) (told : Option Told) (old new : List Entry) (n : ℕ) (printed : List ℕ) : Type 0 where
+-- The text is the report of what these parts come to, which leaves out nothing that a run of their app does, unless the
+-- app is too large. The first reads of this call gave these parts; and where the files of the folder are told, they
+-- hold them.
+pub record HasFullReport (Comes : Parts → Outcome → Type 0) (dir : List ℕ) (told : Option Told) (old new : List Entry)
+    (n : ℕ) (printed : List ℕ) : Type 0 where
   pub parts : Parts
   pub gave : GaveParts old new dir parts
   pub holds : IsTrue (is_some told) → Holds (held_by told) dir parts
@@ -108,7 +126,8 @@ pub record HasFullReport (Comes : Parts → Outcome → Type 0) (dir : List ℕ)
   pub tells : IsFollowed outcome → TellsOfApp parts outcome
 
 -- The same of what these parts come to by their judgement, with the stories of the findings behind it.
-pub record HasFullStories (dir : List ℕ) (told : Option Told) (old new : List Entry) (n : ℕ) (printed : List ℕ) : Type 0 where
+pub record HasFullStories (dir : List ℕ) (told : Option Told) (old new : List Entry) (n : ℕ) (printed : List ℕ)
+    : Type 0 where
   pub parts : Parts
   pub gave : GaveParts old new dir parts
   pub holds : IsTrue (is_some told) → Holds (held_by told) dir parts
@@ -132,8 +151,10 @@ SaysFound (Some (Make seed size n)) status = ⊥
 abbrev pub IsFullReport : Option Words → Tells → List Entry → List Entry → ℕ → List ℕ → Type 0
 IsFullReport None tells old new status text = ⊥
 IsFullReport (Some (Check dir n)) tells old new status text = HasFullReport Verdict dir tells.files old new status text
-IsFullReport (Some (Certify dir cert)) tells old new status text = HasFullReport Verdict dir tells.files old new status text
-IsFullReport (Some (Recheck dir cert)) tells old new status text = HasFullReport ComesByRows dir tells.files old new status text
+IsFullReport (Some (Certify dir cert)) tells old new status text =
+    HasFullReport Verdict dir tells.files old new status text
+IsFullReport (Some (Recheck dir cert)) tells old new status text =
+    HasFullReport ComesByRows dir tells.files old new status text
 IsFullReport (Some (Story dir)) tells old new status text = HasFullStories dir tells.files old new status text
 IsFullReport (Some (Make seed size n)) tells old new status text = ⊥
 

@@ -42,7 +42,11 @@ usage = record { status = 4; text = usage_text; written = None }
 
 -- due where a certificate is asked for besides
 abbrev pub certified : Outcome → List ℕ → List ℕ → Due
-certified outcome path bytes = record { status = status_of outcome; text = report_text outcome; written = Some (path, bytes) }
+certified outcome path bytes = record {
+  status = status_of outcome;
+  text = report_text outcome;
+  written = Some (path, bytes);
+}
 
 -- due where the file of a certificate is not there, and where it is too long
 abbrev pub no_certificate : List ℕ → Due
@@ -71,11 +75,17 @@ pub record SameButStories (one other : Due) : Type 0 where
   pub second : Option (List Story)
   pub one_is : one ≡ storied outcome first
   pub other_is : other ≡ storied outcome second
-  pub as_many : option_map (λ (stories : List Story). length stories) first ≡ option_map (λ (stories : List Story). length stories) second
+  pub as_many :
+      option_map (λ (stories : List Story). length stories) first
+      ≡ option_map (λ (stories : List Story). length stories) second
 
 -- due to a generated app: the summary
 abbrev pub summarised : ℕ → Option ℕ → Outcome → Due
-summarised size rows outcome = record { status = status_of outcome; text = summary_text size rows outcome; written = None }
+summarised size rows outcome = record {
+  status = status_of outcome;
+  text = summary_text size rows outcome;
+  written = None;
+}
 
 abbrev pub due_of : Answer → Due
 due_of Usage = usage

@@ -34,7 +34,8 @@ use Rattle.vetting_desk.specs.PartsDue.{digest_of, Rechecks, Retells}
 use Rattle.app_folder.specs.Outside.{Tells, TellsInput}
 use Rattle.app_folder.specs.Reading.{TellsRead, SameFiles}
 
--- The text is the report of what the parts come to, which leaves out nothing that a run of their app does, unless it is too large.
+-- The text is the report of what the parts come to, which leaves out nothing that a run of their app does, unless it is
+-- too large.
 pub record ReportsAll (Comes : Parts → Outcome → Type 0) (parts : Parts) (due : Due) : Type 0 where
   pub outcome : Outcome
   pub comes : Comes parts outcome
@@ -42,9 +43,10 @@ pub record ReportsAll (Comes : Parts → Outcome → Type 0) (parts : Parts) (du
   pub text : due.text ≡ report_text outcome
   pub tells : IsFollowed outcome → TellsOfApp parts outcome
 
--- What is found of parts of which this is asked: what is due, and, where it is sure, that nothing else is; that clear is sound, and that
--- flagged and undecided leave out nothing.
-pub record FindsOfParts (Sure : Type 0) (PartsDue : Parts → Due → Type 0) (Comes : Parts → Outcome → Type 0) (parts : Parts) (due : Due) : Type 0 where
+-- What is found of parts of which this is asked: what is due, and, where it is sure, that nothing else is; that clear
+-- is sound, and that flagged and undecided leave out nothing.
+pub record FindsOfParts (Sure : Type 0) (PartsDue : Parts → Due → Type 0) (Comes : Parts → Outcome → Type 0)
+    (parts : Parts) (due : Due) : Type 0 where
   pub is : PartsDue parts due
   pub only : Sure → (other : Due) → PartsDue parts other → other ≡ due
   pub safe : due.status ≡ 0 → IsSafeApp parts
@@ -59,8 +61,8 @@ pub record ReportsStories (parts : Parts) (due : Due) : Type 0 where
   pub text : due.text ≡ storied_text outcome stories
   pub tells : IsFollowed outcome → TellsOfApp parts outcome
 
--- What is found of parts of which stories are asked for: what is due, and that nothing else is but other stories; that clear is sound, and
--- that flagged and undecided leave out nothing.
+-- What is found of parts of which stories are asked for: what is due, and that nothing else is but other stories; that
+-- clear is sound, and that flagged and undecided leave out nothing.
 pub record FindsStories (parts : Parts) (due : Due) : Type 0 where
   pub is : Retells parts due
   pub only : (other : Due) → Retells parts other → SameButStories due other
@@ -70,9 +72,11 @@ pub record FindsStories (parts : Parts) (due : Due) : Type 0 where
 -- the report, with the certificate of the table where there is one
 abbrev pub CertifiedAs : List ℕ → Parts → Outcome → Option (List Row) → Due → Type 0
 CertifiedAs path parts outcome None due = due ≡ reported outcome
-CertifiedAs path parts outcome (Some rows) due = (bytes : List ℕ) × IsCert bytes (digest_of parts) rows × (due ≡ certified outcome path bytes)
+CertifiedAs path parts outcome (Some rows) due =
+    (bytes : List ℕ) × IsCert bytes (digest_of parts) rows × (due ≡ certified outcome path bytes)
 
--- the due to the words, with that each is alike, and with what it says of the app, where so much was heard of the files before and after
+-- the due to the words, with that each is alike, and with what it says of the app, where so much was heard of the files
+-- before and after
 pub record TheDue (words : Option Words) (tells : Tells) (old new : List Entry) (due : Due) : Type 0 where
   pub answers : Answers words tells due
   pub only : TellsInput tells → (other : Due) → Answers words tells other → Alike words tells due other
@@ -92,14 +96,18 @@ pub record ReadFails (words : Option Words) (old new : Option Told) (before afte
   pub kept : SameFiles old new
 
 abbrev pub IsFound : Option Words → Option Told → Option Told → ℕ → ℕ → List Entry → List Entry → Found → Type 0
-IsFound words old new before after ho hn (Said answer) = FindsDue words old ho hn (due_of answer) × (new ≡ old) × (after ≡ before)
+IsFound words old new before after ho hn (Said answer) =
+    FindsDue words old ho hn (due_of answer) × (new ≡ old) × (after ≡ before)
 IsFound words old new before after ho hn (ReadFault name) = ReadFails words old new before after (string_bytes name)
 IsFound words old new before after ho hn Memory = (new ≡ old) × (after ≡ before)
 
 -- what is found of parts by the certificate in a file
 abbrev pub FindsByFile : List ℕ → Parts → Option Told → Option Told → ℕ → ℕ → Found → Type 0
-FindsByFile path parts old new before after (Said answer) = FindsOfParts (IsTrue (is_some old)) (Rechecks path old) ComesByRows parts (due_of answer) × (new ≡ old) × (after ≡ before)
-FindsByFile path parts old new before after (ReadFault name) = (string_bytes name ≡ path) × HasRisen before after × TellsRead new (string_bytes name) × SameFiles old new
+FindsByFile path parts old new before after (Said answer) =
+    FindsOfParts (IsTrue (is_some old)) (Rechecks path old) ComesByRows parts (due_of answer) × (new ≡ old)
+    × (after ≡ before)
+FindsByFile path parts old new before after (ReadFault name) =
+    (string_bytes name ≡ path) × HasRisen before after × TellsRead new (string_bytes name) × SameFiles old new
 FindsByFile path parts old new before after Memory = (new ≡ old) × (after ≡ before)
 
 -- an answer was found, unless memory ran out

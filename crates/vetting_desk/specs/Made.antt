@@ -12,7 +12,13 @@ use Rattle.verdict.specs.Outcome.{findings_in}
 
 -- the parts of the app that is drawn from a seed, with so many drawn methods; it is judged by the sample lists
 unfoldable pub made_parts : ℕ → ℕ → Parts
-made_parts seed size = record { manifest = manifest_text; layouts = []; declaration = []; lists = lists_text; dex = dex_bytes (made seed size) ∷ [] }
+made_parts seed size = record {
+  manifest = manifest_text;
+  layouts = [];
+  declaration = [];
+  lists = lists_text;
+  dex = dex_bytes (made seed size) ∷ [];
+}
 
 -- the word of an outcome
 unfoldable pub outcome_word : Outcome → List ℕ
@@ -29,4 +35,5 @@ rows_text None = codes "over 4000000"
 -- the four lines: the methods, the rows, the findings and the word
 unfoldable pub summary_text : ℕ → Option ℕ → Outcome → List ℕ
 summary_text size rows outcome =
-    codes "methods " ++ decimal (size + 1) ++ codes "\nrows " ++ rows_text rows ++ codes "\nfindings " ++ decimal (length (findings_in outcome)) ++ codes "\n" ++ outcome_word outcome ++ codes "\n"
+    codes "methods " ++ decimal (size + 1) ++ codes "\nrows " ++ rows_text rows
+    ++ codes "\nfindings " ++ decimal (length (findings_in outcome)) ++ codes "\n" ++ outcome_word outcome ++ codes "\n"

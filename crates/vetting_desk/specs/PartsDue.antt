@@ -1,4 +1,5 @@
--- What is due to parts that are certified, to parts that are checked by a certificate, and to parts of which stories are told.
+-- What is due to parts that are certified, to parts that are checked by a certificate, and to parts of which stories
+-- are told.
 use Rattle.std.specs.Prelude.{◌≡◌, ◌≢◌, ◌≤◌, ◌<◌, ℕ, List, ◌∷◌, length, Option, Some, None, IsSomeAnd, IsTrue, is_some}
 use Rattle.sha2.specs.Sha256.{sha256}
 use Rattle.vet_base.specs.Outside.{Told, held_by}
@@ -29,8 +30,13 @@ digest_of parts = sha256 (parts_bytes (parts.manifest ∷ parts.layouts ∷ part
 
 -- Parts that are certified: the report, and where there is a table the certificate of it.
 pub data Certifies (path : List ℕ) (parts : Parts) : Due → Type 0 where
-  no_table : (outcome : Outcome) → Judgement parts (record { outcome = outcome; table = None }) → Certifies path parts (reported outcome)
-  table : (outcome : Outcome) (rows : List Row) (bytes : List ℕ) → Judgement parts (record { outcome = outcome; table = Some rows }) → IsCert bytes (digest_of parts) rows → Certifies path parts (certified outcome path bytes)
+  no_table : (outcome : Outcome) →
+      Judgement parts (record { outcome = outcome; table = None }) →
+      Certifies path parts (reported outcome)
+  table : (outcome : Outcome) (rows : List Row) (bytes : List ℕ) →
+      Judgement parts (record { outcome = outcome; table = Some rows }) →
+      IsCert bytes (digest_of parts) rows →
+      Certifies path parts (certified outcome path bytes)
 
 -- a certificate is refused with the defect of its table
 abbrev pub refusal_of : TableDefect → CertRefusal
@@ -44,11 +50,20 @@ rechecked (rechecks.Refused part reason) = reported (outcomes.Refused part reaso
 rechecked (rechecks.Defect defect) = uncertified (refusal_of defect)
 rechecked (rechecks.By outcome) = reported outcome
 
--- Parts that are checked by a certificate of these bytes: its reading, its digest, and then what its table makes of the parts.
+-- Parts that are checked by a certificate of these bytes: its reading, its digest, and then what its table makes of the
+-- parts.
 pub data RechecksBy (bytes : List ℕ) (parts : Parts) : Due → Type 0 where
-  unread : (fault : CertFault) → FirstCertFault bytes fault → RechecksBy bytes parts (uncertified (refusals.Fault fault))
-  other_digest : (digest : List ℕ) (rows : List Row) → IsCert bytes digest rows → digest ≢ digest_of parts → RechecksBy bytes parts (uncertified (refusals.Digest digest (digest_of parts)))
-  judged : (rows : List Row) (r : Rechecked) → IsCert bytes (digest_of parts) rows → Rejudgement parts rows r → RechecksBy bytes parts (rechecked r)
+  unread : (fault : CertFault) →
+      FirstCertFault bytes fault →
+      RechecksBy bytes parts (uncertified (refusals.Fault fault))
+  other_digest : (digest : List ℕ) (rows : List Row) →
+      IsCert bytes digest rows →
+      digest ≢ digest_of parts →
+      RechecksBy bytes parts (uncertified (refusals.Digest digest (digest_of parts)))
+  judged : (rows : List Row) (r : Rechecked) →
+      IsCert bytes (digest_of parts) rows →
+      Rejudgement parts rows r →
+      RechecksBy bytes parts (rechecked r)
 
 -- where the files are told, the file of this name is so
 abbrev pub FileTold : Option Told → List ℕ → (Option (List ℕ) → Type 0) → Type 0
@@ -57,9 +72,17 @@ FileTold told name P = IsTrue (is_some told) → P (held_by told name)
 -- Parts that are checked by the certificate in a file: the file is absent, or too long, or read.
 pub data Rechecks (path : List ℕ) (told : Option Told) (parts : Parts) : Due → Type 0 where
   absent : FileTold told path (λ file. file ≡ None) → Rechecks path told parts (no_certificate path)
-  too_long : FileTold told path (λ file. IsSomeAnd file (λ bytes. 536870912 < length bytes)) → Rechecks path told parts (long_certificate path)
-  read : (bytes : List ℕ) (due : Due) → FileTold told path (λ file. file ≡ Some bytes) → length bytes ≤ 536870912 → RechecksBy bytes parts due → Rechecks path told parts due
+  too_long :
+      FileTold told path (λ file. IsSomeAnd file (λ bytes. 536870912 < length bytes)) →
+      Rechecks path told parts (long_certificate path)
+  read : (bytes : List ℕ) (due : Due) →
+      FileTold told path (λ file. file ≡ Some bytes) →
+      length bytes ≤ 536870912 →
+      RechecksBy bytes parts due →
+      Rechecks path told parts due
 
 -- Parts of which stories are told: the report, and where there is a table a story of each finding.
 pub data Retells (parts : Parts) : Due → Type 0 where
-  stories : (outcome : Outcome) (stories : Option (List Story)) → Tells parts outcome stories → Retells parts (storied outcome stories)
+  stories : (outcome : Outcome) (stories : Option (List Story)) →
+      Tells parts outcome stories →
+      Retells parts (storied outcome stories)
