@@ -15,11 +15,15 @@ use Rattle.machine_witness.specs.Acts.{field_key}
 use Rattle.machine_witness.specs.Flows.{Scene, scene, own_box, with_id, and_post, by_field, activity_of}
 use Rattle.cell_rules.specs.Rules.{Follows}
 
--- The rows have the starts and are closed under all rules but those of one number, and there is a run of which they have no row
--- of an arrival.
+-- The rows have the starts and are closed under all rules but those of one number, and there is a run of which they
+-- have no row of an arrival.
 pub record MissesWithout (app : App) (lists : Lists) (left_out : ℕ) (has : Row → Type 0) : Type 0 where
   pub starts : (row : Row) → Starts app row → has row
-  pub closed : (rule : ℕ) (premises : List Row) (row : Row) → rule ≢ left_out → Follows app lists rule premises row → Each has premises → has row
+  pub closed : (rule : ℕ) (premises : List Row) (row : Row) →
+      rule ≢ left_out →
+      Follows app lists rule premises row →
+      Each has premises →
+      has row
   pub world : World
   pub frames : List Frame
   pub run : Run app lists world frames
@@ -33,10 +37,11 @@ at_once = scene (with_id (and_post 2 0)) []
 
 -- the object that holds it does
 abbrev pub in_object : Scene
-in_object = scene (with_id (step 2 (New 1 own_box None) (3 ∷ []) ∷ step 3 (Put 1 field_key 0) (4 ∷ []) ∷ and_post 4 1)) []
+in_object =
+    scene (with_id (step 2 (New 1 own_box None) (3 ∷ []) ∷ step 3 (Put 1 field_key 0) (4 ∷ []) ∷ and_post 4 1)) []
 
--- All rows but those that say of a label that it is in register x, that it is reached from an object, or that it arrives; and
--- those of cells only where `cells` holds.
+-- All rows but those that say of a label that it is in register x, that it is reached from an object, or that it
+-- arrives; and those of cells only where `cells` holds.
 abbrev pub Without : ℕ → Type 0 → Row → Type 0
 Without x cells (Label n r l) = r ≢ x
 Without x cells (CellLabel s k l) = cells
@@ -55,10 +60,7 @@ Unlabelled (Arrive l sink n) = ⊥
 Unlabelled row = Unit {0}
 
 -- without puts, without what is reached from an object, and without joined results
-pub record MissesWhatArrives : Type 0 where
+pub record LeavingOutARuleMisses : Type 0 where
   pub without_puts : MissesWithout (activity_of by_field) small_lists 8 (Without 2 ⊥)
   pub without_holds : MissesWithout (activity_of in_object) small_lists 14 (Without 1 (Unit {0}))
   pub without_joins : MissesWithout (activity_of at_once) small_lists 35 Unlabelled
-
-abbrev pub LeavingOutARuleMisses : Type 0
-LeavingOutARuleMisses = MissesWhatArrives

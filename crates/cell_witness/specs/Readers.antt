@@ -10,8 +10,8 @@ use Rattle.machine_witness.specs.Acts.{ints}
 use Rattle.machine_witness.specs.Flows.{tries, scene, activity_of}
 use Rattle.cell_rules.specs.Reading.{ReadAt}
 
--- Register 0 is posted, and where that raises it is returned behind the handler; else it is moved and overwritten, and what is
--- returned then is another value. Register 1 is the size of an array.
+-- Register 0 is posted, and where that raises it is returned behind the handler; else it is moved and overwritten, and
+-- what is returned then is another value. Register 1 is the size of an array.
 abbrev pub reading_steps : List Step
 reading_steps =
     step 0 Skip (1 ∷ [])
@@ -26,7 +26,7 @@ reading_steps =
 abbrev pub reading_app : App
 reading_app = activity_of (scene reading_steps [])
 
-pub record AreRead : Type 0 where
+pub record RegistersAreRead : Type 0 where
   pub here : ReadAt reading_app 0 0 1 1
   pub later : ReadAt reading_app 0 0 0 1
   -- the first reader does not end it
@@ -40,6 +40,3 @@ pub record AreRead : Type 0 where
   pub not_along_a_handler : ReadAt reading_app 0 exception_register 0 5 → ⊥
   -- the size of an array is read
   pub as_a_size : ReadAt reading_app 0 1 3 3
-
-abbrev pub RegistersAreRead : Type 0
-RegistersAreRead = AreRead
