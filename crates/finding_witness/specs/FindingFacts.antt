@@ -1,5 +1,5 @@
--- Arrivals in an app without methods: of category 0 at a sink of category 1, at the addresses 0 and 4. Behind each fact stands what
--- a slip would answer.
+-- Arrivals in an app without methods: of category 0 at a sink of category 1, at the addresses 0 and 4. Behind each fact
+-- stands what a slip would answer.
 use Rattle.std.specs.Prelude.{ℕ, List, [], ◌∷◌, codes}
 use Rattle.app_machine.specs.declared.app.App.{App}
 use Rattle.app_machine.specs.declared.lists.Lists.{Lists}
@@ -15,10 +15,27 @@ use Rattle.finding_rows.specs.Arrivals.{IsFirstArrival, Tells}
 use Rattle.app_stories.specs.Stories.{AreStoriesOf}
 
 unfoldable pub no_app : App
-no_app = record { classes = []; methods = []; keys = []; statics = []; components = []; clicks = []; providers = []; layout_classes = [] }
+no_app = record {
+  classes = [];
+  methods = [];
+  keys = [];
+  statics = [];
+  components = [];
+  clicks = [];
+  providers = [];
+  layout_classes = [];
+}
 
 abbrev pub two_categories : Lists
-two_categories = record { rows = 9; categories = codes "id" ∷ codes "net" ∷ []; classes = []; shared = []; methods = []; callbacks = []; statics = [] }
+two_categories = record {
+  rows = 9;
+  categories = codes "id" ∷ codes "net" ∷ [];
+  classes = [];
+  shared = [];
+  methods = [];
+  callbacks = [];
+  statics = [];
+}
 
 abbrev pub undeclared : Declaration
 undeclared = record { pairs = [] }
@@ -38,12 +55,20 @@ sent_at pc = record { source = codes "id"; sink = codes "net"; at = place_at no_
 
 pub record FindingsAreTold : Type 0 where
   -- an arrival at another place does not tell the finding (else the first of the pair is taken, whatever its place)
-  pub other_place : IsFirstArrival no_app two_categories undeclared (arrives 1 0 ∷ arrives 1 4 ∷ []) (sent_at 4) (arrives 1 0) → ⊥
+  pub other_place :
+      IsFirstArrival no_app two_categories undeclared (arrives 1 0 ∷ arrives 1 4 ∷ []) (sent_at 4) (arrives 1 0) →
+      ⊥
   -- nor does one in another context behind the first (else the last is taken)
-  pub later_context : IsFirstArrival no_app two_categories undeclared (arrives 1 4 ∷ arrives 2 4 ∷ []) (sent_at 4) (arrives 2 4) → ⊥
+  pub later_context :
+      IsFirstArrival no_app two_categories undeclared (arrives 1 4 ∷ arrives 2 4 ∷ []) (sent_at 4) (arrives 2 4) →
+      ⊥
   -- nor one of a declared pair
   pub of_declared : Tells no_app two_categories declared (sent_at 4) (arrives 1 4) → ⊥
   -- two findings have two stories (else one is left out where they share a row)
-  pub left_out : (rows : List Row) (story : List StoryLine) → AreStoriesOf no_app two_categories undeclared rows (sent_at 0 ∷ sent_at 4 ∷ []) (story ∷ []) → ⊥
+  pub left_out : (rows : List Row) (story : List StoryLine) →
+      AreStoriesOf no_app two_categories undeclared rows (sent_at 0 ∷ sent_at 4 ∷ []) (story ∷ []) →
+      ⊥
   -- and none of no finding (else one too many is told)
-  pub one_more : (rows : List Row) (story : List StoryLine) → AreStoriesOf no_app two_categories undeclared rows [] (story ∷ []) → ⊥
+  pub one_more : (rows : List Row) (story : List StoryLine) →
+      AreStoriesOf no_app two_categories undeclared rows [] (story ∷ []) →
+      ⊥

@@ -1,4 +1,5 @@
--- What calls of a keeper over a journal, and of the disk below it, do not come to. Behind each fact stands what a slip would do.
+-- What calls of a keeper over a journal, and of the disk below it, do not come to. Behind each fact stands what a slip
+-- would do.
 use Rattle.std.specs.Prelude.{◌≡◌, ◌+◌, ℕ, Bool, true, List, [], ◌∷◌, ◌++◌, Some, Ok, Err}
 use Rattle.disks.specs.Disks.{Told}
 use Rattle.gated_log.specs.declared.log.Gate.TheVariants.{Closed}
@@ -26,7 +27,9 @@ pub record KeepersTell : Type 0 where
   -- of a journal with a case no crash leaves an empty file (else it may be emptied and written anew)
   pub emptied : (case : Case) → HoldsUpTo (case ∷ []) NoOther [] → ⊥
   -- a change that failed is not among the cases (else it is listed)
-  pub refused : (case : Case) → told_after {X = Unit {0}} (changes.Add case) (Some []) (Err Failed) ≡ Some (case ∷ []) → ⊥
+  pub refused : (case : Case) →
+      told_after {X = Unit {0}} (changes.Add case) (Some []) (Err Failed) ≡ Some (case ∷ []) →
+      ⊥
   -- a failure without a cause is not counted (else a call may fail at will)
   pub counted : (disk own : ℕ) → CountsBy {X = Unit {0}} ⊥ disk disk own (own + 1) (Err Failed) → ⊥
   -- a record that is no change is told by its gate (else by its length)

@@ -59,7 +59,8 @@ pub record StoriesTell : Type 0 where
   pub beyond_all : Faulty (begin ∷ line 3 (One 4294967295) other ∷ []) 2
   -- a start has no premises (else rule 0 may have them)
   pub premised : Faulty (begin ∷ line 0 (One 1) start ∷ []) 2
-  -- premises stand in the order of the rule, and are no more (else any order serves, or what is too many is passed over)
+  -- premises stand in the order of the rule, and are no more (else any order serves, or what is too many is passed
+  -- over)
   pub ordered : Faulty (begin ∷ moved ∷ line 8 (Two 2 1) last ∷ []) 3
   pub one_more : Faulty (begin ∷ moved ∷ line 8 (Three 1 2 1) last ∷ []) 3
   -- the last line counts (else it is left unchecked)
