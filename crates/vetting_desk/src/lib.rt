@@ -1,5 +1,5 @@
-//! The vetting desk: the top call over the words of the command
-//! line, files and a sink, with the adapters of the system.
+//! The vetting desk: the top call over the words of the command line, files and a sink, with the adapters of the
+//! system.
 #![tactic(auto)]
 
 mod answer;

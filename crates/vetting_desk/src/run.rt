@@ -140,8 +140,8 @@ fn run<F: Files, O: Sink, T: Threads + Wait + Sync, L: Lookout>(
     finished(alloc, files, out, &found)
 }
 
-/// Runs the words over files, and prints the answer to a sink as
-/// one text that ends with one line feed and goes out in one put.
+/// Runs the words over files, and prints the answer to a sink as one text that ends with one line feed and goes out in
+/// one put.
 ///
 /// The words are `check DIR WORKERS`, which judges the app in a folder; `certify DIR CERT`, which also writes the table
 /// of what follows in the app to a file, as a certificate, before it prints; `recheck DIR CERT`, which judges the app
@@ -153,16 +153,16 @@ fn run<F: Files, O: Sink, T: Threads + Wait + Sync, L: Lookout>(
 /// The status is:
 /// - 0, clear: the folder that the words name gives the parts of an app that is safe, that is, no run of the machine
 ///   brings a value of a listed source to a listed sink unless the declaration names that pair, or comes to what is not
-///   modelled. Where the files tell what they hold, those parts are the files of the folder. For `make` the generated
-///   app is safe. The report is printed, as it is for 1 to 3, or the summary.
+///   modelled. The first reads of this call gave those parts, of any files; and where the files tell what they hold,
+///   they hold them. For `make` the generated app is safe. The report is printed, as it is for 1 to 3, or the summary.
 /// - 1, flagged: a value of a source may come to a sink, and the declaration does not name the pair.
 /// - 2, undecided: a run may come to what is not modelled, or the app is too large.
 /// - 3, refused: a file is absent or too long, that of the certificate too, or the parts are no app.
 /// - 4: the words are no command. A line that says so is printed.
 /// - 5: a read of a file of this command failed in this call. A line with the file's name is printed.
 /// - 6: the put failed in this call, and a front of the text that was due was printed; where that has the word `clear`,
-///   the app is safe as for 0. Or the write of the certificate
-///   failed in this call, its file has its old bytes or a front of the new ones, and nothing was printed.
+///   the app is safe as for 0. Or the write of the certificate failed in this call, its file has its old bytes or a
+///   front of the new ones, and nothing was printed.
 /// - 7: memory ran out, or a hostile app would list more than is allowed, which is answered alike. Nothing was
 ///   printed; a certificate that was due is written or not.
 /// - 9: the certificate is refused: its bytes are none, or it is about other files, or its table is no table of the app
