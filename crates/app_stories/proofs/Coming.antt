@@ -3,7 +3,7 @@ use Rattle.std.proofs.Common.{◌≡◌, List, [], ◌∷◌, ◌++◌, Option, 
 use Rattle.std.proofs.lemmas.Option.{none-some, same_Some}
 use Rattle.app_flow.specs.declared.flow.Flow.{Flow}
 use Rattle.app_flow.specs.declared.flow.Flow.TheVariants.{Rows, TooLarge}
-use Rattle.app_flow.specs.Flow.{AreDerivable, IsFlow, all_rows, too_large}
+use Rattle.app_flow.specs.Flow.{AreDerivable, IsFlow, all_rows}
 use Rattle.app_machine.specs.declared.app.App.{App}
 use Rattle.app_machine.specs.declared.lists.Lists.{Lists}
 use Rattle.app_machine.specs.declared.papers.Declaration.{Declaration}
@@ -21,7 +21,7 @@ use Rattle.verdict.specs.declared.parts.Parts.{Parts}
 use Rattle.verdict.specs.Linked.{IsLinked, causes_beside}
 use Rattle.verdict.specs.OneVerdict.{LowerLaws, OnlyJudgement, RefusesOnly}
 use Rattle.verdict.specs.Outcome.{findings_in, outcome_of}
-use Rattle.verdict.specs.Verdict.{ComesTo, judged_by, Judgement, refused, refusal}
+use Rattle.verdict.specs.Verdict.{ComesTo, judged_by, refused, refusal}
 use Rattle.verdict.proofs.OneVerdict.{judged_only}
 use Rattle.verdict.proofs.Outcomes.{judgement_on}
 use Rattle.app_stories.specs.declared.judged.Told.{Told}

@@ -1,7 +1,6 @@
 -- The app of two packages is sound.
-use Rattle.std.proofs.Common.{◌≡◌, ◌<◌, ℕ, true, false, [], ◌∷◌, codes, if◌then◌else◌, refl, lit<, arith}
+use Rattle.std.proofs.Common.{◌<◌, ℕ, [], if◌then◌else◌, refl, lit<, arith}
 use Rattle.std.specs.List.{AllByRecursion}
-use Rattle.vet_base.specs.Members.{In}
 use Rattle.vet_base.proofs.Members.{each_in, in_slice_get}
 use Rattle.app_machine.specs.declared.app.Class.{Class}
 use Rattle.app_machine.specs.Lookups.{directly_above}

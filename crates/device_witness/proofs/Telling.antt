@@ -1,6 +1,6 @@
 -- What is told computes.
 use Rattle.std.proofs.Common.{refl}
-use Rattle.app_machine.specs.Lookups.{class_named, directly_above, up}
+use Rattle.app_machine.specs.Lookups.{class_named, up}
 use Rattle.app_machine.specs.Names.{click_descriptor, initialiser_name, is_reference, descriptor_of}
 use Rattle.link_access.specs.Flags.{is_open}
 use Rattle.link_listing.specs.Orders.{named}

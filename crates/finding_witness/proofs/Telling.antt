@@ -1,7 +1,6 @@
 -- What does not tell a finding first, and what are no stories.
-use Rattle.std.proofs.Common.{◌≡◌, ℕ, zero, suc, ◌<◌, Bool, true, false, List, [], ◌∷◌, Some, slice_get, refl, sym, ap, subst, ◌∙◌, arith, lit<}
-use Rattle.std.specs.Prelude.{codes}
-use Rattle.std.proofs.lemmas.Option.{none-some, same_Some}
+use Rattle.std.proofs.Common.{◌≡◌, ℕ, zero, suc, ◌<◌, true, false, List, [], ◌∷◌, Some, slice_get, refl, sym, ap, ◌∙◌, arith}
+use Rattle.std.proofs.lemmas.Option.{same_Some}
 use Rattle.app_machine.specs.declared.papers.Declaration.{Declaration}
 use Rattle.app_machine.specs.State.{Arrival}
 use Rattle.fact_rows.specs.declared.context.Ctx.{Ctx}
@@ -10,9 +9,8 @@ use Rattle.fact_rows.specs.declared.row.Row.{Row}
 use Rattle.fact_rows.specs.declared.row.Row.TheVariants.{Arrive}
 use Rattle.flow_story.specs.declared.line.StoryLine.{StoryLine}
 use Rattle.outcomes.specs.declared.outcome.Finding.{Finding}
-use Rattle.outcomes.specs.declared.outcome.Place.{Place}
 use Rattle.outcomes.specs.Findings.{category, declares, names_pair, finding_of, is_undeclared}
-use Rattle.outcomes.specs.Places.{no_method, place_at, place_in}
+use Rattle.outcomes.specs.Places.{place_in}
 use Rattle.flow_rules.specs.Rules.{Follows, Starts}
 use Rattle.vet_base.specs.Members.{IsAt}
 use Rattle.finding_rows.specs.Arrivals.{IsFirstArrival, AreFirstArrivals, Tells}

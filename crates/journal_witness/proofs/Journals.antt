@@ -1,5 +1,5 @@
 -- What fits and what is held computes.
-use Rattle.std.proofs.Common.{◌≡◌, ◌<◌, ℕ, true, false, List, [], ◌∷◌, ◌++◌, length, get_or, Some, None, inl, inr, refl, sym, ap, ◌∙◌, arith}
+use Rattle.std.proofs.Common.{◌≡◌, ℕ, true, false, List, [], ◌∷◌, ◌++◌, length, get_or, Some, inl, inr, sym, ap, ◌∙◌, arith}
 use Rattle.gated_log.specs.Format.{magic}
 use Rattle.case_rules.specs.declared.case.Appeal.{Appeal}
 use Rattle.case_rules.specs.declared.case.Case.{Case}

@@ -4,11 +4,10 @@ use Rattle.gated_log.specs.Format.{magic}
 use Rattle.case_rules.specs.declared.case.Appeal.{Appeal}
 use Rattle.case_rules.specs.declared.case.Case.{Case}
 use Rattle.case_rules.specs.declared.case.Decision.{Decision}
-use Rattle.case_rules.specs.declared.case.Entry.{Entry}
 use Rattle.case_rules.specs.declared.case.Ruling.{Ruling}
 use Rattle.case_rules.specs.declared.reply.Change.TheVariants as changes
 use Rattle.case_rules.specs.Cases.{entry_of}
-use Rattle.journal_law.specs.Journal.{Holds, IsForeign}
+use Rattle.journal_law.specs.Journal.{Holds}
 use Rattle.journal_law.specs.Reading.{fits_found}
 
 -- ten bytes of no journal

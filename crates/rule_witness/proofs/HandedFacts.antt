@@ -1,17 +1,15 @@
 -- Rule 48 gives its rows, and no others.
-use Rattle.std.proofs.Common.{◌≡◌, ◌≢◌, ℕ, suc, List, [], ◌∷◌, inl, inr, true, false, Option, Some, None, refl, sym, ap, subst, ◌∙◌, arith}
+use Rattle.std.proofs.Common.{◌≡◌, ◌≢◌, ℕ, [], ◌∷◌, inl, inr, true, false, Some, refl, sym, ap, subst, ◌∙◌, arith}
 use Rattle.std.specs.Prelude.{codes}
 use Rattle.std.proofs.lemmas.Option.{none-some, same_Some}
 use Rattle.app_machine.specs.declared.app.Class.{Class}
-use Rattle.app_machine.specs.declared.call.CallKind.{CallKind}
 use Rattle.app_machine.specs.declared.call.CallKind.TheVariants.{Static}
-use Rattle.app_machine.specs.declared.call.MethodRef.{MethodRef}
 use Rattle.app_machine.specs.declared.lists.SummaryId.{SummaryId}
 use Rattle.app_machine.specs.declared.lists.SummaryId.TheVariants.{Row as RowOf}
 use Rattle.app_machine.specs.declared.method.Act.{Act}
 use Rattle.app_machine.specs.declared.method.Act.TheVariants.{Call}
 use Rattle.app_machine.specs.declared.method.Step.{Step}
-use Rattle.app_machine.specs.Names.{Name, same_name, is_reference, is_array, array_of, array_types, object_class}
+use Rattle.app_machine.specs.Names.{Name, same_name, is_reference, is_array, array_of, object_class}
 use Rattle.app_machine.specs.Lookups.{Goes, ActAt, step_at, class_named}
 use Rattle.app_machine.specs.Library.{shared_class}
 use Rattle.app_machine.specs.Summaries.{summary, listed_above, listed_class, ClassBelow, Below, is_same, is_object, is_through, is_listed, of_class, of_array, of_elements}
@@ -22,7 +20,6 @@ use Rattle.fact_rows.specs.declared.context.Ctx.{Ctx}
 use Rattle.fact_rows.specs.declared.context.Node.{Node}
 use Rattle.fact_rows.specs.declared.row.Row.{Row}
 use Rattle.fact_rows.specs.declared.row.Row.TheVariants.{Live, CompTaint, Handed, Uses}
-use Rattle.fact_rows.specs.declared.site.Site.{Site}
 use Rattle.fact_rows.specs.declared.site.Site.TheVariants.{Component, Shared}
 use Rattle.flow_rules.specs.HandedRules.{HandedRule, MayGiveBack, handed_points, handed_taint, live_points, live_taint}
 use Rattle.flow_rules.specs.LibraryRules.{RowAt}
@@ -33,7 +30,7 @@ use Rattle.vet_base.specs.Members.{In}
 use Rattle.rule_witness.specs.Smallest.{main_class, activity_class}
 use Rattle.rule_witness.specs.StepFacts.{does}
 use Rattle.rule_witness.specs.CallFacts.{box_class}
-use Rattle.rule_witness.specs.HandedFacts.{gives_back, back_row, handed_app, handed_lists, call_in, uses, HandedRulesHold, HandedRulesWithhold}
+use Rattle.rule_witness.specs.HandedFacts.{gives_back, back_row, handed_app, handed_lists, call_in, HandedRulesHold, HandedRulesWithhold}
 
 abbrev the_call : Step
 the_call = does 0 (Call Static gives_back []) (1 ∷ [])

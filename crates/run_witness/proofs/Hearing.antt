@@ -1,12 +1,8 @@
 -- What is heard, and handed over.
-use Rattle.std.proofs.Common.{◌≡◌, ℕ, List, [], ◌∷◌, ◌++◌, length, length-append, Ok, Err, Vec, refl, sym, ap, ◌∙◌, arith}
-use Rattle.std.specs.declared.alloc.Global.{Global}
-use Rattle.vet_base.specs.declared.outside.PutFault.TheVariants.{Failed}
-use Rattle.heard_files.specs.Outside.{Entry, heard_after, handed_after}
+use Rattle.std.proofs.Common.{◌≡◌, ℕ, List, [], ◌∷◌, ◌++◌, length, length-append, sym, ap, ◌∙◌, arith}
+use Rattle.heard_files.specs.Outside.{Entry}
 use Rattle.verdict.specs.declared.parts.Parts.{Parts}
 use Rattle.app_folder.specs.Heard.{GaveParts, entries_of}
-use Rattle.app_folder.specs.Outside.{Outside}
-use Rattle.vetting_desk.specs.Top.{Prints, PrintsFront}
 use Rattle.run_witness.specs.Hearings.{HearingsTell}
 
 -- nothing stands behind itself with more

@@ -1,5 +1,5 @@
 -- The program ends as its words ask.
-use Rattle.std.proofs.Common.{◌≡◌, ℕ, ◌≤◌, List, Option, Some, Err, refl, arith, subst}
+use Rattle.std.proofs.Common.{◌≡◌, ℕ, List, Option, Some, Err, refl, arith, subst}
 use Rattle.std.specs.declared.io.Error.{Error}
 use Rattle.std.specs.declared.io.ErrorKind.TheVariants.{OutOfMemory}
 use Rattle.std.specs.IoError.{error_kind}

@@ -9,7 +9,7 @@ use Rattle.app_folder.specs.Outside.{TellsInput}
 use Rattle.desk_words.specs.Words.{Certify}
 use Rattle.vetting_desk.specs.Answer.{Answers}
 use Rattle.vet_program.specs.Program.{Submitting, Vetting, vetted_of, RunsGiven}
-use Rattle.desk_program.specs.Program.{Task, Serving, Without, task_of, World, without_desk, Runs}
+use Rattle.desk_program.specs.Program.{Serving, Without, task_of, World, without_desk, Runs}
 
 -- the words `certify d c`, `serve o 2` and `submit d r`
 abbrev pub certify_words : List (List ℕ)

@@ -1,6 +1,6 @@
 //! What the words and the files come to, with the status and the text that say so.
 
-ghost use Rattle.std.specs.Prelude.{◌≡◌, ◌++◌, codes, IfOk};
+ghost use Rattle.std.specs.Prelude.{◌≡◌, IfOk};
 ghost use Rattle.vetting_desk.specs.Due.{usage_text, read_fault_text, behind_slashes};
 ghost use Rattle.vetting_desk.specs.Due.{last_part, absent_text, too_long_text, storied_text, due_of};
 

@@ -1,6 +1,6 @@
 //! The summary of a generated app.
 
-ghost use Rattle.std.specs.Prelude.{◌≡◌, ◌<◌, ◌+◌, ◌++◌, codes, length, IfOk, OnOk};
+ghost use Rattle.std.specs.Prelude.{◌≡◌, ◌<◌, ◌+◌, ◌++◌, length, IfOk, OnOk};
 ghost use Rattle.verdict.specs.Outcome.{findings_in};
 ghost use Rattle.vetting_desk.specs.Made.{outcome_word, rows_text, summary_text};
 
