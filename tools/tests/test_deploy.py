@@ -207,7 +207,7 @@ class Units(unittest.TestCase):
 
 
 class Backup(unittest.TestCase):
-    """The backup of a desk's database."""
+    """The backup of a desk's cases."""
 
     def setUp(self) -> None:
         self.desk = DeskAtWork()
@@ -239,6 +239,20 @@ class Backup(unittest.TestCase):
         self.assertEqual(cases, [{"reference": "r1", "state": "decided"}])
         self.assertTrue(self.desk.done("ann", "GET", "/cases/r1/report").startswith(b"flagged 1\n"))
         self.desk.done("ann", "POST", "/cases", submission("declared", "r2"))
+
+    def test_where_there_is_a_journal_it_is_what_is_copied(self) -> None:
+        self.desk.done("ann", "GET", "/cases")
+        journal = b"VETJRNL1\x01" + (2**63).to_bytes(8, "little")
+        (self.desk.office / "desk.journal").write_bytes(journal)
+        old = [f"desk-2025-01-0{day}T00-00-00Z.{kind}" for day, kind in ((1, "sqlite"), (2, "journal"), (3, "sqlite"))]
+        for name in old:
+            (self.folder / name).write_text("x")
+        done = self.run_it("--keep", "3")
+        self.assertEqual((done.returncode, done.stderr), (0, ""))
+        file = Path(done.stdout.strip())
+        self.assertRegex(file.name, r"^desk-\d{4}-\d\d-\d\dT\d\d-\d\d-\d\dZ\.journal$")
+        self.assertEqual((file.read_bytes(), file.stat().st_mode & 0o777), (journal, 0o600))
+        self.assertEqual({one.name for one in self.folder.iterdir()}, {*old[1:], file.name})
 
     def test_the_latest_are_kept_and_nothing_else_is_touched(self) -> None:
         self.desk.done("ann", "GET", "/cases")

@@ -502,6 +502,12 @@ class Beginning(AtAnOffice):
             self.assertIn(due, said)
             self.assertEqual(said.count("\n"), 1)
 
+    def test_a_journal_is_not_read(self) -> None:
+        (self.desk.office / "desk.journal").write_bytes(b"")
+        status, printed, said = self.run_it(str(self.desk.office), token=TOKENS["rex"])
+        self.assertEqual((status, printed), (1, ""))
+        self.assertIn("in desk.journal, and this page reads desk.sqlite alone", said)
+
     def test_with_a_port_the_office_file_need_not_be_there(self) -> None:
         with tempfile.TemporaryDirectory() as folder:
             words = parser().parse_args([folder, "--port", "8650"])

@@ -1,4 +1,4 @@
-"""The command `deploy/backup`: a copy of a desk's database as one file, while the desk runs."""
+"""The command `deploy/backup`: a copy of a desk's database or journal as one file, while the desk runs."""
 
 from __future__ import annotations
 
@@ -24,11 +24,12 @@ example:
 
 The desk runs on meanwhile: its files are read and never opened as a database. The copy was tested by SQLite before it
 got its name, so whatever has that name is whole. To bring one back: stop the desk, move desk.sqlite and
-desk.sqlite-wal away, copy the backup to desk.sqlite, start the desk.
+desk.sqlite-wal away, copy the backup to desk.sqlite, start the desk. Where the office has a desk.journal the cases are
+there, and the backup is desk-DATE.journal: a copy of it, which is a journal whenever it is made.
 
 exit status: 0 where there is a new backup, 1 where there is none; the older ones are as they were then.
 """
-NAME = re.compile(r"desk-\d{4}-\d\d-\d\dT\d\d-\d\d-\d\dZ\.sqlite")
+NAME = re.compile(r"desk-\d{4}-\d\d-\d\dT\d\d-\d\d-\d\dZ\.(sqlite|journal)")
 LEFT_OVER = 86_400
 
 
@@ -39,7 +40,7 @@ class NoBackup(Exception):
 def parser() -> argparse.ArgumentParser:
     """The words of the command line."""
     made = argparse.ArgumentParser(
-        "backup", description="Copies a desk's database while the desk runs, and keeps the latest copies.",
+        "backup", description="Copies a desk's cases while the desk runs, and keeps the latest copies.",
         epilog=EXAMPLE, formatter_class=argparse.RawDescriptionHelpFormatter,
     )
     made.add_argument("office", metavar="OFFICE", type=Path, help="the folder of the office, as `vet serve` has it")
@@ -61,6 +62,22 @@ def write_whole(copied_from: sqlite3.Connection, file: Path) -> None:
         os.fsync(written.fileno())
 
 
+def write_journal(journal: Path, file: Path) -> None:
+    """Copies a journal from front to back. The desk opens a record's gate, which stands before it, once it is written."""
+    shutil.copyfile(journal, file)
+    with file.open("rb+") as written:
+        os.fsync(written.fileno())
+
+
+def write_database(office: Path, made: Path, file: Path) -> None:
+    """Writes the office's database as one file, with the copy of its files in the folder `made`."""
+    copied = copy_database(office / "desk.sqlite", made / "copy")
+    if copied is None:
+        raise NoBackup(f"{office}/desk.sqlite is not there: is this the folder of an office whose desk ran?")
+    with closing(open_copy(copied)) as connection:
+        write_whole(connection, file)
+
+
 def keep_latest(folder: Path, keep: int) -> None:
     """Takes away all backups but the latest ones, and what runs that were killed left a day ago or earlier."""
     backups = sorted(file for file in folder.iterdir() if NAME.fullmatch(file.name))
@@ -77,14 +94,16 @@ def back_up(office: Path, folder: Path, keep: int) -> Path:
         raise NoBackup("--keep is 1 or more.")
     if not folder.is_dir():
         raise NoBackup(f"{folder} is no folder: make it, for the desk's user alone.")
-    target = folder / time.strftime("desk-%Y-%m-%dT%H-%M-%SZ.sqlite", time.gmtime())
+    journal = office / "desk.journal"
+    kind = "journal" if journal.exists() else "sqlite"
+    target = folder / time.strftime(f"desk-%Y-%m-%dT%H-%M-%SZ.{kind}", time.gmtime())
     with tempfile.TemporaryDirectory(prefix=".desk-", dir=folder) as made:
-        copied = copy_database(office / "desk.sqlite", Path(made) / "copy")
-        if copied is None:
-            raise NoBackup(f"{office}/desk.sqlite is not there: is this the folder of an office whose desk ran?")
-        with closing(open_copy(copied)) as connection:
-            write_whole(connection, Path(made) / "whole.sqlite")
-        os.rename(Path(made) / "whole.sqlite", target)
+        whole = Path(made) / "whole"
+        if kind == "journal":
+            write_journal(journal, whole)
+        else:
+            write_database(office, Path(made), whole)
+        os.rename(whole, target)
     _sync(folder)
     keep_latest(folder, keep)
     return target

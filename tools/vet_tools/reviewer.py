@@ -111,6 +111,9 @@ def run(words: argparse.Namespace) -> None:
         if port is not None and not 0 <= port <= 65535:
             raise NoStart("A port is 1 to 65535.")
     office, token = office_of(words), token_of(words)
+    if (office.folder / "desk.journal").exists():
+        raise NoStart("The cases of this office are in desk.journal, and this page reads desk.sqlite alone: ask the desk "
+                      "itself (docs/DESK.md).")
     who, desk = who_of(office, token), Desk(words.port or office.port, token)
     known = desk.knows_token(5.0)
     if known is False:
