@@ -1,6 +1,5 @@
 -- The first row of what was found is the first that tells the finding.
-use Rattle.std.proofs.Common.{◌≡◌, ◌<◌, ℕ, Bool, true, false, not, List, [], ◌∷◌, map, length, Option, Some, None, slice_get, refl, sym, ap, subst, ◌∙◌, inl, inr}
-use Rattle.std.specs.Prelude.{filter_map, option_map}
+use Rattle.std.proofs.Common.{◌≡◌, ◌<◌, ℕ, Bool, true, false, not, List, [], ◌∷◌, map, length, Option, Some, None, refl, sym, ap, subst, ◌∙◌, inl, inr}
 use Rattle.std.specs.List.{cons_option}
 use Rattle.std.specs.Map.{keys_of, values_of}
 use Rattle.std.specs.declared.cmp.Ordering.TheVariants.{Equal}
@@ -15,8 +14,7 @@ use Rattle.fact_rows.specs.declared.context.Node.{Node}
 use Rattle.fact_rows.specs.declared.row.Row.{Row}
 use Rattle.fact_rows.specs.declared.row.Row.TheVariants.{Arrive}
 use Rattle.outcomes.specs.declared.outcome.Finding.{Finding}
-use Rattle.outcomes.specs.declared.outcome.Place.{Place}
-use Rattle.outcomes.specs.Findings.{arrival_of, category, declares, finding_of, findings_of, is_undeclared}
+use Rattle.outcomes.specs.Findings.{category, declares, finding_of, findings_of, is_undeclared}
 use Rattle.outcomes.specs.Places.{place_order}
 use Rattle.outcomes.specs.Spots.{Found, at_spot, finding_at, spot_order, undeclared_at, undeclared_in}
 use Rattle.outcomes.specs.Within.{AreWithin}
@@ -25,7 +23,7 @@ use Rattle.outcomes.proofs.Pairs.{pair_order}
 use Rattle.outcomes.proofs.Spots.{spots_in_order}
 use Rattle.outcomes.specs.Ascending.{ascending}
 use Rattle.app_machine.specs.Names.{Name}
-use Rattle.vet_base.specs.Members.{In, IsAt}
+use Rattle.vet_base.specs.Members.{In}
 use Rattle.vet_base.proofs.Members.{in_slice_get}
 use Rattle.finding_rows.specs.Arrivals.{Tells, IsFirstArrival, AreFirstArrivals}
 use Rattle.finding_rows.specs.Firsts.{firsts}

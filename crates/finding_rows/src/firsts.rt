@@ -72,7 +72,8 @@ fn rows_in(alloc: Global, firsts: Firsts) -> Result<Vec<Row>, Memory>
     Ok(rows)
 }
 
-/// For each finding that rows of the app tell, in the order of the findings, the first of the rows that tells it.
+/// For each finding that rows of the app tell, in the order of the findings, the first of the rows that tells it. The app
+/// is taken for the contract alone, which says of which app the rows are.
 pub fn first_arrivals(
     alloc: Global,
     app: &App,
