@@ -1,6 +1,6 @@
-//! Small facts about the second set of rules: where a register is read, and what is missed where one
-//! of the rules is left out. Each is a theorem over the definitions alone, so that a slip in a
-//! definition shows.
+//! Small facts about the second set of rules: where a register is read, what is missed where one of the
+//! rules is left out, and by what the objects that a step makes are told apart. Each is a theorem over
+//! the definitions alone, so that a slip in a definition shows.
 #![tactic(auto)]
 
 ghost use Rattle.cell_witness.specs.Made.{ObjectsAreMade};
