@@ -5,14 +5,18 @@ use Rattle.vet_base.specs.declared.outside.FileFault.{FileFault}
 use Rattle.vet_base.specs.declared.outside.PutFault.{PutFault}
 use Rattle.vet_base.specs.declared.outside.PutFault.TheVariants.{Failed, Memory}
 
--- a file that was read, by its name and bytes
+-- a read, by the name of the file and what it gave: the bytes of the file, or why there are none
 abbrev pub Entry : Type 0
-Entry = List ℕ × List ℕ
+Entry = List ℕ × Result (List ℕ) FileFault
 
--- What a read gave is heard; a fault leaves what was heard.
+-- what a read gave, as a list of bytes or a fault
+abbrev pub answer_of : Result (Vec ℕ Global) FileFault → Result (List ℕ) FileFault
+answer_of (Ok v) = Ok v.items
+answer_of (Err fault) = Err fault
+
+-- Each read is heard.
 abbrev pub heard_after : List Entry → List ℕ → Result (Vec ℕ Global) FileFault → List Entry
-heard_after heard name (Ok v) = heard ++ (name, v.items) ∷ []
-heard_after heard name (Err fault) = heard
+heard_after heard name answer = heard ++ (name, answer_of answer) ∷ []
 
 -- The bytes were handed over, whether all of them went out or a front, unless memory ran out.
 abbrev pub handed_after : List ℕ → List ℕ → Result (Unit {0}) PutFault → List ℕ

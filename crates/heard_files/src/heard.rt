@@ -1,27 +1,30 @@
-ghost use Rattle.std.specs.Prelude.{◌≡◌, [], ◌∷◌, ◌++◌};
+ghost use Rattle.std.specs.Prelude.{◌≡◌, []};
+ghost use Rattle.heard_files.specs.Outside.{heard_after};
 
 use crate::Spelled;
 use std::marker::Model;
 use std::snapshot::Snapshot;
+use vet_base::FileFault;
 
 #[derive(Drop)]
 enum Chain {
     Nothing,
-    And(Snapshot<Chain>, Spelled, Snapshot<Vec<u8>>),
+    And(Snapshot<Chain>, Spelled, Snapshot<Result<Vec<u8>, FileFault>>),
 }
 
-/// What reads gave so far, for proofs alone: contracts see a list of names with bytes. It takes no memory but two
-/// bytes.
+/// What reads gave so far, for proofs alone: contracts see a list of names with bytes or a fault. It takes no memory but
+/// two bytes.
 #[derive(Drop)]
 pub struct Heard {
     chain: Chain,
 }
 
 impl Model for Heard {
-    ghost use Rattle.std.specs.Prelude.{List, ℕ};
+    ghost use Rattle.std.specs.Prelude.{List};
+    ghost use Rattle.heard_files.specs.Outside.{Entry};
     ghost use Rattle.heard_files.specs.Heard.{entries_of};
 
-    ghost Value = { List (List ℕ × List ℕ) };
+    ghost Value = { List Entry };
 
     ghost view = { λ h. entries_of h.chain };
 }
@@ -36,14 +39,14 @@ impl Heard {
         }
     }
 
-    /// A read of this name gave these bytes.
-    pub fn add(&mut self, name: &str, bytes: &Vec<u8>)
-        ensures { self.new ≡ self.old ++ (name.now, bytes.now.items) ∷ [] }
+    /// A read of this name gave this.
+    pub fn add(&mut self, name: &str, answer: &Result<Vec<u8>, FileFault>)
+        ensures { self.new ≡ heard_after self.old name.now answer.now }
     {
         self.chain = Chain::And(
             Snapshot::of(&self.chain),
             Spelled::of(name.as_bytes()),
-            Snapshot::of(bytes),
+            Snapshot::of(answer),
         );
     }
 }

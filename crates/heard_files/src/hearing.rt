@@ -4,7 +4,7 @@ use crate::{Files, Heard};
 use std::alloc::Global;
 use vet_base::{FileFault, Files as PlainFiles};
 
-/// Files over any others, which remember what was read.
+/// Files over any others, which remember what each read gave.
 #[derive(Drop)]
 pub struct Hearing<F: PlainFiles + Drop> {
     files: F,
@@ -39,13 +39,9 @@ impl<F: PlainFiles + Drop> Files for Hearing<F> {
     ghost heard = { λ h. h.heard };
 
     fn read(&mut self, alloc: Global, name: &str, limit: u64) -> Result<Vec<u8>, FileFault> {
-        match self.files.read(alloc, name, limit) {
-            Ok(bytes) => {
-                self.heard.add(name, &bytes);
-                Ok(bytes)
-            }
-            Err(fault) => Err(fault),
-        }
+        let answer = self.files.read(alloc, name, limit);
+        self.heard.add(name, &answer);
+        answer
     }
 
     fn write(&mut self, alloc: Global, name: &str, bytes: &[u8]) -> Result<(), FileFault> {

@@ -6,7 +6,7 @@ ghost use Rattle.heard_files.specs.Outside.{Entry, heard_after, handed_after};
 use std::alloc::Global;
 use vet_base::{FileFault, PutFault};
 
-/// Files by name, as those of `vet_base`, which remember what was read.
+/// Files by name, as those of `vet_base`, which remember what each read gave.
 pub trait Files {
     /// What the files hold and which call failed last, where they tell it.
     ghost told: { Self → Option Told };
@@ -14,7 +14,7 @@ pub trait Files {
     /// How often a call failed. At 2^64 - 1 it stays.
     ghost fault_count: { Self → ℕ };
 
-    /// The files that reads gave so far, by name and bytes, in the order of the reads.
+    /// The reads so far in their order, each by the name of the file and what it gave: its bytes, or why there are none.
     ghost heard: { Self → List Entry };
 
     /// The bytes of a file of at most `limit` bytes. It changes no file.
