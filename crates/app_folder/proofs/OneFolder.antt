@@ -52,7 +52,7 @@ module _ (forms : OneFormOrFault) (held : Held) (dir : List ℕ) where
 -- a folder that gives parts has no due but what they have
 pub only_of_parts : (forms : OneFormOrFault) (dir : List ℕ) (told : Option Told) (PartsDue : Parts → Due → Type 0) (parts : Parts) (due : Due)
     → GathersTold told dir (Ok parts) → IsTrue (is_some told) → ((other : Due) → PartsDue parts other → other ≡ due)
-    → (other : Due) → FolderDue PartsDue dir told other → other ≡ due
+    → (other : Due) → FolderDue PartsDue (GathersTold told dir) other → other ≡ due
 only_of_parts forms dir told PartsDue parts due gathers tells only _ (FolderDue.refused refusal is) =
     absurd (ok_or_err (Ok parts) parts refusal refl (one_gathered forms (held_by told) dir (Ok parts) (Err refusal) (gathers tells) (is tells)))
 only_of_parts forms dir told PartsDue parts due gathers tells only _ (FolderDue.given parts2 due2 is has) =
@@ -62,7 +62,7 @@ only_of_parts forms dir told PartsDue parts due gathers tells only _ (FolderDue.
 -- nor does a folder that is refused
 pub only_of_refusal : (forms : OneFormOrFault) (dir : List ℕ) (told : Option Told) (PartsDue : Parts → Due → Type 0) (refusal : Refusal)
     → GathersTold told dir (Err refusal) → IsTrue (is_some told)
-    → (other : Due) → FolderDue PartsDue dir told other → other ≡ reported (Refused refusal.0 refusal.1)
+    → (other : Due) → FolderDue PartsDue (GathersTold told dir) other → other ≡ reported (Refused refusal.0 refusal.1)
 only_of_refusal forms dir told PartsDue refusal gathers tells _ (FolderDue.refused other is) =
     let same : refusal ≡ other = one_err (Err refusal) refusal other refl (one_gathered forms (held_by told) dir (Err refusal) (Err other) (gathers tells) (is tells)) in
     ap (λ (r : Refusal). reported (Refused r.0 r.1)) (sym same)

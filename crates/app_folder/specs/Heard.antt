@@ -16,9 +16,9 @@ use Rattle.app_folder.specs.declared.folder.Halt.{Halt}
 use Rattle.app_folder.specs.declared.folder.Halt.TheVariants.{Refused, ReadFault, Memory}
 use Rattle.app_folder.specs.Folder.{Refusal, file_name}
 
--- a read of the file of a part
+-- a read of the file of a part, of at most 16,777,216 bytes
 abbrev pub read_of : List ℕ → Part → Result (List ℕ) FileFault → Entry
-read_of dir part answer = (file_name dir part, answer)
+read_of dir part answer = (file_name dir part, 16777216, answer)
 
 -- the DEX files from this number on
 abbrev pub dex_entries : List ℕ → ℕ → List (List ℕ) → List Entry
@@ -53,7 +53,7 @@ dex_parts (suc n) i = Dex i ∷ dex_parts n (i + 1)
 abbrev pub parts_behind : ℕ → List Part
 parts_behind count = Layouts ∷ Declaration ∷ Lists ∷ dex_parts count 0
 
--- A read with this fault refuses the file: it is absent, or has more than 16,777,216 bytes.
+-- A read that gave this fault refuses the file for this reason: it is absent, or has more than 16,777,216 bytes.
 abbrev pub Refuses : FileFault → Reason → Type 0
 Refuses faults.Absent reason = reason ≡ Absent
 Refuses faults.TooLong reason = reason ≡ TooLong 16777216
@@ -92,22 +92,19 @@ abbrev pub Gave : List Entry → List Entry → List ℕ → List Entry → Resu
 Gave old new dir more (Ok parts) = (gave : GaveParts old new dir parts) × (gave.more ≡ more)
 Gave old new dir more (Err refusal) = GaveRefusal old new dir refusal
 
--- what reading the file of a part left to be heard, unless the reading was broken off
-abbrev pub HearsPart : List Entry → List Entry → List ℕ → Part → Result (List ℕ) Halt → Type 0
-HearsPart old new dir part (Ok bytes) = new ≡ old ++ read_of dir part (Ok bytes) ∷ []
-HearsPart old new dir part (Err (Refused which reason)) = GaveUpTo (part ∷ []) old new dir (which, reason)
-HearsPart old new dir part (Err (ReadFault name)) = Unit {0}
-HearsPart old new dir part (Err Memory) = Unit {0}
+-- what a reading of the files of these parts left to be heard that did not come to its end, unless it was broken off
+abbrev pub HeardUpTo : List Part → List Entry → List Entry → List ℕ → Halt → Type 0
+HeardUpTo parts old new dir (Refused part reason) = GaveUpTo parts old new dir (part, reason)
+HeardUpTo parts old new dir (ReadFault name) = Unit {0}
+HeardUpTo parts old new dir Memory = Unit {0}
 
--- the same of more files
-abbrev pub HearsAll : {X : Type 0} → (X → List Entry) → List Part → List Entry → List Entry → List ℕ
+-- what a reading of them left to be heard, unless it was broken off
+abbrev pub Hears : {X : Type 0} → (X → List Entry) → List Part → List Entry → List Entry → List ℕ
     → Result X Halt → Type 0
-HearsAll entries parts old new dir (Ok x) = new ≡ old ++ entries x
-HearsAll entries parts old new dir (Err (Refused part reason)) = GaveUpTo parts old new dir (part, reason)
-HearsAll entries parts old new dir (Err (ReadFault name)) = Unit {0}
-HearsAll entries parts old new dir (Err Memory) = Unit {0}
+Hears entries parts old new dir (Ok x) = new ≡ old ++ entries x
+Hears entries parts old new dir (Err halt) = HeardUpTo parts old new dir halt
 
--- the same of the folder
+-- what reading the folder left to be heard, unless it was broken off
 abbrev pub HearsFolder : List Entry → List Entry → List ℕ → Result Parts Halt → Type 0
 HearsFolder old new dir (Ok parts) = Gave old new dir [] (Ok parts)
 HearsFolder old new dir (Err (Refused part reason)) = Gave old new dir [] (Err (part, reason))

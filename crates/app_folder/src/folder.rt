@@ -1,11 +1,11 @@
 //! The files of a folder: the parts of an app, read in a fixed order.
 
-ghost use Rattle.std.specs.Prelude.{◌≡◌, ◌≤◌, [], ◌∷◌, ◌++◌, length, codes, string_bytes, IfErr, IfOk, Err, OnOk};
+ghost use Rattle.std.specs.Prelude.{◌≡◌, ◌≤◌, [], ◌∷◌, length, string_bytes, IfErr, IfOk, Ok, Err};
 ghost use Rattle.std.specs.List.{AllByRecursion};
 ghost use Rattle.certificate.specs.Digests.{IsShort};
 ghost use Rattle.vet_base.specs.Outside.{held_by};
 ghost use Rattle.app_folder.specs.Folder.{file_name, part_at, dexes_at, parts_at, IsFileIn};
-ghost use Rattle.app_folder.specs.Heard.{dex_entries, entries_behind, GaveParts};
+ghost use Rattle.app_folder.specs.Heard.{dex_entries, dex_parts, entries_behind, parts_behind, read_of, Hears, HearsFolder};
 ghost use Rattle.app_folder.specs.Reading.{ReadsAs, Leaves, FailsAt, CountsDex, GathersAs, AreShort};
 
 use form_texts::{ListsText, ManifestText};
@@ -82,8 +82,8 @@ fn part_in<F: Files>(
         result }
     ensures file { FailsAt (λ name. name ≡ file_name dir.now part) result }
     ensures short { IfOk result (λ bytes. IsShort bytes) }
-    ensures heard { IfOk result (λ bytes. F.heard files.new
-        ≡ F.heard files.old ++ (file_name dir.now part, bytes) ∷ []) }
+    ensures heard { Hears (λ bytes. read_of dir.now part (Ok bytes) ∷ []) (part ∷ []) (F.heard files.old)
+        (F.heard files.new) dir.now result }
 {
     let name = name_of(alloc, dir, part)?;
     match files.read(alloc, name.as_str(), FILE_LIMIT) {
@@ -110,7 +110,8 @@ fn dexes_in<F: Files>(
     ensures file { FailsAt (IsFileIn dir.now) result }
     ensures short { IfOk result (λ dexes. AllByRecursion IsShort dexes) }
     ensures count { IfOk result (λ dexes. length dexes ≡ count) }
-    ensures heard { IfOk result (λ dexes. F.heard files.new ≡ F.heard files.old ++ dex_entries dir.now 0 dexes) }
+    ensures heard { Hears (dex_entries dir.now 0) (dex_parts count 0) (F.heard files.old) (F.heard files.new) dir.now
+        result }
 {
     let mut dexes = Vec::new(alloc);
     for i in 0..count {
@@ -138,7 +139,8 @@ fn parts_with<F: Files>(
     ensures short { IfOk result AreShort }
     ensures manifest { IfOk result (λ parts. parts.manifest ≡ manifest) }
     ensures count { IfOk result (λ parts. length parts.dex ≡ count) }
-    ensures heard { IfOk result (λ parts. F.heard files.new ≡ F.heard files.old ++ entries_behind dir.now parts) }
+    ensures heard { Hears (entries_behind dir.now) (parts_behind count) (F.heard files.old) (F.heard files.new) dir.now
+        result }
 {
     let layouts = part_in(alloc, files, dir, Part::Layouts)?;
     let declaration = part_in(alloc, files, dir, Part::Declaration)?;
@@ -200,8 +202,8 @@ pub fn parts_in<F: Files>(alloc: Global, files: &mut F, dir: &str) -> Result<Par
     ensures file { FailsAt (IsFileIn dir.now) result }
     ensures short { IfOk result AreShort }
 
-    // Reads of this very call gave these parts, of any files.
-    ensures gave { IfOk result (λ parts. GaveParts (F.heard files.old) (F.heard files.new) dir.now parts) }
+    // Reads of this very call gave these parts, or came to the file that is refused, of any files.
+    ensures gave { HearsFolder (F.heard files.old) (F.heard files.new) dir.now result }
 {
     let text = part_in(alloc, files, dir, Part::Manifest)?;
     let manifest = manifest_of(alloc, text)?;

@@ -163,12 +163,12 @@ desk_opens forms told mid folder office lists judge same says has bytes edition 
 
 -- the two files were read, one behind the other
 pub gave_office : (folder : List ℕ) (office : SaidOffice) (lists : List ℕ) (judge : OfficeLists) (old mid new : List Entry)
-    → GaveSaid old mid folder office → new ≡ mid ++ (paper_path folder Lists, lists) ∷ [] → judge.lists ≡ lists
+    → GaveSaid old mid folder office → new ≡ mid ++ (paper_path folder Lists, 16777216, Ok lists) ∷ [] → judge.lists ≡ lists
     → GaveOffice old new folder (record { office = office; lists = judge.lists })
 gave_office folder office lists judge old mid new said rest same = record {
   text = said.0;
   form = said.1;
-  heard = rest ∙ (ap (λ (es : List Entry). es ++ (paper_path folder Lists, lists) ∷ []) said.2
-      ∙ (append_assoc old ((paper_path folder Office, said.0) ∷ []) ((paper_path folder Lists, lists) ∷ [])
-      ∙ ap (λ (bytes : List ℕ). old ++ (paper_path folder Office, said.0) ∷ (paper_path folder Lists, bytes) ∷ []) (sym same)));
+  heard = rest ∙ (ap (λ (es : List Entry). es ++ (paper_path folder Lists, 16777216, Ok lists) ∷ []) said.2
+      ∙ (append_assoc old ((paper_path folder Office, 16777216, Ok said.0) ∷ []) ((paper_path folder Lists, 16777216, Ok lists) ∷ [])
+      ∙ ap (λ (bytes : List ℕ). old ++ (paper_path folder Office, 16777216, Ok said.0) ∷ (paper_path folder Lists, 16777216, Ok bytes) ∷ []) (sym same)));
 }

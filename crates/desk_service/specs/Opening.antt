@@ -94,13 +94,13 @@ pub record OpensAs (told : Option Told) (folder : List ℕ) (result : Result Ope
 -- Reads in between gave the office file, which says this.
 abbrev pub GaveSaid : List Entry → List Entry → List ℕ → SaidOffice → Type 0
 GaveSaid old new folder office =
-    (text : List ℕ) × IsForm office_form text office × (new ≡ old ++ (paper_path folder Office, text) ∷ [])
+    (text : List ℕ) × IsForm office_form text office × (new ≡ old ++ (paper_path folder Office, 16777216, Ok text) ∷ [])
 
 -- Reads in between gave the office file, which says what was opened, and then its lists.
 pub record GaveOffice (old new : List Entry) (folder : List ℕ) (opened : Opened) : Type 0 where
   pub text : List ℕ
   pub form : IsForm office_form text opened.office
-  pub heard : new ≡ old ++ (paper_path folder Office, text) ∷ (paper_path folder Lists, opened.lists) ∷ []
+  pub heard : new ≡ old ++ (paper_path folder Office, 16777216, Ok text) ∷ (paper_path folder Lists, 16777216, Ok opened.lists) ∷ []
 
 -- what reading a file returned
 abbrev pub ReadsPaper : Option Told → List ℕ → Paper → Result (Vec ℕ Global) Halt → Type 0

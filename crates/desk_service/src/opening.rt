@@ -1,5 +1,5 @@
 //! The files of an office, read in their order: the office file, and then the lists.
-ghost use Rattle.std.specs.Prelude.{◌≡◌, [], ◌∷◌, ◌++◌, string_bytes, IfOk};
+ghost use Rattle.std.specs.Prelude.{◌≡◌, [], ◌∷◌, ◌++◌, string_bytes, IfOk, Ok};
 ghost use Rattle.desk_service.specs.Opening.{paper_name, paper_path, ReadsPaper, Leaves};
 ghost use Rattle.desk_service.specs.Opening.{GaveSaid, GaveOffice, opened_of};
 ghost use Rattle.desk_service.specs.declared.opening.Paper.TheVariants.{Lists};
@@ -84,7 +84,7 @@ fn paper_in<F: Files>(
     ensures leaves { Leaves (F.told files.old) (F.told files.new) (F.fault_count files.old) (F.fault_count files.new)
         office.now result }
     ensures heard { IfOk result (λ bytes. F.heard files.new
-        ≡ F.heard files.old ++ (paper_path office.now paper, bytes.items) ∷ []) }
+        ≡ F.heard files.old ++ (paper_path office.now paper, 16777216, Ok bytes.items) ∷ []) }
 {
     let path = path_of(alloc, office, paper)?;
     match files.read(alloc, path.as_str(), FILE_LIMIT) {
@@ -125,7 +125,7 @@ fn lists_in<F: Files>(alloc: Global, files: &mut F, folder: &str) -> Result<List
     ensures leaves { Leaves (F.told files.old) (F.told files.new) (F.fault_count files.old) (F.fault_count files.new)
         folder.now result }
     ensures heard { IfOk result (λ lists. F.heard files.new
-        ≡ F.heard files.old ++ (paper_path folder.now Lists, lists) ∷ []) }
+        ≡ F.heard files.old ++ (paper_path folder.now Lists, 16777216, Ok lists) ∷ []) }
 {
     let bytes = paper_in(alloc, files, folder, Paper::Lists)?;
     let text = Shared::from_vec(alloc, bytes)?;

@@ -9,7 +9,7 @@ use vet_base::FileFault;
 #[derive(Drop)]
 enum Chain {
     Nothing,
-    And(Snapshot<Chain>, Spelled, Snapshot<Result<Vec<u8>, FileFault>>),
+    And(Snapshot<Chain>, Spelled, Snapshot<u64>, Snapshot<Result<Vec<u8>, FileFault>>),
 }
 
 /// What reads gave so far, for proofs alone: contracts see a list of names with bytes or a fault. It takes no memory but
@@ -39,13 +39,14 @@ impl Heard {
         }
     }
 
-    /// A read of this name gave this.
-    pub fn add(&mut self, name: &str, answer: &Result<Vec<u8>, FileFault>)
-        ensures { self.new ≡ heard_after self.old name.now answer.now }
+    /// A read of this name of at most so many bytes gave this.
+    pub fn add(&mut self, name: &str, limit: u64, answer: &Result<Vec<u8>, FileFault>)
+        ensures { self.new ≡ heard_after self.old name.now limit answer.now }
     {
         self.chain = Chain::And(
             Snapshot::of(&self.chain),
             Spelled::of(name.as_bytes()),
+            Snapshot::of(&limit),
             Snapshot::of(answer),
         );
     }

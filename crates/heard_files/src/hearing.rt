@@ -40,7 +40,7 @@ impl<F: PlainFiles + Drop> Files for Hearing<F> {
 
     fn read(&mut self, alloc: Global, name: &str, limit: u64) -> Result<Vec<u8>, FileFault> {
         let answer = self.files.read(alloc, name, limit);
-        self.heard.add(name, &answer);
+        self.heard.add(name, limit, &answer);
         answer
     }
 

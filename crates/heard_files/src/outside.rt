@@ -14,7 +14,8 @@ pub trait Files {
     /// How often a call failed. At 2^64 - 1 it stays.
     ghost fault_count: { Self → ℕ };
 
-    /// The reads so far in their order, each by the name of the file and what it gave: its bytes, or why there are none.
+    /// The reads so far in their order, each by the name of the file, the most bytes that were asked for, and what it
+    /// gave: the bytes, or why there are none.
     ghost heard: { Self → List Entry };
 
     /// The bytes of a file of at most `limit` bytes. It changes no file.
@@ -23,7 +24,7 @@ pub trait Files {
         ensures told { told self.new ≡ told_after_read (told self.old) name.now result }
         ensures limit { IfOk result (λ v. length v.items ≤ limit) }
         ensures cause { FileCause (fault_count self.old) (fault_count self.new) result }
-        ensures heard { heard self.new ≡ heard_after (heard self.old) name.now result };
+        ensures heard { heard self.new ≡ heard_after (heard self.old) name.now limit result };
 
     /// Gives a file these bytes. After `Failed` it has its old bytes or a prefix of these; other files stay.
     fn write(&mut self, alloc: Global, name: &str, bytes: &[u8]) -> Result<(), FileFault>

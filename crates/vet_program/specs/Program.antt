@@ -12,7 +12,7 @@ use Rattle.client_service.specs.Words.{parse as parse_submit}
 use Rattle.desk_words.specs.Words.{Words}
 use Rattle.desk_words.specs.Words.{parse as parse_vetting}
 use Rattle.vetting_desk.specs.Answer.{SaysClear, IsSafe, SaysFound}
-use Rattle.vetting_desk.specs.Top.{EndsAsDue, EndsAsOnlyDue, PrintsFullReport, HandsClear, TakesClear}
+use Rattle.vetting_desk.specs.Top.{EndsAsDue, EndsAsRead, EndsAsOnlyDue, PrintsFullReport, HandsClear, TakesClear}
 
 -- what the words ask for; words that are no command are answered as a vetting
 pub data Task : Type 0 where
@@ -26,10 +26,12 @@ task_in None words = Vetting words
 abbrev pub task_of : List (List ℕ) → Task
 task_of words = task_in (parse_submit words) (parse_vetting words)
 
--- A vetting ends as is due to its words, and only so; clear is of a safe app, by its status and where it is printed or
--- handed over; and what is found leaves out nothing. So much was heard of the files before and after.
+-- A vetting ends as is due to its words, and so by what its reads gave, and only so; clear is of a safe app, by its
+-- status and where it is printed or handed over; and what is found leaves out nothing. So much was heard of the files
+-- before and after.
 pub record Vets (words : Option Words) (old new : Outside) (ho hn : List Entry) (status : ℕ) : Type 0 where
   pub ends : EndsAsDue words old new status
+  pub reads : EndsAsRead words old new ho hn status
   pub only : EndsAsOnlyDue words old new status
   pub sound : SaysClear words status → IsSafe words old.tells ho hn
   pub clear : TakesClear words old new → IsSafe words old.tells ho hn

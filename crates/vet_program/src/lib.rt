@@ -9,7 +9,7 @@ ghost use Rattle.std.specs.Process.{exit_status};
 ghost use Rattle.desk_words.specs.Words.{parse};
 ghost use Rattle.vetting_desk.specs.Answer.{SaysClear, IsSafe, SaysFound};
 ghost use Rattle.app_folder.specs.Outside.{outside};
-ghost use Rattle.vetting_desk.specs.Top.{EndsAsDue, EndsAsOnlyDue, PrintsFullReport, HandsClear, TakesClear};
+ghost use Rattle.vetting_desk.specs.Top.{EndsAsDue, EndsAsRead, EndsAsOnlyDue, PrintsFullReport, HandsClear, TakesClear};
 ghost use Rattle.client_service.specs.Saying.{status};
 ghost use Rattle.client_service.specs.Submitting.{seen, Answers};
 ghost use Rattle.client_service.specs.Words.{parse as parse_submit};
@@ -69,6 +69,15 @@ pub fn vetted<F: Files, O: Sink, T: Threads + Wait + Sync>(
         (outside (F.told files.new) (F.fault_count files.new) (O.taken out.new) (O.fault_count out.new)
         (O.handed out.new))
         (exit_status result) }
+
+    // So they are by what the reads of this very call gave, of any files: the files of the folder in their order, or up
+    // to the one for which the app is refused, and for `recheck` the certificate.
+    ensures reads { EndsAsRead (parse (map string_bytes words.now))
+        (outside (F.told files.old) (F.fault_count files.old) (O.taken out.old) (O.fault_count out.old)
+        (O.handed out.old))
+        (outside (F.told files.new) (F.fault_count files.new) (O.taken out.new) (O.fault_count out.new)
+        (O.handed out.new))
+        (F.heard files.old) (F.heard files.new) (exit_status result) }
 
     // Nothing else is due, where the files tell what they hold, but that a finding may have several right stories.
     ensures only { EndsAsOnlyDue (parse (map string_bytes words.now))

@@ -1,8 +1,8 @@
 -- Wherever the word `clear` was printed, the app is safe.
-use Rattle.std.proofs.Common.{◌≡◌, ℕ, suc, zero, ◌<◌, List, [], ◌∷◌, ◌++◌, take, drop, Option, Some, None, codes, refl, sym, ◌∙◌, ap, subst, arith, lit<, append-nil}
+use Rattle.std.proofs.Common.{◌≡◌, ℕ, suc, zero, ◌<◌, List, [], ◌∷◌, ◌++◌, take, drop, Option, Some, None, Result, codes, refl, sym, ◌∙◌, ap, subst, arith, lit<, append-nil}
 use Rattle.std.specs.Option.{option_map}
 use Rattle.std.proofs.lemmas.Option.{same_Some}
-use Rattle.vet_base.specs.Outside.{Told}
+use Rattle.vet_base.specs.declared.outside.FileFault.{FileFault}
 use Rattle.heard_files.specs.Outside.{Entry}
 use Rattle.desk_words.specs.Words.{Words, Check, Certify, Recheck, Story, Make}
 use Rattle.cert_report.specs.declared.refusal.CertRefusal.{CertRefusal}
@@ -15,12 +15,14 @@ use Rattle.verdict.specs.Outcome.{status_of}
 use Rattle.verdict_report.specs.Printed.{counted_line}
 use Rattle.verdict_report.specs.Report.{report_text, flagged_text, undecided_text, refused_text}
 use Rattle.app_folder.specs.Due.{Due}
+use Rattle.app_folder.specs.Folder.{Refusal}
 use Rattle.app_folder.specs.FolderDue.{FolderDue, Checks}
+use Rattle.app_folder.specs.Reading.{GathersTold}
 use Rattle.app_folder.specs.Outside.{Tells, Outside}
 use Rattle.vetting_desk.specs.Answer.{Answers, SaysClear, TellsClear, IsSafe}
 use Rattle.vetting_desk.specs.Due.{read_fault_text, absent_text, storied_text, too_long_text}
 use Rattle.vetting_desk.specs.Found.{TheDue}
-use Rattle.vetting_desk.specs.PartsDue.{Certifies, Rechecks, RechecksBy, Retells}
+use Rattle.vetting_desk.specs.PartsDue.{Certifies, GivesTold, Rechecks, RechecksBy, Retells}
 use Rattle.flow_story.specs.declared.line.StoryLine.{StoryLine}
 use Rattle.vetting_desk.specs.Top.{ComesToSay, Ends, HandsClear, TakesClear}
 
@@ -86,10 +88,10 @@ clear_by bytes parts _ (RechecksBy.judged rows (rechecks.Refused part reason) ce
 clear_by bytes parts _ (RechecksBy.judged rows (rechecks.Defect defect) cert judged) same = absurd (no_refusal _ same)
 clear_by bytes parts _ (RechecksBy.judged rows (rechecks.By outcome) cert judged) same = clear_outcome outcome same
 
-clear_rechecked : (path : List ℕ) (told : Option Told) (parts : Parts) (due : Due) → Rechecks path told parts due → third due.text ≡ 101 → due.status ≡ 0
-clear_rechecked path told parts _ (Rechecks.absent holds) same = absurd (no_absence path same)
-clear_rechecked path told parts _ (Rechecks.too_long holds) same = absurd (no_length path same)
-clear_rechecked path told parts _ (Rechecks.read bytes due holds short by) same = clear_by bytes parts due by same
+clear_rechecked : (path : List ℕ) (Gives : Result (List ℕ) FileFault → Type 0) (parts : Parts) (due : Due) → Rechecks path Gives parts due → third due.text ≡ 101 → due.status ≡ 0
+clear_rechecked path Gives parts _ (Rechecks.absent holds) same = absurd (no_absence path same)
+clear_rechecked path Gives parts _ (Rechecks.too_long holds) same = absurd (no_length path same)
+clear_rechecked path Gives parts _ (Rechecks.read bytes due holds short by) same = clear_by bytes parts due by same
 
 -- the report stands first where stories stand behind it
 clear_storied_text : (outcome : Outcome) (stories : Option (List (List StoryLine))) → third (storied_text outcome stories) ≡ 101 → status_of outcome ≡ 0
@@ -103,11 +105,11 @@ clear_storied_text (Refused part reason) (Some stories) same = absurd (above 102
 clear_storied : (parts : Parts) (due : Due) → Retells parts due → third due.text ≡ 101 → due.status ≡ 0
 clear_storied parts _ (Retells.stories outcome stories tells) same = clear_storied_text outcome stories same
 
-clear_folder : (PartsDue : Parts → Due → Type 0) (dir : List ℕ) (told : Option Told) (due : Due)
+clear_folder : (PartsDue : Parts → Due → Type 0) (Gives : Result Parts Refusal → Type 0) (due : Due)
     → ((parts : Parts) (d : Due) → PartsDue parts d → third d.text ≡ 101 → d.status ≡ 0)
-    → FolderDue PartsDue dir told due → third due.text ≡ 101 → due.status ≡ 0
-clear_folder PartsDue dir told _ of_parts (FolderDue.refused refusal gathers) same = clear_outcome (Refused refusal.0 refusal.1) same
-clear_folder PartsDue dir told _ of_parts (FolderDue.given parts due gathers is) same = of_parts parts due is same
+    → FolderDue PartsDue Gives due → third due.text ≡ 101 → due.status ≡ 0
+clear_folder PartsDue Gives _ of_parts (FolderDue.refused refusal gathers) same = clear_outcome (Refused refusal.0 refusal.1) same
+clear_folder PartsDue Gives _ of_parts (FolderDue.given parts due gathers is) same = of_parts parts due is same
 
 -- a due text that tells it has the status that says it
 clear_due : (words : Option Words) (tells : Tells) (due : Due) (text : List ℕ) → Answers words tells due → TellsClear words text
@@ -115,13 +117,13 @@ clear_due : (words : Option Words) (tells : Tells) (due : Due) (text : List ℕ)
 clear_due words tells _ text (Answers.no_command e) told same =
     absurd (subst (λ (w : Option Words). TellsClear w text) e told)
 clear_due words tells _ text (Answers.check dir n due e is) told same =
-    subst (λ (w : Option Words). SaysClear w due.status) (sym e) (clear_folder Checks dir tells.files due clear_checked is same)
+    subst (λ (w : Option Words). SaysClear w due.status) (sym e) (clear_folder Checks (GathersTold tells.files dir) due clear_checked is same)
 clear_due words tells _ text (Answers.certify dir path due e is) told same =
-    subst (λ (w : Option Words). SaysClear w due.status) (sym e) (clear_folder (Certifies path) dir tells.files due (clear_certified path) is same)
+    subst (λ (w : Option Words). SaysClear w due.status) (sym e) (clear_folder (Certifies path) (GathersTold tells.files dir) due (clear_certified path) is same)
 clear_due words tells _ text (Answers.recheck dir path due e is) told same =
-    subst (λ (w : Option Words). SaysClear w due.status) (sym e) (clear_folder (Rechecks path tells.files) dir tells.files due (clear_rechecked path tells.files) is same)
+    subst (λ (w : Option Words). SaysClear w due.status) (sym e) (clear_folder (Rechecks path (GivesTold tells.files path)) (GathersTold tells.files dir) due (clear_rechecked path (GivesTold tells.files path)) is same)
 clear_due words tells _ text (Answers.story dir due e is) told same =
-    subst (λ (w : Option Words). SaysClear w due.status) (sym e) (clear_folder Retells dir tells.files due clear_storied is same)
+    subst (λ (w : Option Words). SaysClear w due.status) (sym e) (clear_folder Retells (GathersTold tells.files dir) due clear_storied is same)
 clear_due words tells _ text (Answers.make seed size n judged e is) told same =
     absurd (subst (λ (w : Option Words). TellsClear w text) e told)
 

@@ -14,7 +14,7 @@ use Rattle.app_folder.specs.Due.{Due, NewFile}
 use Rattle.vetting_desk.specs.Due.{due_of, read_fault_text}
 use Rattle.vetting_desk.specs.Found.{TheDue, ReadFails, IsFound, Says, file_of}
 use Rattle.app_folder.specs.Outside.{Tells, Outside, outside}
-use Rattle.vetting_desk.specs.Top.{status, Finishes, Writes, NoFault, ComesToSay, RunsOut, Ends, EndsAsDue, EndsAsOnlyDue, PrintsFullReport, PutsText, NotWritten}
+use Rattle.vetting_desk.specs.Top.{status, Finishes, Writes, NoFault, ComesToSay, RunsOut, Ends, EndsAsDue, EndsAsRead, EndsAsOnlyDue, PrintsFullReport, PutsText, NotWritten}
 
 -- so much was heard of the files before and after
 module _ (ho hn : List Entry) where
@@ -167,6 +167,9 @@ module _ (ho hn : List Entry) where
 
   pub ends_as_due : (words : Option Words) (old new : Outside) (n : ℕ) → Ends (TheDue words old.tells ho hn) words old new n → EndsAsDue words old new n
   ends_as_due words old new n ends = ends_as words old new n (λ due is. is.answers) ends
+
+  pub ends_as_read : (words : Option Words) (old new : Outside) (n : ℕ) → Ends (TheDue words old.tells ho hn) words old new n → EndsAsRead words old new ho hn n
+  ends_as_read words old new n ends = ends_as words old new n (λ due is. is.read) ends
 
   pub ends_as_only_due : (words : Option Words) (old new : Outside) (n : ℕ) → Ends (TheDue words old.tells ho hn) words old new n → EndsAsOnlyDue words old new n
   ends_as_only_due words old new n ends told other answers = ends_as words old new n (λ due is. is.only told other answers) ends

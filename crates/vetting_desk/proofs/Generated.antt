@@ -54,18 +54,19 @@ one_judged {E} parts judged one j is = of_answer (one j is)
     of_answer (inr fails) = absurd cc
 
 -- a generated app that was judged so
-pub finds_made : {E : Type 0} (seed size n : ℕ) (parts : Parts) (judged : Judged) (due : Due) (told : Option Told) (old new : List Entry)
+pub finds_made : {E : Type 0} (seed size n : ℕ) (parts : Parts) (judged : Judged) (due : Due) (told : Option Told) (heard : List Entry)
     → parts ≡ made_parts seed size → Judgement parts judged → (judged.outcome ≡ Clear → IsSafeApp parts)
     → ((j : Judged) → Judgement parts j → (let r : Result Judged E = Ok judged in r ≡ Ok j) ⊎ (let r : Result Judged E = Ok judged in IsErr r))
-    → due ≡ due_to size judged → FindsDue (Some (Make seed size n)) told old new due
-finds_made {E} seed size n parts judged due told old new same is safe one says =
+    → due ≡ due_to size judged → FindsDue (Some (Make seed size n)) told heard heard due
+finds_made {E} seed size n parts judged due told heard same is safe one says =
     let AtParts : Parts → Type 0 = λ p. Judgement p judged in
     let SafeParts : Parts → Type 0 = λ p. IsSafeApp p in
     let OneAt : Parts → Type 0 = λ p. (j : Judged) → Judgement p j → j ≡ judged in
     let one_here : OneAt (made_parts seed size) = subst OneAt same (one_judged {E = E} parts judged one) in
-    let At : Due → Type 0 = λ d. FindsDue (Some (Make seed size n)) told old new d in
+    let At : Due → Type 0 = λ d. FindsDue (Some (Make seed size n)) told heard heard d in
     subst At (sym says) (λ printed. record {
       answers = Answers.make seed size n judged refl (subst AtParts same is);
+      read = (judged, subst AtParts same is, refl, refl);
       only = λ tells other answers. sym (only_made seed size n judged (record { files = told; printed = printed }) one_here other answers);
       safe = λ clear. subst SafeParts same (safe (made_clear size (rows_in judged) judged.outcome clear));
       full = λ found. absurd found;

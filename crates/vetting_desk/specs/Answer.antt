@@ -1,8 +1,9 @@
 -- What is due to the words, and how far that is one thing; when it says clear, and what clear says; and which files a
 -- command reads.
-use Rattle.std.specs.Prelude.{◌≡◌, ◌⊎◌, ◌++◌, ℕ, List, length, Option, Some, None, IsTrue, is_some, codes}
+use Rattle.std.specs.Prelude.{◌≡◌, ◌⊎◌, ◌++◌, ℕ, List, [], ◌∷◌, length, Option, Some, None, Result, IsTrue, is_some, codes}
 use Rattle.std.specs.Option.{option_map}
 use Rattle.vet_base.specs.Outside.{Told, held_by}
+use Rattle.vet_base.specs.declared.outside.FileFault.{FileFault}
 use Rattle.heard_files.specs.Outside.{Entry}
 use Rattle.verdict.specs.declared.outcome.Judged.{Judged}
 use Rattle.verdict.specs.declared.outcome.Outcome.{Outcome}
@@ -20,9 +21,10 @@ use Rattle.app_folder.specs.Due.{Due, reported}
 use Rattle.app_stories.specs.Stories.{Story as StoryOfFinding, Tells as TellsStories}
 use Rattle.vetting_desk.specs.Due.{SameButStories, storied_text, summarised, usage}
 use Rattle.app_folder.specs.Folder.{Holds, IsFileIn}
-use Rattle.app_folder.specs.Heard.{GaveParts}
+use Rattle.app_folder.specs.Heard.{GaveParts, Gave}
 use Rattle.app_folder.specs.FolderDue.{FolderDue, Checks}
-use Rattle.vetting_desk.specs.PartsDue.{Certifies, Rechecks, Retells}
+use Rattle.app_folder.specs.Reading.{GathersTold}
+use Rattle.vetting_desk.specs.PartsDue.{Certifies, GivesTold, Rechecks, Retells}
 use Rattle.vetting_desk.specs.Made.{made_parts}
 use Rattle.app_folder.specs.Outside.{Tells}
 
@@ -39,24 +41,39 @@ pub data Answers (words : Option Words) (tells : Tells) : Due → Type 0 where
   no_command : words ≡ None → Answers words tells usage
   check : (dir : List ℕ) (n : ℕ) (due : Due) →
       words ≡ Some (Check dir n) →
-      FolderDue Checks dir tells.files due →
+      FolderDue Checks (GathersTold tells.files dir) due →
       Answers words tells due
   certify : (dir cert : List ℕ) (due : Due) →
       words ≡ Some (Certify dir cert) →
-      FolderDue (Certifies cert) dir tells.files due →
+      FolderDue (Certifies cert) (GathersTold tells.files dir) due →
       Answers words tells due
   recheck : (dir cert : List ℕ) (due : Due) →
       words ≡ Some (Recheck dir cert) →
-      FolderDue (Rechecks cert tells.files) dir tells.files due →
+      FolderDue (Rechecks cert (GivesTold tells.files cert)) (GathersTold tells.files dir) due →
       Answers words tells due
   story : (dir : List ℕ) (due : Due) →
       words ≡ Some (Story dir) →
-      FolderDue Retells dir tells.files due →
+      FolderDue Retells (GathersTold tells.files dir) due →
       Answers words tells due
   make : (seed size n : ℕ) (judged : Judged) →
       words ≡ Some (Make seed size n) →
       Judgement (made_parts seed size) judged →
       Answers words tells (due_to_made size (option_map (λ rows. length rows) judged.table) judged.outcome)
+
+-- What is due to the words by what the reads in between gave, of any files: those of the folder, in their order, up to
+-- the first file for which the app is refused, or those of all its files; behind them for `recheck` that of the
+-- certificate; and no more.
+abbrev pub DueByReads : Option Words → List Entry → List Entry → Due → Type 0
+DueByReads None old new due = (due ≡ usage) × (new ≡ old)
+DueByReads (Some (Check dir n)) old new due = FolderDue Checks (Gave old new dir []) due
+DueByReads (Some (Certify dir cert)) old new due = FolderDue (Certifies cert) (Gave old new dir []) due
+DueByReads (Some (Recheck dir cert)) old new due =
+    (given : Result (List ℕ) FileFault)
+    × FolderDue (Rechecks cert (λ g. g ≡ given)) (Gave old new dir ((cert, 536870912, given) ∷ [])) due
+DueByReads (Some (Story dir)) old new due = FolderDue Retells (Gave old new dir []) due
+DueByReads (Some (Make seed size n)) old new due =
+    (judged : Judged) × Judgement (made_parts seed size) judged
+    × (due ≡ due_to_made size (option_map (λ rows. length rows) judged.table) judged.outcome) × (new ≡ old)
 
 -- Of two that are due to the words the one is the other; where stories are asked for, the one has right stories, and
 -- but for them is the other.
@@ -65,7 +82,7 @@ Alike None tells one other = one ≡ other
 Alike (Some (Check dir n)) tells one other = one ≡ other
 Alike (Some (Certify dir cert)) tells one other = one ≡ other
 Alike (Some (Recheck dir cert)) tells one other = one ≡ other
-Alike (Some (Story dir)) tells one other = FolderDue Retells dir tells.files one × SameButStories one other
+Alike (Some (Story dir)) tells one other = FolderDue Retells (GathersTold tells.files dir) one × SameButStories one other
 Alike (Some (Make seed size n)) tells one other = one ≡ other
 
 -- The soundness of `clear`: these parts make a safe app. The first reads of this call gave them, whatever the files

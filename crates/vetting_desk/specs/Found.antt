@@ -1,5 +1,5 @@
 -- What is found of the words and the files before anything is written or printed.
-use Rattle.std.specs.Prelude.{◌≡◌, ◌⊎◌, ℕ, List, Option, Some, None, Result, Ok, Err, String, string_bytes, IsTrue, is_some}
+use Rattle.std.specs.Prelude.{◌≡◌, ◌⊎◌, ℕ, List, [], ◌∷◌, ◌++◌, Option, Some, None, Result, Ok, Err, String, string_bytes, IsTrue, is_some}
 use Rattle.std.specs.declared.alloc.Global.{Global}
 use Rattle.vet_base.specs.Outside.{HasRisen, Told}
 use Rattle.heard_files.specs.Outside.{Entry}
@@ -26,11 +26,11 @@ use Rattle.vetting_desk.specs.declared.finding.Found.TheVariants.{Said, ReadFaul
 use Rattle.app_folder.specs.declared.folder.Halt.{Halt}
 use Rattle.app_folder.specs.declared.folder.Halt.TheVariants as halts
 use Rattle.desk_words.specs.Words.{Words}
-use Rattle.vetting_desk.specs.Answer.{ComesByRows, Answers, Alike, SaysClear, IsSafe, SaysFound, IsFullReport, IsFileOf}
+use Rattle.vetting_desk.specs.Answer.{ComesByRows, Answers, DueByReads, Alike, SaysClear, IsSafe, SaysFound, IsFullReport, IsFileOf}
 use Rattle.app_folder.specs.Due.{Due, NewFile, reported}
 use Rattle.app_stories.specs.Stories.{Story, Tells as TellsStories}
 use Rattle.vetting_desk.specs.Due.{SameButStories, certified, due_of, read_fault_text, storied_text}
-use Rattle.vetting_desk.specs.PartsDue.{digest_of, Rechecks, Retells}
+use Rattle.vetting_desk.specs.PartsDue.{digest_of, GivesTold, Rechecks, Retells}
 use Rattle.app_folder.specs.Outside.{Tells, TellsInput}
 use Rattle.app_folder.specs.Reading.{TellsRead, SameFiles}
 
@@ -75,10 +75,11 @@ CertifiedAs path parts outcome None due = due ≡ reported outcome
 CertifiedAs path parts outcome (Some rows) due =
     (bytes : List ℕ) × IsCert bytes (digest_of parts) rows × (due ≡ certified outcome path bytes)
 
--- the due to the words, with that each is alike, and with what it says of the app, where so much was heard of the files
--- before and after
+-- the due to the words, also by what the reads gave, with that each is alike, and with what it says of the app, where so
+-- much was heard of the files before and after
 pub record TheDue (words : Option Words) (tells : Tells) (old new : List Entry) (due : Due) : Type 0 where
   pub answers : Answers words tells due
+  pub read : DueByReads words old new due
   pub only : TellsInput tells → (other : Due) → Answers words tells other → Alike words tells due other
   pub safe : SaysClear words due.status → IsSafe words tells old new
   pub full : SaysFound words due.status → IsFullReport words tells old new due.status due.text
@@ -104,11 +105,19 @@ IsFound words old new before after ho hn Memory = (new ≡ old) × (after ≡ be
 -- what is found of parts by the certificate in a file
 abbrev pub FindsByFile : List ℕ → Parts → Option Told → Option Told → ℕ → ℕ → Found → Type 0
 FindsByFile path parts old new before after (Said answer) =
-    FindsOfParts (IsTrue (is_some old)) (Rechecks path old) ComesByRows parts (due_of answer) × (new ≡ old)
-    × (after ≡ before)
+    FindsOfParts (IsTrue (is_some old)) (Rechecks path (GivesTold old path)) ComesByRows parts (due_of answer)
+    × (new ≡ old) × (after ≡ before)
 FindsByFile path parts old new before after (ReadFault name) =
     (string_bytes name ≡ path) × HasRisen before after × TellsRead new (string_bytes name) × SameFiles old new
 FindsByFile path parts old new before after Memory = (new ≡ old) × (after ≡ before)
+
+-- The read of the certificate gave this, by which the answer is due.
+abbrev pub HearsFile : List ℕ → Parts → List Entry → List Entry → Found → Type 0
+HearsFile path parts old new (Said answer) =
+    (given : Result (List ℕ) FileFault) × (new ≡ old ++ (path, 536870912, given) ∷ [])
+    × Rechecks path (λ g. g ≡ given) parts (due_of answer)
+HearsFile path parts old new (ReadFault name) = Unit {0}
+HearsFile path parts old new Memory = Unit {0}
 
 -- an answer was found, unless memory ran out
 abbrev pub said : Result Answer NoMemory → Found

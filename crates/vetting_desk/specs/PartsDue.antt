@@ -1,8 +1,10 @@
 -- What is due to parts that are certified, to parts that are checked by a certificate, and to parts of which stories
 -- are told.
-use Rattle.std.specs.Prelude.{◌≡◌, ◌≢◌, ◌≤◌, ◌<◌, ℕ, List, ◌∷◌, length, Option, Some, None, IsSomeAnd, IsTrue, is_some}
+use Rattle.std.specs.Prelude.{◌≡◌, ◌≢◌, ◌≤◌, ◌<◌, ℕ, List, ◌∷◌, length, Option, Some, None, Result, Ok, Err, IsSomeAnd, IsTrue, is_some}
 use Rattle.sha2.specs.Sha256.{sha256}
 use Rattle.vet_base.specs.Outside.{Told, held_by}
+use Rattle.vet_base.specs.declared.outside.FileFault.{FileFault}
+use Rattle.vet_base.specs.declared.outside.FileFault.TheVariants as faults
 use Rattle.fact_rows.specs.declared.row.Row.{Row}
 use Rattle.certificate.specs.declared.fault.CertFault.{CertFault}
 use Rattle.certificate.specs.Cert.{IsCert}
@@ -69,17 +71,28 @@ pub data RechecksBy (bytes : List ℕ) (parts : Parts) : Due → Type 0 where
 abbrev pub FileTold : Option Told → List ℕ → (Option (List ℕ) → Type 0) → Type 0
 FileTold told name P = IsTrue (is_some told) → P (held_by told name)
 
--- Parts that are checked by the certificate in a file: the file is absent, or too long, or read.
-pub data Rechecks (path : List ℕ) (told : Option Told) (parts : Parts) : Due → Type 0 where
-  absent : FileTold told path (λ file. file ≡ None) → Rechecks path told parts (no_certificate path)
-  too_long :
-      FileTold told path (λ file. IsSomeAnd file (λ bytes. 536870912 < length bytes)) →
-      Rechecks path told parts (long_certificate path)
+-- what a read of at most so many bytes gives of a file
+abbrev pub FileGives : ℕ → Result (List ℕ) FileFault → Option (List ℕ) → Type 0
+FileGives limit (Ok bytes) file = file ≡ Some bytes
+FileGives limit (Err faults.Absent) file = file ≡ None
+FileGives limit (Err faults.TooLong) file = IsSomeAnd file (λ bytes. limit < length bytes)
+FileGives limit (Err faults.Failed) file = ⊥
+FileGives limit (Err faults.Memory) file = ⊥
+
+-- where the files are told, a read of the certificate at this path gives this
+abbrev pub GivesTold : Option Told → List ℕ → Result (List ℕ) FileFault → Type 0
+GivesTold told path given = FileTold told path (FileGives 536870912 given)
+
+-- Parts that are checked by the certificate in a file, by what a read of it gives: the file is absent, or too long, or
+-- read.
+pub data Rechecks (path : List ℕ) (Gives : Result (List ℕ) FileFault → Type 0) (parts : Parts) : Due → Type 0 where
+  absent : Gives (Err faults.Absent) → Rechecks path Gives parts (no_certificate path)
+  too_long : Gives (Err faults.TooLong) → Rechecks path Gives parts (long_certificate path)
   read : (bytes : List ℕ) (due : Due) →
-      FileTold told path (λ file. file ≡ Some bytes) →
+      Gives (Ok bytes) →
       length bytes ≤ 536870912 →
       RechecksBy bytes parts due →
-      Rechecks path told parts due
+      Rechecks path Gives parts due
 
 -- Parts of which stories are told: the report, and where there is a table a story of each finding.
 pub data Retells (parts : Parts) : Due → Type 0 where

@@ -7,7 +7,7 @@ use Rattle.vet_base.specs.declared.outside.FileFault.{FileFault}
 use Rattle.vet_base.specs.declared.outside.FileFault.TheVariants as faults
 use Rattle.vetting_desk.specs.declared.answer.Status.{Status}
 use Rattle.desk_words.specs.Words.{Words}
-use Rattle.vetting_desk.specs.Answer.{Alike, Answers, IsFullReport, TellsClear}
+use Rattle.vetting_desk.specs.Answer.{Alike, Answers, DueByReads, IsFullReport, TellsClear}
 use Rattle.app_folder.specs.Due.{Due, NewFile}
 use Rattle.vetting_desk.specs.Due.{read_fault_text}
 use Rattle.vetting_desk.specs.declared.finding.Found.{Found}
@@ -75,6 +75,10 @@ pub data Ends (IsDue : Due → Type 0) (words : Option Words) (old new : Outside
 -- It ends with what is due to the words and the outside.
 abbrev pub EndsAsDue : Option Words → Outside → Outside → ℕ → Type 0
 EndsAsDue words old new n = Ends (Answers words old.tells) words old new n
+
+-- It ends with what is due to the words by what the reads in between gave, of any files.
+abbrev pub EndsAsRead : Option Words → Outside → Outside → List Entry → List Entry → ℕ → Type 0
+EndsAsRead words old new ho hn n = Ends (DueByReads words ho hn) words old new n
 
 -- Where what is read is told, it ends with what is like each due: there is one, but that of a finding there may be several right stories.
 abbrev pub EndsAsOnlyDue : Option Words → Outside → Outside → ℕ → Type 0

@@ -1,10 +1,10 @@
 //! What the words and the files come to, before anything is written or printed.
 
-ghost use Rattle.std.specs.Prelude.{◌≡◌, ◌<◌, ◌≤◌, ◌++◌, ℕ, List, Option, Some, map, string_bytes};
+ghost use Rattle.std.specs.Prelude.{◌≡◌, ◌<◌, ◌≤◌, ℕ, List, Option, Some, map, string_bytes};
 ghost use Rattle.vet_base.specs.Outside.{Told};
 ghost use Rattle.heard_files.specs.Outside.{Entry};
 ghost use Rattle.desk_words.specs.Words.{Check, Certify, Recheck, Story, Make, parse};
-ghost use Rattle.vetting_desk.specs.Found.{IsFound, FindsByFile, said, halted, unread};
+ghost use Rattle.vetting_desk.specs.Found.{IsFound, FindsByFile, HearsFile, said, halted, unread};
 ghost use Rattle.app_folder.specs.Reading.{AreShort};
 
 use crate::answer::Answer;
@@ -113,7 +113,7 @@ fn found_by_file<F: Files>(
     requires { AreShort parts.now }
     ensures finds { FindsByFile (string_bytes path) parts.now (F.told files.old) (F.told files.new)
         (F.fault_count files.old) (F.fault_count files.new) result }
-    ensures heard { (more : List Entry) × (F.heard files.new ≡ F.heard files.old ++ more) }
+    ensures heard { HearsFile (string_bytes path) parts.now (F.heard files.old) (F.heard files.new) result }
 {
     match files.read(alloc, path.as_str(), CERTIFICATE_LIMIT) {
         Ok(bytes) => said(rechecked(alloc, parts, &bytes, seed)),
@@ -170,8 +170,8 @@ fn found_by_make<T: Threads + Wait + Sync, L: Lookout>(
     requires app_seed { app_seed < 2147483648 }
     requires some { 1 ≤ size }
     requires most { size ≤ 2000 }
-    ensures { (told : Option Told) (count : ℕ) (old new : List Entry)
-        → IsFound (Some (Make app_seed size workers)) told told count count old new result }
+    ensures { (told : Option Told) (count : ℕ) (heard : List Entry)
+        → IsFound (Some (Make app_seed size workers)) told told count count heard heard result }
 {
     said(made(alloc, app_seed, size, workers, crew))
 }

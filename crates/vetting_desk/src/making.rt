@@ -89,8 +89,8 @@ pub fn made<T: Threads + Wait + Sync, L: Lookout>(
     requires app_seed { app_seed < 2147483648 }
     requires some { 1 ≤ size }
     requires most { size ≤ 2000 }
-    ensures { IfOk result (λ a. (told : Option Told) (old new : List Entry)
-        → FindsDue (Some (Make app_seed size workers)) told old new (due_of a)) }
+    ensures { IfOk result (λ a. (told : Option Told) (heard : List Entry)
+        → FindsDue (Some (Make app_seed size workers)) told heard heard (due_of a)) }
 {
     let parts = made_parts(alloc, app_seed, size)?;
     let judged = judge(alloc, &parts, &crew.of(workers))?;

@@ -7,7 +7,7 @@ ghost use Rattle.vetting_desk.specs.Due.{due_of};
 ghost use Rattle.vetting_desk.specs.Found.{TheDue, Says, file_of};
 ghost use Rattle.app_folder.specs.Outside.{outside};
 ghost use Rattle.vetting_desk.specs.Top.{PutsText, WritesDue, status_of_write, Finishes};
-ghost use Rattle.vetting_desk.specs.Top.{Ends, EndsAsDue, EndsAsOnlyDue, PrintsFullReport, HandsClear, TakesClear};
+ghost use Rattle.vetting_desk.specs.Top.{Ends, EndsAsDue, EndsAsRead, EndsAsOnlyDue, PrintsFullReport, HandsClear, TakesClear};
 
 use crate::answer::{Answer, Status, read_fault, status_saying, text_saying};
 use crate::finding::{Found, found_in};
@@ -184,6 +184,15 @@ pub fn vet<F: Files, O: Sink, T: Threads + Wait + Sync, L: Lookout>(
         (O.handed out.old))
         (outside (F.told files.new) (F.fault_count files.new) (O.taken out.new) (O.fault_count out.new)
         (O.handed out.new)) result.0 }
+
+    // So they are by what the reads of this very call gave, of any files: the files of the folder in their order, or up
+    // to the one for which the app is refused, and for `recheck` the certificate.
+    ensures reads { EndsAsRead (parse (map string_bytes words.now))
+        (outside (F.told files.old) (F.fault_count files.old) (O.taken out.old) (O.fault_count out.old)
+        (O.handed out.old))
+        (outside (F.told files.new) (F.fault_count files.new) (O.taken out.new) (O.fault_count out.new)
+        (O.handed out.new))
+        (F.heard files.old) (F.heard files.new) result.0 }
 
     // Nothing else is due, where the files tell what they hold, but that a finding may have several right stories.
     ensures only { EndsAsOnlyDue (parse (map string_bytes words.now))

@@ -7,4 +7,4 @@ returns-in-Ok g c =
 
 pub returns-in-Err : goal.returns-in-Err
 returns-in-Err g c =
-    rw c.halted.ensures (found_halted c.one_form_or_fault.ensures _ _ _ _ _ _ (story_asks c.args.dir.now (g.F.Files.told c.args.files.now) (g.F.Files.heard c.args.files.now) (g.F.Files.heard c.parts_in.new.files)) _ _ _ c.in-Err.halt c.in-Err.ensures.value c.in-Err.ensures.leaves c.in-Err.ensures.file)
+    rw c.halted.ensures (found_halted c.one_form_or_fault.ensures _ _ _ _ _ _ (story_asks c.args.dir.now (g.F.Files.told c.args.files.now) (g.F.Files.heard c.args.files.now) (g.F.Files.heard c.parts_in.new.files)) _ _ _ c.in-Err.halt c.in-Err.ensures.value c.in-Err.ensures.gave c.in-Err.ensures.leaves c.in-Err.ensures.file)

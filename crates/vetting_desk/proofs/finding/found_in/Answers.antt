@@ -11,7 +11,7 @@ use Rattle.vetting_desk.proofs.finding.found_in.Goals as goal
 pub returns-in-None : goal.returns-in-None
 returns-in-None g c =
     let At : Option Words → Type 0 = λ w. FindsDue w (g.F.Files.told c.args.files.now) (g.F.Files.heard c.args.files.now) (g.F.Files.heard c.args.files.now) usage in
-    (subst At c.in-None.ensures.parsed (finds_usage (g.F.Files.told c.args.files.now) (g.F.Files.heard c.args.files.now) (g.F.Files.heard c.args.files.now)), refl, refl)
+    (subst At c.in-None.ensures.parsed (finds_usage (g.F.Files.told c.args.files.now) (g.F.Files.heard c.args.files.now)), refl, refl)
 
 pub returns-in-Some-Make : goal.returns-in-Some-Make
 returns-in-Some-Make g c =
@@ -19,4 +19,4 @@ returns-in-Some-Make g c =
     let count : ℕ = g.F.Files.fault_count c.args.files.now in
     let heard : List Entry = g.F.Files.heard c.args.files.now in
     let At : Option Words → Type 0 = λ w. IsFound w told told count count heard heard c.found_by_make.result in
-    subst At (sym (ap (λ (k : Vetting). Some (vetting_words k)) c.in-Some-Make.field-0-is) ∙ c.in-Some-Make.ensures.parsed) (c.found_by_make.ensures told count heard heard)
+    subst At (sym (ap (λ (k : Vetting). Some (vetting_words k)) c.in-Some-Make.field-0-is) ∙ c.in-Some-Make.ensures.parsed) (c.found_by_make.ensures told count heard)
