@@ -46,8 +46,8 @@ module _ (finds : Content → Judgement → Type 0) (edition : List ℕ) (office
       → Visited (reference, content) (held_of party.name v.before.cases) (held_of party.name v.after.cases) v.said
   visited v n is front =
       by_ending finds edition v.day office party token reference content request read found role n
-      v.before.cases v.after.cases is.request is.ending is.written v.said
-      (subst (λ (bytes : List ℕ). Answers bytes is.request) front is.of_bytes) is.connection.cases is.ends
+      v.before.cases v.after.cases is.request is.kept.ending is.written v.said
+      (subst (λ (bytes : List ℕ). Answers bytes is.request) front is.talked.of_bytes) is.kept.connection.cases is.kept.ends
 
   pub acts : (from to : Standing) (said : List Served) → Tried finds edition office party.name request from said to
       → Acts (reference, content) (held_of party.name from.cases) (held_of party.name to.cases) said
@@ -67,7 +67,7 @@ module _ (finds : Content → Judgement → Type 0) (edition : List ℕ) (office
   acts from to said (of_another v same_said passes is apart later) =
       let x : HandedIn = (reference, content) in
       let then = acts v.after to same_said later in
-      let same = by_another party.name v.before.cases v.after.cases (carried_out is.ending) is.connection.cases apart ∙ ap (held_of party.name) passes.cases in
+      let same = by_another party.name v.before.cases v.after.cases (carried_out is.kept.ending) is.kept.connection.cases apart ∙ ap (held_of party.name) passes.cases in
       moved x (held_of party.name from.cases) (held_of party.name v.after.cases) (held_of party.name to.cases) same_said same then
 
 pub acts_once : (finds : Content → Judgement → Type 0) (edition : List ℕ) → ActsOnce finds edition

@@ -57,7 +57,7 @@ pub data Tried (finds : Content → Judgement → Type 0) (edition : List ℕ) (
       → PassesOn from v.before → IsVisit finds edition office v → v.told.coming ≡ take n request
       → Tried finds edition office party request v.after said to → Tried finds edition office party request from (v.said ∷ said) to
   of_another : {from to : Standing} (v : Visit) (said : List Served)
-      → PassesOn from v.before → (is : IsVisit finds edition office v) → IsAnothers party (carried_out is.ending)
+      → PassesOn from v.before → (is : IsVisit finds edition office v) → IsAnothers party (carried_out is.kept.ending)
       → Tried finds edition office party request v.after said to → Tried finds edition office party request from said to
 
 -- the desk wrote a whole reply of 200 or 201

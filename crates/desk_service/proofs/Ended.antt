@@ -13,10 +13,12 @@ use Rattle.desk_links.specs.declared.door.DoorFault.{DoorFault}
 use Rattle.desk_links.specs.declared.door.DoorFault.TheVariants as doors
 use Rattle.case_rules.specs.declared.case.Case.{Case}
 use Rattle.desk_serving.specs.Serving.{Outside}
-use Rattle.desk_serving.specs.Run.{Runs, IsMachineRun, CountsAll}
+use Rattle.desk_serving.specs.Run.{Runs, IsMachineRun, HoldsTalks, CountsAll}
 use Rattle.desk_service.specs.Judging.{FindsBy}
+use Rattle.desk_service.specs.Adding.{RunsAddVerdicts}
 use Rattle.desk_service.specs.Safety.{RunsStaySafe}
 use Rattle.desk_serving.specs.declared.judge.Desk.{Desk}
+use Rattle.store_office.specs.declared.office.Office.{Office}
 use Rattle.desk_service.specs.declared.lists_judge.OfficeLists.{OfficeLists}
 use Rattle.desk_service.specs.declared.opening.Halt.{Halt}
 use Rattle.desk_service.specs.declared.opening.Halt.TheVariants as halts
@@ -151,16 +153,25 @@ module _ (asked : Serve) (today : Option ℕ) where
         (subst (λ (t : List ℕ). PutsText a b i j x y due t result) is puts)
 
 -- what taking connections gives
-pub serves_desk : RunsStaySafe → (desk : Desk OfficeLists) (today : Option ℕ) (most : ℕ) (old new : Outside)
+serves_desk_by : RunsStaySafe → RunsAddVerdicts → (lists : List ℕ) (office : Office) (today : Option ℕ) (most : ℕ) (old new : Outside)
+    (r : Result ℕ DoorFault) → Runs (FindsBy lists) office (sha256 lists) today most old new r
+    → IsMachineRun old new r → HoldsTalks office old new r → CountsAll most old r
+    → ServesDesk (record { office = office; lists = lists }) today most old new r
+serves_desk_by stay add lists office today most old new r runs machine talks counts = record {
+  runs = runs;
+  machine = machine;
+  adds = add lists office today most old new r runs;
+  safe = stay lists office today most old new r runs;
+  talks = talks;
+  counts = counts;
+}
+
+pub serves_desk : RunsStaySafe → RunsAddVerdicts → (desk : Desk OfficeLists) (today : Option ℕ) (most : ℕ) (old new : Outside)
     (r : Result ℕ DoorFault) → desk.judge.edition ≡ sha256 desk.judge.lists
     → Runs (FindsBy desk.judge.lists) desk.office desk.judge.edition today most old new r
-    → IsMachineRun old new → CountsAll most old r → ServesDesk (opened_of desk) today most old new r
-serves_desk law desk today most old new r same runs machine counts =
-    let by_lists : Runs (FindsBy desk.judge.lists) desk.office (sha256 desk.judge.lists) today most old new r =
-    subst (λ (e : List ℕ). Runs (FindsBy desk.judge.lists) desk.office e today most old new r) same runs in
-    record {
-      runs = by_lists;
-      machine = machine;
-      counts = counts;
-      safe = law desk.judge.lists desk.office today most old new r by_lists;
-    }
+    → IsMachineRun old new r → HoldsTalks desk.office old new r → CountsAll most old r
+    → ServesDesk (opened_of desk) today most old new r
+serves_desk stay add desk today most old new r same runs machine talks counts =
+    serves_desk_by stay add desk.judge.lists desk.office today most old new r
+    (subst (λ (e : List ℕ). Runs (FindsBy desk.judge.lists) desk.office e today most old new r) same runs)
+    machine talks counts

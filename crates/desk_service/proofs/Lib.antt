@@ -1,5 +1,5 @@
 pub mod Ended
+pub mod Grows
 pub mod Judged
 pub mod Opened
 pub mod Safe
-pub mod Stays

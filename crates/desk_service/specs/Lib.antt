@@ -1,3 +1,4 @@
+pub mod Adding
 pub mod Judging
 pub mod Opening
 pub mod Safety

@@ -3,7 +3,6 @@ use Rattle.std.specs.Prelude.{◌≡◌, ℕ, List, Option, Some, Result}
 use Rattle.std.specs.List.{AllByRecursion}
 use Rattle.sha2.specs.Sha256.{sha256}
 use Rattle.desk_links.specs.declared.door.DoorFault.{DoorFault}
-use Rattle.desk_links.specs.Links.{Told}
 use Rattle.case_rules.specs.declared.case.Case.{Case}
 use Rattle.case_rules.specs.declared.case.Content.{Content}
 use Rattle.case_rules.specs.declared.case.Entry.{Entry}
@@ -41,10 +40,10 @@ CommandsStaySafe = (lists : List ℕ) (session : Session) (command : Command) (b
     → session.edition ≡ sha256 lists → Obeys (FindsBy lists) session command before after reply
     → StaysSafeBy lists session command before after
 
--- What is called clear stays safe, from the entry of a run to its exit.
+-- What is called clear stays safe, from the entry of a run to its exit, whatever the door tells.
 abbrev pub StaysSafe : List ℕ → Outside → Outside → Type 0
-StaysSafe lists entry exit = (cases then : List Case) (talk : Told) → entry.cases ≡ Some cases → entry.talk ≡ Some talk
-    → exit.cases ≡ Some then → AreSafe lists cases → AreSafe lists then
+StaysSafe lists entry exit = (cases then : List Case) → entry.cases ≡ Some cases → exit.cases ≡ Some then
+    → AreSafe lists cases → AreSafe lists then
 
 -- connections, one after the other
 abbrev pub RunsStaySafe : Type 0

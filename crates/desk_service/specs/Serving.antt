@@ -10,7 +10,8 @@ use Rattle.desk_links.specs.declared.door.DoorFault.{DoorFault}
 use Rattle.desk_links.specs.declared.door.DoorFault.TheVariants as doors
 use Rattle.case_rules.specs.declared.case.Case.{Case}
 use Rattle.desk_serving.specs.Serving.{Outside, outside}
-use Rattle.desk_serving.specs.Run.{Runs, IsMachineRun, CountsAll}
+use Rattle.desk_serving.specs.Run.{Runs, IsMachineRun, HoldsTalks, CountsAll}
+use Rattle.desk_service.specs.Adding.{AddsVerdicts}
 use Rattle.desk_service.specs.declared.opening.Paper.{Paper}
 use Rattle.desk_service.specs.declared.outside.Status.{Status}
 use Rattle.desk_service.specs.Judging.{FindsBy}
@@ -45,14 +46,18 @@ pub record KeepsFiles (old new : Seen) : Type 0 where
   pub files : new.files ≡ old.files
   pub faults : new.file_faults ≡ old.file_faults
 
--- Connections were taken, one after the other, up to a number or until no more came, and each was served by these lists. What
--- is called clear stays safe.
+-- Connections were taken, one after the other, up to a number or until no more came, and each was served by these lists. Where
+-- the keeper tells its cases, whatever the door tells: this is a run of the desk's machine, only verdicts are added to the
+-- cases, and what is called clear stays safe. Where the door tells, whatever the keeper tells: conversations were held, as
+-- many as there are.
 pub record ServesDesk (opened : Opened) (today : Option ℕ) (most : ℕ) (old new : Outside) (result : Result ℕ DoorFault)
     : Type 0 where
   pub runs : Runs (FindsBy opened.lists) opened.office (sha256 opened.lists) today most old new result
-  pub machine : IsMachineRun old new
-  pub counts : CountsAll most old result
+  pub machine : IsMachineRun old new result
+  pub adds : AddsVerdicts opened.lists old.cases new.cases
   pub safe : StaysSafe opened.lists old new
+  pub talks : HoldsTalks opened.office old new result
+  pub counts : CountsAll most old result
 
 -- Connections were taken at the desk that the folder gives. The reads in between gave its two files, whatever the files are.
 pub record Serves (asked : Serve) (today : Option ℕ) (old new : Seen) (result : Result ℕ DoorFault) : Type 0 where

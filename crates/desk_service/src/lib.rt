@@ -11,7 +11,7 @@ mod saying;
 mod texts;
 
 pub use desk_words::database_path;
-pub use laws::a_clear_decision_is_of_a_safe_app;
+pub use laws::{a_clear_decision_is_of_a_safe_app, an_added_decision_is_a_verdict};
 pub use opening::Paper;
 pub use outside::{Outside, Status};
 pub use run::{serve, serve_desk};

@@ -10,7 +10,7 @@ ghost use Rattle.desk_service.specs.Saying.{HaltSays, TakenSays, SaysAs, Says};
 ghost use Rattle.desk_service.specs.Serving.{seen, ServesDesk};
 ghost use Rattle.desk_words.specs.Serve.{asked_words};
 
-use crate::laws::a_clear_decision_is_of_a_safe_app;
+use crate::laws::{a_clear_decision_is_of_a_safe_app, an_added_decision_is_a_verdict};
 use crate::lists_judge::{ListsJudge, OfficeLists, judged};
 use crate::opening::{Halt, desk_in, path_of};
 use crate::outside::{Outside, Status};
@@ -83,6 +83,7 @@ where
     ensures out { outside.new.out ≡ outside.old.out }
 {
     a_clear_decision_is_of_a_safe_app();
+    an_added_decision_is_a_verdict();
     let crew = crew.of(desk.office.workers);
     let by = |parts: &Parts| -> Result<JudgedApp, Memory>
         ensures { IfOk result (IsJudged parts.now) }

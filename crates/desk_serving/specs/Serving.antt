@@ -1,10 +1,13 @@
 -- One connection of the desk: what was asked, how it ended, and what was written.
-use Rattle.std.specs.Prelude.{◌≡◌, ℕ, List, [], take, Option, Some, None, IfSome, Result, Ok, Err}
+use Rattle.std.specs.Prelude.{◌≡◌, ◌≤◌, ℕ, List, [], take, Option, Some, None, IfSome, Result, Err}
+use Rattle.vet_base.specs.Outside.{HasRisen}
 use Rattle.desk_links.specs.Links.{Told, without_first, with_written}
 use Rattle.case_rules.specs.declared.case.Case.{Case}
 use Rattle.case_rules.specs.declared.case.Content.{Content}
+use Rattle.case_rules.specs.declared.command.Command.{Command}
+use Rattle.case_rules.specs.declared.reply.Reply.{Reply}
 use Rattle.case_rules.specs.Desk.{Judgement, Turn, plan_over, reply_to}
-use Rattle.case_rules.specs.Runs.{Standing, Ending, Replied, CutOff, Ended as ended, Unread, Unanswered, Connection, IsConnection, ToCommand, ToOther, StoreFailed, NoMemory}
+use Rattle.case_rules.specs.Runs.{Standing, Ending, Replied, CutOff, Ended as ended, Unread, Unanswered, IsConnection, ToCommand, ToOther, StoreFailed, NoMemory}
 use Rattle.case_rules.specs.Runs.{Answer as RunAnswer}
 use Rattle.desk_http.specs.declared.asked.Asked.{Asked}
 use Rattle.desk_http.specs.declared.asked.HttpFault.{HttpFault}
@@ -19,6 +22,7 @@ use Rattle.desk_serving.specs.declared.serving.Served.TheVariants as served
 use Rattle.desk_serving.specs.Obeying.{FindsIn}
 use Rattle.desk_serving.specs.Responding.{Setting, setting_of, session_in, IsCommand, IsOther}
 use Rattle.store_office.specs.declared.office.Office.{Office}
+use Rattle.store_office.specs.declared.party.Party.{Party}
 
 -- The turn is the request's command in the session of its party, with what judging gave.
 pub record IsTurnOf (finds : Content → Judgement → Type 0) (setting : Setting) (cases : List Case)
@@ -60,18 +64,28 @@ IsEnd finds setting cases request Unread written said =
 IsEnd finds setting cases request (Unanswered turn) written said =
     IsMaybeTurn finds setting cases request turn × (written ≡ []) × (said ≡ served.Memory)
 
--- A connection: the request is that of the bytes that came, or why they are none; keeper and cases are those of one
--- connection of a run; and nothing is written but what is due.
+-- A connection over the cases: keeper and cases are those of one connection of a run, which ended so with these bytes.
+pub record IsKept (finds : Content → Judgement → Type 0) (setting : Setting) (before after : Standing)
+    (request : Result Asked HttpFault) (written : List ℕ) (said : Served) : Type 0 where
+  pub ending : Ending
+  pub connection : IsConnection (record { before = before; ending = ending; after = after })
+  pub ends : IsEnd finds setting before.cases request ending written said
+
+-- A connection over its link: the request is that of the bytes that came, or why they are none; and nothing is written
+-- but these bytes.
+pub record IsTalked (told : Told) (told_after : Option Told) (request : Result Asked HttpFault) (written : List ℕ)
+    : Type 0 where
+  pub of_bytes : Answers told.coming request
+  pub taken : ℕ
+  pub link : told_after ≡ Some (with_written written (without_first taken told))
+
+-- a connection over both, with one request and the bytes that are due to it
 pub record IsServed (finds : Content → Judgement → Type 0) (setting : Setting) (before after : Standing) (told : Told)
     (told_after : Option Told) (said : Served) : Type 0 where
   pub request : Result Asked HttpFault
-  pub of_bytes : Answers told.coming request
-  pub ending : Ending
-  pub connection : IsConnection (record { before = before; ending = ending; after = after })
-  pub taken : ℕ
   pub written : List ℕ
-  pub link : told_after ≡ Some (with_written written (without_first taken told))
-  pub ends : IsEnd finds setting before.cases request ending written said
+  pub kept : IsKept finds setting before after request written said
+  pub talked : IsTalked told told_after request written
 
 -- what is told of the outside, and how often it failed
 pub record Outside : Type 0 where
@@ -87,9 +101,44 @@ outside cases store_faults talk link_faults =
 abbrev pub standing : List Case → Outside → Standing
 standing cases o = record { cases = cases; keeper = o.store_faults; link = o.link_faults }
 
--- Where the outside tells what it holds, it is one connection on one day, the clock's where it tells it.
-abbrev pub Serves : (Content → Judgement → Type 0) → Office → List ℕ → Option ℕ → Outside → Outside → Served → Type 0
-Serves finds office edition today before after said = (cases : List Case) (talk : Told)
-    → before.cases ≡ Some cases → before.talk ≡ Some talk
-    → (day : ℕ) × IfSome today (λ d. day ≡ d) × (then : List Case) × (after.cases ≡ Some then)
-    × IsServed finds (setting_of office edition day) (standing cases before) (standing then after) talk after.talk said
+-- What may be answered, whatever the cases are: some reply to the command of the request, in the words for its party; the
+-- answer to what is no command; that the store failed, where the keeper's count rose; that memory ran out.
+pub data MayAnswer (office : Office) (request : Result Asked HttpFault) (before after : Outside) (answer : Answer)
+    : Type 0 where
+  to_command : (party : Party) (command : Command) (reply : Reply) → IsCommand office request party command
+      → answer ≡ answer_of party.role reply → MayAnswer office request before after answer
+  to_other : IsOther office request answer → MayAnswer office request before after answer
+  to_failure : answer ≡ error_answer 503 store_failed → HasRisen before.store_faults after.store_faults
+      → MayAnswer office request before after answer
+  to_want : answer ≡ error_answer 507 no_memory → MayAnswer office request before after answer
+
+-- How a connection may end, whatever the cases are: the bytes that were written, and what is said of it. An answer is cut
+-- off, and a request not read, only where the link's count rose.
+abbrev pub MayEnd : Office → Result Asked HttpFault → Outside → Outside → List ℕ → Served → Type 0
+MayEnd office request before after written (served.Replied status) =
+    (answer : Answer) × MayAnswer office request before after answer × (written ≡ bytes_of answer)
+    × (status ≡ answer.status)
+MayEnd office request before after written served.WriteFault =
+    (answer : Answer) × (n : ℕ) × MayAnswer office request before after answer × (written ≡ take n (bytes_of answer))
+    × HasRisen before.link_faults after.link_faults
+MayEnd office request before after written served.Ended = (request ≡ Err faults.Ended) × (written ≡ [])
+MayEnd office request before after written served.ReadFault =
+    (request ≡ Err faults.ReadFault) × (written ≡ []) × HasRisen before.link_faults after.link_faults
+MayEnd office request before after written served.Memory = written ≡ []
+
+-- One connection on one day, the clock's where it tells it, with one request and the bytes that are due to it: it ends as
+-- it may; where the keeper tells its cases, it is one over them, whatever the link tells; where the link tells what comes and
+-- is written, it is one over the link, whatever the keeper tells; so where both tell, it is one over both.
+pub record Serves (finds : Content → Judgement → Type 0) (office : Office) (edition : List ℕ) (today : Option ℕ)
+    (before after : Outside) (said : Served) : Type 0 where
+  pub day : ℕ
+  pub of_clock : IfSome today (λ d. day ≡ d)
+  pub request : Result Asked HttpFault
+  pub written : List ℕ
+  pub ends : MayEnd office request before after written said
+  pub store_never_falls : before.store_faults ≤ after.store_faults
+  pub link_never_falls : before.link_faults ≤ after.link_faults
+  pub kept : (cases : List Case) → before.cases ≡ Some cases
+      → (then : List Case) × (after.cases ≡ Some then)
+      × IsKept finds (setting_of office edition day) (standing cases before) (standing then after) request written said
+  pub talked : (talk : Told) → before.talk ≡ Some talk → IsTalked talk after.talk request written

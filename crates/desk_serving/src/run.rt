@@ -3,7 +3,7 @@ ghost use Rattle.std.specs.Prelude.{◌≡◌, Err};
 ghost use Rattle.vet_base.specs.Outside.{HasRisen};
 ghost use Rattle.desk_serving.specs.Obeying.{TellsDocket};
 ghost use Rattle.desk_serving.specs.Serving.{outside};
-ghost use Rattle.desk_serving.specs.Run.{Runs, IsMachineRun, CountsAll};
+ghost use Rattle.desk_serving.specs.Run.{Runs, IsMachineRun, HoldsTalks, CountsAll};
 
 use crate::judge::{Desk, Judge};
 use crate::serving::serve_one;
@@ -69,11 +69,17 @@ pub fn serve_door<K: Keeper, D: Door, C: Clock, J: Judge>(
         (outside (K.told keeper.new) (K.fault_count keeper.new) (D.Link.told door.new) (D.Link.fault_count door.new))
         result }
 
-    // Where keeper and door tell what they hold, it is a run of
-    // the desk's machine, with as many connections as there are.
+    // Where the keeper tells its cases it is a run of the desk's machine, whatever the door tells.
     ensures machine { IsMachineRun
         (outside (K.told keeper.old) (K.fault_count keeper.old) (D.Link.told door.old) (D.Link.fault_count door.old))
-        (outside (K.told keeper.new) (K.fault_count keeper.new) (D.Link.told door.new) (D.Link.fault_count door.new)) }
+        (outside (K.told keeper.new) (K.fault_count keeper.new) (D.Link.told door.new) (D.Link.fault_count door.new))
+        result }
+
+    // Where the door tells, conversations are held, as many as there are, whatever the keeper tells.
+    ensures talks { HoldsTalks desk.now.office
+        (outside (K.told keeper.old) (K.fault_count keeper.old) (D.Link.told door.old) (D.Link.fault_count door.old))
+        (outside (K.told keeper.new) (K.fault_count keeper.new) (D.Link.told door.new) (D.Link.fault_count door.new))
+        result }
     ensures count { CountsAll most
         (outside (K.told keeper.old) (K.fault_count keeper.old) (D.Link.told door.old) (D.Link.fault_count door.old))
         result }

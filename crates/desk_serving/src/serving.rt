@@ -96,9 +96,10 @@ pub fn unasked(request: &Result<Asked, HttpFault>) -> Option<Served>
 /// asked for only where there is a request to answer.
 ///
 /// Where keeper and link tell what they hold, it is one connection of the desk's machine: the answer is that of the
-/// bytes that came, the reply that of the command over the cases, and nothing else is written or changed. 503 is
-/// replied only where the keeper's count of faults rose in this call, and 507 only for want of memory; both leave the
-/// cases as they were.
+/// bytes that came, the reply that of the command over the cases, and nothing else is written or changed. Where the
+/// keeper alone tells, the cases are changed as by one command of some request, to which the status is due that is
+/// given; where the link alone tells, what is written may be answered to the bytes that came. 503 is replied only where
+/// the keeper's count of faults rose in this call, and 507 only for want of memory; both leave the cases as they were.
 pub fn serve_one<K: Keeper, L: Link, C: Clock, J: Judge>(
     alloc: Global,
     desk: &Desk<J>,

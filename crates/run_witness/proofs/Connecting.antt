@@ -1,7 +1,8 @@
 -- How a connection ends, by what was written and by what became of the cases.
-use Rattle.std.proofs.Common.{◌≡◌, ◌⊎◌, inl, inr, ℕ, ◌<◌, Bool, true, false, not, List, [], ◌∷◌, ◌++◌, drop, length, Option, Some, None, Result, Ok, Err, refl, ap, sym, subst, ◌∙◌, arith, lit<, codes}
+use Rattle.std.proofs.Common.{◌≡◌, ◌⊎◌, inl, inr, ℕ, ◌<◌, ◌+◌, Bool, true, false, not, List, [], ◌∷◌, ◌++◌, drop, map, length, Option, Some, None, Result, Ok, Err, refl, ap, sym, subst, ◌∙◌, arith, lit<, codes}
 use Rattle.std.specs.Prelude.{min, if◌then◌else◌, is_some, is_none, nat_lt, nat_le}
 use Rattle.std.specs.Fmt.{digits}
+use Rattle.std.specs.List.{AllByRecursion}
 use Rattle.std.specs.Char.{encode_utf8}
 use Rattle.std.proofs.lemmas.Option.{none-some, same_Some}
 use Rattle.case_rules.specs.declared.case.Case.{Case}
@@ -37,7 +38,7 @@ use Rattle.desk_http.specs.declared.asked.HttpFault.TheVariants as faults
 use Rattle.desk_http.specs.declared.reply.Answer.{Answer}
 use Rattle.desk_http.specs.Fields.{content_length}
 use Rattle.desk_http.specs.Replies.{type_of, version, content_type, connection, close, colon, space, crlf, status_line, field, reply_head, reply_bytes}
-use Rattle.desk_links.specs.Links.{Told, with_written, without_first}
+use Rattle.desk_links.specs.Links.{Talk, Told, with_written, without_first, ended_with}
 use Rattle.desk_routes.specs.declared.command.Turn.TheVariants as turns
 use Rattle.desk_routes.specs.Faults.{status_of, text_of}
 use Rattle.desk_routes.specs.Turns.{party_of, run_of, turn_by}
@@ -45,14 +46,16 @@ use Rattle.desk_routes.proofs.Due.{is_due}
 use Rattle.desk_serving.specs.declared.serving.Served.{Served}
 use Rattle.desk_serving.specs.declared.serving.Served.TheVariants as served
 use Rattle.desk_serving.specs.Responding.{Setting, setting_of, IsCommand, IsOther}
-use Rattle.desk_serving.specs.Serving.{IsTurnOf, IsAnswer, IsEnd, Outside, Serves, bytes_of}
+use Rattle.desk_serving.specs.Run.{Exchange, IsAnswered}
+use Rattle.desk_serving.specs.Serving.{IsTurnOf, IsAnswer, IsEnd, MayEnd, Outside, Serves, bytes_of}
 use Rattle.json.specs.Print.{escape, escape_byte}
 use Rattle.store_office.specs.Office.{has_token}
 use Rattle.store_office.specs.declared.office.Office.{Office}
 use Rattle.store_office.specs.declared.party.Party.{Party}
+use Rattle.store_office.specs.declared.party.Role.{Role}
 use Rattle.store_office.specs.declared.party.Role.TheVariants.{Reviewer}
 use Rattle.run_witness.specs.Commands.{bob, queued, anything}
-use Rattle.run_witness.specs.Connections.{bobs_office, appealed, Writes, ConnectionsEnd}
+use Rattle.run_witness.specs.Connections.{bobs_office, appealed, Writes, KeeperTells, LinkTells, ConnectionsEnd}
 
 abbrev first : List ℕ → ℕ
 first [] = 0
@@ -74,34 +77,46 @@ module _ (P : Result Plan Refusal → Type 0) (refused : (refusal : Refusal) →
   there None refusal next h = refused refusal
   there (Some y) refusal next h = h y
 
--- A plan that is no judging adds no decision.
+-- the reply that a case was added
+abbrev is_added : Reply → Bool
+is_added (replies.Added reference) = true
+is_added (replies.Kept reference state) = false
+is_added (replies.Decided developer reference outcome) = false
+is_added (replies.Shown case) = false
+is_added (replies.Text text) = false
+is_added (replies.Appealed reference) = false
+is_added (replies.Ruled developer reference ruling) = false
+is_added (replies.Lines lines) = false
+is_added (replies.No refusal) = false
+
+-- A plan that is no judging adds no decision, and says that a case was added only where one is.
 abbrev Adds : Plan → Type 0
-Adds (Say reply) = Unit {0}
+Adds (Say reply) = is_added reply ≡ false
 Adds (Do (changes.Add case) reply) = Unit {0}
 Adds (Do (changes.Decide party reference decision) reply) = ⊥
-Adds (Do (changes.Appeal party reference appeal) reply) = Unit {0}
-Adds (Do (changes.Rule party reference ruling) reply) = Unit {0}
+Adds (Do (changes.Appeal party reference appeal) reply) = is_added reply ≡ false
+Adds (Do (changes.Rule party reference ruling) reply) = is_added reply ≡ false
 Adds (Judge case) = Unit {0}
 
 abbrev AddsIn : Result Plan Refusal → Type 0
 AddsIn answer = Adds (told answer)
 
 no_plan : (refusal : Refusal) → AddsIn (Err refusal)
-no_plan refusal = tt
+no_plan refusal = refl
 
 two_tests : (a b : Bool) (x y : Refusal) (plan : Plan) → Adds plan → AddsIn (allow a x >>= λ _. allow b y >>= λ _. Ok plan)
 two_tests true b x y plan h = allowed AddsIn no_plan b y (λ _. Ok plan) h
-two_tests false b x y plan h = tt
+two_tests false b x y plan h = refl
 
 three_tests : (a b c : Bool) (x y z : Refusal) (plan : Plan) → Adds plan
     → AddsIn (allow a x >>= λ _. allow b y >>= λ _. allow c z >>= λ _. Ok plan)
 three_tests true b c x y z plan h = two_tests b c y z plan h
-three_tests false b c x y z plan h = tt
+three_tests false b c x y z plan h = refl
 
 at_case : (b : Bool) (found : Option Case) (none : Refusal) (next : Case → Result Plan Refusal) → ((case : Case) → AddsIn (next case))
     → AddsIn (allow b refusals.WrongRole >>= λ _. known found none >>= λ case. next case)
 at_case true found none next h = there AddsIn no_plan found none next h
-at_case false found none next h = tt
+at_case false found none next h = refl
 
 at_entry : (b : Bool) (found : Option Case) (none : Refusal) (next : Case → Entry → Result Plan Refusal)
     → ((case : Case) (entry : Entry) → AddsIn (next case entry))
@@ -114,7 +129,7 @@ adds_submitted : (party : Party) (reference : List ℕ) (content : Content) (fou
 unfolding submit
 adds_submitted party reference content (Some case) count =
     two_tests (is_developer party.role) (same_content case.content content) refusals.WrongRole refusals.OtherContent
-    (Say (replies.Kept reference (state_of case))) tt
+    (Say (replies.Kept reference (state_of case))) refl
 adds_submitted party reference content None count =
     two_tests (is_developer party.role) (nat_lt count 1000) refusals.WrongRole (refusals.TooManyOpen 1000)
     (Do (changes.Add (new_case party.name reference content)) (replies.Added reference)) tt
@@ -125,16 +140,16 @@ adds session (commands.Submit reference content) view = adds_submitted session.p
 adds session commands.Decide view =
     at_case (is_reviewer session.party.role) view.first refusals.NothingQueued (λ case. Ok (Judge case)) (λ case. tt)
 adds session (commands.Show reference) view =
-    at_case (is_developer session.party.role) view.found refusals.NoCase (λ case. Ok (Say (replies.Shown case))) (λ case. tt)
+    at_case (is_developer session.party.role) view.found refusals.NoCase (λ case. Ok (Say (replies.Shown case))) (λ case. refl)
 adds session (commands.Report reference) view =
     at_entry (is_developer session.party.role) view.found refusals.NotDecided (λ case entry. Ok (Say (replies.Text entry.decision.report)))
-    (λ case entry. tt)
+    (λ case entry. refl)
 adds session (commands.Appeal reference text) view =
     at_entry (is_developer session.party.role) view.found refusals.NotDecided
     (λ case entry. appeal_against session.party session.appeal_days session.day reference text entry)
     (λ case entry. three_tests (is_appealable entry.decision.outcome) (is_none entry.appeal) (nat_le session.day (last_day session.appeal_days entry))
     (refusals.NoAppealFor entry.decision.outcome) refusals.AppealedAlready (refusals.TooLate (last_day session.appeal_days entry))
-    (Do (changes.Appeal session.party.name reference (record { day = session.day; text = text })) (replies.Appealed reference)) tt)
+    (Do (changes.Appeal session.party.name reference (record { day = session.day; text = text })) (replies.Appealed reference)) refl)
 adds session (commands.Review developer reference) view =
     at_entry (is_reviewer session.party.role) view.found refusals.NotDecided
     (λ case entry. allow (not (has_edition session.edition case)) refusals.SameEdition >>= λ _. allow (not (is_open entry)) refusals.AppealOpen >>= λ _. Ok (Judge case))
@@ -144,8 +159,8 @@ adds session (commands.Rule developer reference word) view =
     (λ case entry. rule_on session.party session.day developer reference word entry)
     (λ case entry. three_tests (is_some entry.appeal) (is_none entry.ruling) (not (same entry.decision.reviewer session.party.name))
     refusals.NoAppeal refusals.RuledAlready refusals.SameReviewer
-    (Do (changes.Rule developer reference (record { reviewer = session.party.name; day = session.day; word = word })) (replies.Ruled developer reference word)) tt)
-adds session commands.List view = tt
+    (Do (changes.Rule developer reference (record { reviewer = session.party.name; day = session.day; word = word })) (replies.Ruled developer reference word)) refl)
+adds session commands.List view = refl
 
 -- the day of the decision on the first case, and 0 where there is none
 abbrev day_in : List Entry → ℕ
@@ -227,18 +242,35 @@ record Wrote (setting : Setting) (cases : List Case) (bytes : List ℕ) (status 
   request : Result Asked HttpFault
   sent : Sent setting cases request bytes status
 
+written_is : (office : Office) (edition : List ℕ) (today : Option ℕ) (before after : Outside) (bytes : List ℕ) (said : Served)
+    → Writes before after bytes → (serves : Serves anything office edition today before after said) → serves.written ≡ bytes
+written_is office edition today before after bytes said writes serves =
+    let t = serves.talked writes.talk writes.talk_is in
+    let now : writes.then ≡ with_written serves.written (without_first t.taken writes.talk) = same_Some _ _ (sym writes.then_is ∙ t.link) in
+    sym (ap (λ (t : Told). t.written) now ∙ ap (λ (w : List ℕ). w ++ serves.written) writes.none) ∙ writes.all
+
+-- over the cases as well
 wrote : (office : Office) (edition : List ℕ) (before after : Outside) (cases : List Case) (bytes : List ℕ) (status : ℕ)
-    → Writes before after cases bytes → Serves anything office edition None before after (served.Replied status)
+    → before.cases ≡ Some cases → Writes before after bytes → Serves anything office edition None before after (served.Replied status)
     → (day : ℕ) × Wrote (setting_of office edition day) cases bytes status
-wrote office edition before after cases bytes status writes serves =
-    let told = writes.tells in
-    let h = serves cases writes.talk told.cases_are told.talk_is in
-    let one = h.4 in
-    let now : writes.then ≡ with_written one.written (without_first one.taken writes.talk) = same_Some _ _ (sym writes.then_is ∙ one.link) in
-    let all : one.written ≡ bytes =
-    sym (ap (λ (t : Told). t.written) now ∙ ap (λ (w : List ℕ). w ++ one.written) writes.none) ∙ writes.all in
-    let sent = replied (setting_of office edition h.0) cases one.request one.ending one.written status one.ends in
-    (h.0, record { request = one.request; sent = subst (λ (w : List ℕ). Sent (setting_of office edition h.0) cases one.request w status) all sent })
+wrote office edition before after cases bytes status told writes serves =
+    let kept = (serves.kept cases told).2 in
+    let setting = setting_of office edition serves.day in
+    let sent = replied setting cases serves.request kept.ending serves.written status kept.ends in
+    let all = written_is office edition None before after bytes (served.Replied status) writes serves in
+    (serves.day, record { request = serves.request; sent = subst (λ (w : List ℕ). Sent setting cases serves.request w status) all sent })
+
+-- the answer of which these bytes are
+record Answered (bytes : List ℕ) (status : ℕ) : Type 0 where
+  answer : Answer
+  bytes_are : bytes ≡ bytes_of answer
+  status_is : status ≡ answer.status
+
+answer_by : (office : Office) (edition : List ℕ) (before after : Outside) (bytes : List ℕ) (status : ℕ)
+    → Writes before after bytes → Serves anything office edition None before after (served.Replied status) → Answered bytes status
+answer_by office edition before after bytes status writes serves =
+    let all = written_is office edition None before after bytes (served.Replied status) writes serves in
+    record { answer = serves.ends.0; bytes_are = sym all ∙ serves.ends.2; status_is = serves.ends.3 }
 
 own_status : (is_text : Bool) (body : List ℕ) (answer : Answer) → 200 ≡ answer.status → reply_bytes 404 is_text body ≡ bytes_of answer → ⊥
 unfolding version status_line reply_head digits
@@ -409,29 +441,154 @@ own_role setting at request ToOther answer is same = no_error answer (other sett
 own_role setting at request StoreFailed answer is same = no_error answer (503, store_failed, is) same
 own_role setting at request NoMemory answer is same = no_error answer (507, no_memory, is) same
 
+-- no bytes but a front
+no_front : (bytes : List ℕ) → codes "HTTP/" ≡ bytes → bytes ≡ [] → ⊥
+no_front bytes is none = below 0 72 (lit< tt) (sym (ap (byte_at 0) (is ∙ none)))
+
+front_by : (office : Office) (request : Result Asked HttpFault) (entry exit : Outside) (written : List ℕ) (said : Served)
+    → exit.link_faults ≡ 0 → codes "HTTP/" ≡ written → MayEnd office request entry exit written said → ⊥
+front_by office request entry exit written (served.Replied status) none is ends = whole ends.0 (is ∙ ends.2)
+front_by office request entry exit written served.Ended none is ends = no_front written is ends.1
+front_by office request entry exit written served.ReadFault none is ends = no_front written is ends.1
+front_by office request entry exit written served.WriteFault none is ends = let risen = ends.4 in omega (arith, none, risen)
+front_by office request entry exit written served.Memory none is ends = no_front written is ends
+
+abbrev talk_in : Exchange → Talk
+talk_in exchange = exchange.talk
+
+abbrev first_talk : Talk → List Talk → Talk
+first_talk other [] = other
+first_talk other (t ∷ talks) = t
+
+-- nothing was written but what may be answered
+front_in : (office : Office) (entry exit : Outside) (coming : List ℕ) (exchanges : List Exchange) → exit.link_faults ≡ 0
+    → (record { coming = coming; written = codes "HTTP/" }) ∷ [] ≡ map talk_in exchanges
+    → AllByRecursion (IsAnswered office entry exit) exchanges → ⊥
+front_in office entry exit coming [] none is all = let short : 1 ≡ 0 = ap (λ (ts : List Talk). length ts) is in omega (arith, short)
+front_in office entry exit coming (e ∷ exchanges) none is all =
+    let other : Talk = record { coming = coming; written = codes "HTTP/" } in
+    front_by office all.0.request entry exit e.talk.written all.0.said none
+    (ap (λ (ts : List Talk). (first_talk other ts).written) is) all.0.ends
+
+-- a reply with 201 is that a case was added
+refused_status : (refusal : Refusal) → refusal_status refusal ≡ 201 → ⊥
+refused_status refusals.WrongRole is = below 201 403 (lit< tt) (sym is)
+refused_status refusals.NoCase is = below 201 404 (lit< tt) (sym is)
+refused_status refusals.OtherContent is = below 201 409 (lit< tt) (sym is)
+refused_status (refusals.TooManyOpen limit) is = below 201 409 (lit< tt) (sym is)
+refused_status refusals.NothingQueued is = below 201 409 (lit< tt) (sym is)
+refused_status refusals.NotDecided is = below 201 409 (lit< tt) (sym is)
+refused_status refusals.SameEdition is = below 201 409 (lit< tt) (sym is)
+refused_status refusals.AppealOpen is = below 201 409 (lit< tt) (sym is)
+refused_status (refusals.NoAppealFor outcome) is = below 201 409 (lit< tt) (sym is)
+refused_status refusals.AppealedAlready is = below 201 409 (lit< tt) (sym is)
+refused_status (refusals.TooLate day) is = below 201 409 (lit< tt) (sym is)
+refused_status refusals.NoAppeal is = below 201 409 (lit< tt) (sym is)
+refused_status refusals.RuledAlready is = below 201 409 (lit< tt) (sym is)
+refused_status refusals.SameReviewer is = below 201 403 (lit< tt) (sym is)
+
+added_by : (role : Role) (reply : Reply) → (answer_of role reply).status ≡ 201 → is_added reply ≡ true
+added_by role (replies.Added reference) is = refl
+added_by role (replies.Kept reference state) is = absurd (below 200 201 (lit< tt) is)
+added_by role (replies.Decided developer reference outcome) is = absurd (below 200 201 (lit< tt) is)
+added_by role (replies.Shown case) is = absurd (below 200 201 (lit< tt) is)
+added_by role (replies.Text text) is = absurd (below 200 201 (lit< tt) is)
+added_by role (replies.Appealed reference) is = absurd (below 200 201 (lit< tt) is)
+added_by role (replies.Ruled developer reference ruling) is = absurd (below 200 201 (lit< tt) is)
+added_by role (replies.Lines lines) is = absurd (below 200 201 (lit< tt) is)
+added_by role (replies.No refusal) is = absurd (refused_status refusal is)
+
+not_added : (reply : Reply) → is_added reply ≡ true → is_added reply ≡ false → ⊥
+not_added reply is other = let clash : true ≡ false = sym is ∙ other in cc
+
+case_more : (cases : List Case) (case : Case) → length (cases ++ case ∷ []) ≡ length cases + 1
+case_more [] case = refl
+case_more (c ∷ cases) case = omega (arith, case_more cases case)
+
+-- then the cases are others
+adds_one : (test : Case → Bool) (decision : Decision) (plan : Plan) (cases : List Case) → Adds plan
+    → is_added (carried test decision plan cases).0 ≡ true → (carried test decision plan cases).1 ≡ cases → ⊥
+adds_one test decision (Say reply) cases h is same = not_added reply is h
+adds_one test decision (Do (changes.Add case) reply) cases h is same =
+    let longer = ap (λ (cs : List Case). length cs) same in
+    let one = case_more cases case in
+    omega (arith, longer, one)
+adds_one test decision (Do (changes.Decide party reference other) reply) cases h is same = absurd h
+adds_one test decision (Do (changes.Appeal party reference appeal) reply) cases h is same = not_added reply is h
+adds_one test decision (Do (changes.Rule party reference ruling) reply) cases h is same = not_added reply is h
+adds_one test decision (Judge case) cases h is same = let clash : false ≡ true = is in cc
+
+turn_adds : (turn : Turn) (cases : List Case) → (answer_of turn.session.party.role (reply_to turn cases)).status ≡ 201
+    → cases_then turn cases ≡ cases → ⊥
+turn_adds turn cases is same =
+    adds_one (speaks_of turn.session turn.command) (decision_by turn.session turn.judgement) (plan_over turn.session turn.command cases) cases
+    (adds turn.session turn.command (view_of turn.session turn.command cases))
+    (added_by turn.session.party.role (reply_to turn cases) is) same
+
+-- what is answered to what is no command is answered to none
+no_command : (office : Office) (request : Result Asked HttpFault) (answer : Answer) (party : Party) (command : Command)
+    → IsOther office request answer → IsCommand office request party command → ⊥
+no_command office (Ok asked) answer party command other is = no_run answer party command (sym other ∙ is)
+no_command office (Err fault) answer party command other is = is
+
+module _ (setting : Setting) (cases : List Case) (request : Result Asked HttpFault) (written : List ℕ) (party : Party) (command : Command)
+    (is : IsCommand setting.office request party command) where
+  -- a command to which 201 is said has changed the cases
+  acknowledges : (ending : Ending) → IsEnd anything setting cases request ending written (served.Replied 201)
+      → cases_by (carried_out ending) cases ≡ cases → ⊥
+  acknowledges (Replied (ToCommand turn)) e same =
+      turn_adds turn cases (sym (ap (λ (a : Answer). a.status) e.1.1) ∙ sym (same_status 201 e.0.status e.3)) same
+  acknowledges (Replied ToOther) e same = no_command setting.office request e.0 party command e.1 is
+  acknowledges (Replied StoreFailed) e same =
+      below 201 503 (lit< tt) (same_status 201 e.0.status e.3 ∙ ap (λ (a : Answer). a.status) e.1)
+  acknowledges (Replied NoMemory) e same =
+      below 201 507 (lit< tt) (same_status 201 e.0.status e.3 ∙ ap (λ (a : Answer). a.status) e.1)
+  acknowledges (CutOff sent) e same = let clash = e.4 in cc
+  acknowledges ended e same = let clash = e.2 in cc
+  acknowledges Unread e same = let clash = e.2 in cc
+  acknowledges (Unanswered turn) e same = let clash = e.2 in cc
+
+keeper_tells : KeeperTells
+keeper_tells = record {
+  own_day = λ office edition before after d said told kept day serves.
+      let h = serves.kept (queued ∷ []) told in
+      let cases : with_entry d queued ∷ [] ≡ cases_by (carried_out h.2.ending) (queued ∷ []) =
+      same_Some _ _ (sym kept ∙ h.1) ∙ h.2.connection.cases in
+      let setting = setting_of office edition serves.day in
+      let stays = ends_on_day setting serves.request h.2.ending serves.written said h.2.ends in
+      first_day serves.day d.day serves.of_clock day (subst (λ (cs : List Case). Stays serves.day cs) (sym cases) stays);
+  acknowledged = λ office edition before after cases party command told now serves is.
+      let h = serves.kept cases told in
+      acknowledges (setting_of office edition serves.day) cases serves.request serves.written party command is h.2.ending h.2.ends
+      (sym h.2.connection.cases ∙ same_Some _ _ (sym h.1 ∙ now));
+}
+
+link_tells : LinkTells
+link_tells = record {
+  own_status = λ office edition before after is_text body writes serves.
+      let h = answer_by office edition before after (reply_bytes 404 is_text body) 200 writes serves in
+      own_status is_text body h.answer h.status_is h.bytes_are;
+  whole = λ office edition before after status writes serves.
+      let h = answer_by office edition before after (codes "HTTP/") status writes serves in whole h.answer h.bytes_are;
+  front = λ office entry exit none one holds.
+      let h = holds one.talk one.talk_is in
+      let same : h.1 ≡ one.then = same_Some _ _ (sym h.2 ∙ one.then_is) in
+      let talks : map talk_in h.0 ≡ ended_with h.1 =
+      sym (h.3.over ∙ ap (λ (ts : List Talk). ts ++ map talk_in h.0) one.none) in
+      front_in office entry exit one.coming h.0 none (sym (talks ∙ ap ended_with same ∙ one.one)) h.3.answered;
+  none_taken = λ entry talk told one counts.
+      let none : 0 ≡ min 1 (length talk.left) = counts talk told in
+      below 0 1 (lit< tt) (none ∙ ap (λ (n : ℕ). min 1 n) one);
+}
+
 pub connections_end : ConnectionsEnd
 connections_end = record {
-  own_day = λ office edition before after talk d said told kept day serves.
-      let h = serves (queued ∷ []) talk told.cases_are told.talk_is in
-      let one = h.4 in
-      let cases : with_entry d queued ∷ [] ≡ cases_by (carried_out one.ending) (queued ∷ []) =
-      same_Some _ _ (sym kept ∙ h.3) ∙ one.connection.cases in
-      let setting = setting_of office edition h.0 in
-      let stays = ends_on_day setting one.request one.ending one.written said one.ends in
-      first_day h.0 d.day h.1 day (subst (λ (cs : List Case). Stays h.0 cs) (sym cases) stays);
-  own_role = λ edition before after writes serves.
-      let h = wrote bobs_office edition before after (appealed ∷ []) told_developer 200 writes serves in
+  keeper = keeper_tells;
+  link = link_tells;
+  own_role = λ edition before after told writes serves.
+      let h = wrote bobs_office edition before after (appealed ∷ []) told_developer 200 told writes serves in
       let s = h.1.sent in
       own_role (setting_of bobs_office edition h.0) refl h.1.request s.sent s.answer s.is s.bytes;
-  own_status = λ office edition before after cases is_text body writes serves.
-      let h = wrote office edition before after cases (reply_bytes 404 is_text body) 200 writes serves in
-      own_status is_text body h.1.sent.answer h.1.sent.said h.1.sent.bytes;
-  whole = λ office edition before after cases status writes serves.
-      let h = wrote office edition before after cases (codes "HTTP/") status writes serves in
-      whole h.1.sent.answer h.1.sent.bytes;
   not_asked = λ none. none-some served.Ended (sym none);
-  none_taken = λ entry cases talk told one counts.
-      let none : 0 ≡ min 1 (length talk.left) = counts cases talk told.cases_are told.talk_is in
-      below 0 1 (lit< tt) (none ∙ ap (λ (n : ℕ). min 1 n) one);
   not_risen = λ risen. omega (arith, risen);
 }

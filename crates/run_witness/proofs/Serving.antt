@@ -4,7 +4,15 @@ use Rattle.std.specs.Prelude.{min, IsSomeAnd}
 use Rattle.std.specs.Option.{option_map}
 use Rattle.std.specs.Fmt.{digits}
 use Rattle.std.proofs.lemmas.Option.{none-some, same_Some}
+use Rattle.std.specs.List.{AllByRecursion}
 use Rattle.vet_base.specs.Outside.{HasRisen, Told, held_by}
+use Rattle.case_rules.specs.declared.case.Decision.{Decision}
+use Rattle.case_rules.specs.Cases.{with_entry}
+use Rattle.verdict.specs.declared.outcome.Outcome.{Outcome}
+use Rattle.verdict.specs.declared.outcome.Outcome.TheVariants.{Clear, Flagged, Undecided, Refused}
+use Rattle.verdict_report.specs.Printed.{counted_line}
+use Rattle.verdict_report.specs.Report.{report_text, clear_text, flagged_text, undecided_text, refused_text as refused_report}
+use Rattle.desk_service.specs.Adding.{IsVerdict, IsDecidedOn}
 use Rattle.form_fields.specs.declared.told.FormFault.{FormFault}
 use Rattle.form_fields.specs.declared.told.FormFault.TheVariants as forms
 use Rattle.verdict_report.specs.Reasons.{form_reason, unfit_text}
@@ -19,7 +27,7 @@ use Rattle.desk_service.specs.Opening.{Opens, OpensAs, Opened, Refusal, IsUnfitL
 use Rattle.desk_service.specs.Serving.{Seen, Serves, ComesToSay, Ends, KeepsFiles, PrintsNothing}
 use Rattle.desk_service.specs.Serving.{Prints as PrintsText}
 use Rattle.desk_service.specs.Texts.{refused_text, served_text, door_fault_text}
-use Rattle.run_witness.specs.Servings.{Prints, Fails, Holds, HasTwo, NoServing, ServingsEnd}
+use Rattle.run_witness.specs.Servings.{Prints, Fails, Holds, HasTwo, decided, DecidesUnread, NoServing, ServingsEnd}
 
 abbrev first : List ℕ → ℕ
 first [] = 0
@@ -51,6 +59,26 @@ no_seven n is (inl h) = omega (arith, is, h)
 no_seven n is (inr (inl h)) = omega (arith, is, h)
 no_seven n is (inr (inr (inl h))) = omega (arith, is, h)
 no_seven n is (inr (inr (inr h))) = omega (arith, is, h)
+
+-- a report is not empty
+has_report : (outcome : Outcome) → [] ≡ report_text outcome → ⊥
+unfolding clear_text flagged_text undecided_text refused_report counted_line
+has_report Clear none = let clash : 0 ≡ 99 = ap first none in cc
+has_report (Flagged findings) none = let clash : 0 ≡ 102 = ap first none in cc
+has_report (Undecided causes findings) none = let clash : 0 ≡ 117 = ap first none in cc
+has_report (Refused part reason) none = let clash : 0 ≡ 114 = ap first none in cc
+
+abbrev rest_of : List Decision → List Decision
+rest_of [] = []
+rest_of (d ∷ ds) = ds
+
+-- a decision without one is no verdict
+no_verdict : (lists : List ℕ) (d : Decision) → d.report ≡ [] → IsDecidedOn (IsVerdict lists) decided (with_entry d decided) → ⊥
+no_verdict lists d unread later =
+    let added : d ∷ [] ≡ later.added = ap rest_of later.decisions in
+    let verdicts : AllByRecursion (IsVerdict lists decided.content) (d ∷ []) =
+    subst (λ (ds : List Decision). AllByRecursion (IsVerdict lists decided.content) ds) (sym added) later.are in
+    has_report verdicts.0.found.judged.outcome (sym unread ∙ verdicts.0.found.report)
 
 module _ (asked : Serve) (today : Option ℕ) (old new : Seen) where
   -- what was said with status 0
@@ -113,8 +141,15 @@ module _ (asked : Serve) (today : Option ℕ) (old new : Seen) where
   -- both connections were taken
   both : (count : ℕ) → asked.most ≡ 2 → HasTwo old → Serves asked today old new (Ok count) → count ≡ 2
   both count most two serves =
-      let counted : count ≡ min asked.most (length two.1.left) = serves.desk.counts two.0 two.1 two.2 two.3 in
-      counted ∙ ap (λ (m : ℕ). min m (length two.1.left)) most ∙ ap (λ (k : ℕ). min 2 k) two.4
+      let counted : count ≡ min asked.most (length two.0.left) = serves.desk.counts two.0 two.1 in
+      counted ∙ ap (λ (m : ℕ). min m (length two.0.left)) most ∙ ap (λ (k : ℕ). min 2 k) two.2
+
+  -- only verdicts are added
+  unread : DecidesUnread old new → Ends asked today old new 0 → ⊥
+  unread is ends =
+      let serves = (ends_served 0 refl ends).1.1 in
+      no_verdict serves.opened.lists is.decision is.unread
+      (serves.desk.adds (decided ∷ []) (with_entry is.decision decided ∷ []) is.before is.after).0
 
   none_is_two : (count : ℕ) → count ≡ 2 → served_text 0 ≡ served_text count → ⊥
   unfolding served_text digits
@@ -217,6 +252,7 @@ module _ (asked : Serve) (today : Option ℕ) (old new : Seen) where
     door_failed = λ is ends. let h = printed_served door_fault_text is ends in failed_is_served h.0 h.2;
     none_taken = λ most two is ends. let h = printed_served (served_text 0) is ends in none_is_two h.0 (both h.0 most two h.1) h.2;
     one_taken = λ most two is ends. let h = printed_served (served_text 1) is ends in one_is_two h.0 (both h.0 most two h.1) h.2;
+    verdicts = unread;
     put_failed = λ fails ends. not_same old.print_faults new.print_faults fails (ends_unprinted 7 refl ends).count;
     put_succeeded = λ fails ends. not_risen old.print_faults new.print_faults fails (ends_risen 6 refl ends);
     read_failed = λ fails ends. not_same old.file_faults new.file_faults fails (ends_refused 3 refl ends).1.2.faults;

@@ -3,6 +3,8 @@ use Rattle.std.specs.Prelude.{◌≡◌, ◌<◌, ℕ, List, [], ◌∷◌, leng
 use Rattle.vet_base.specs.Outside.{Told}
 use Rattle.desk_links.specs.Links.{Told as LinkTold}
 use Rattle.case_rules.specs.declared.case.Case.{Case}
+use Rattle.case_rules.specs.declared.case.Decision.{Decision}
+use Rattle.case_rules.specs.Cases.{entry_of, with_entry}
 use Rattle.form_fields.specs.declared.told.FormFault.{FormFault}
 use Rattle.desk_words.specs.Serve.{Serve, parse}
 use Rattle.desk_service.specs.declared.opening.Paper.{Paper}
@@ -13,6 +15,8 @@ use Rattle.desk_service.specs.Opening.{paper_path}
 use Rattle.desk_service.specs.Saying.{status}
 use Rattle.desk_service.specs.Serving.{Seen, Answers}
 use Rattle.desk_service.specs.Texts.{refused_text, served_text, door_fault_text}
+use Rattle.run_witness.specs.Commands.{content}
+use Rattle.run_witness.specs.Connections.{decision}
 
 -- nothing was printed before, and this after
 pub record Prints (old new : Seen) (text : List ℕ) : Type 0 where
@@ -28,9 +32,20 @@ pub record Fails (before after n : ℕ) : Type 0 where
 abbrev pub Holds : Seen → Serve → Paper → Option (List ℕ) → Type 0
 Holds old asked paper file = (told : Told) × (old.files ≡ Some told) × (told.files (paper_path asked.office paper) ≡ file)
 
--- keeper and door tell, and the door has two connections left
+-- the door tells that it has two connections left
 abbrev pub HasTwo : Seen → Type 0
-HasTwo old = (cases : List Case) × (talk : LinkTold) × (old.desk.cases ≡ Some cases) × (old.desk.talk ≡ Some talk) × (length talk.left ≡ 2)
+HasTwo old = (talk : LinkTold) × (old.desk.talk ≡ Some talk) × (length talk.left ≡ 2)
+
+-- ada's case with one decision, which has no report
+abbrev pub decided : Case
+decided = record { party = codes "ada"; reference = codes "a1"; content = content; entries = entry_of decision ∷ [] }
+
+-- the keeper tells one more decision on it, which has no report either
+pub record DecidesUnread (old new : Seen) : Type 0 where
+  pub decision : Decision
+  pub unread : decision.report ≡ []
+  pub before : old.desk.cases ≡ Some (decided ∷ [])
+  pub after : new.desk.cases ≡ Some (with_entry decision decided ∷ [])
 
 -- the words `serve o 2`
 abbrev pub words : List (List ℕ)
@@ -45,6 +60,8 @@ pub record NoServing (asked : Serve) (today : Option ℕ) (old new : Seen) : Typ
   -- of two connections that are left and asked for none fails to be taken (else none, or one)
   pub none_taken : asked.most ≡ 2 → HasTwo old → Prints old new (served_text 0) → Answers (Some asked) today old new (Some (status 0)) → ⊥
   pub one_taken : asked.most ≡ 2 → HasTwo old → Prints old new (served_text 1) → Answers (Some asked) today old new (Some (status 0)) → ⊥
+  -- what is decided is a verdict, which has a report, though an older one is none (else it would be kept as it came)
+  pub verdicts : DecidesUnread old new → Answers (Some asked) today old new (Some (status 0)) → ⊥
   -- a put that failed is no want of memory (else status 7)
   pub put_failed : Fails old.print_faults new.print_faults 1 → Answers (Some asked) today old new (Some (status 7)) → ⊥
   -- a put that did not fail is none that failed (else status 6)
