@@ -7,7 +7,7 @@ use crate::reading::{
 use crate::refusal::Refusal;
 use crate::tables::make_tables;
 use case_rules::{Case, Change, Line};
-use sqlite::{Alter, Connection};
+use sqlite::{Alter, Connection, Error, ErrorCode};
 use std::alloc::Global;
 use vet_base::{Name, Shared};
 
@@ -36,6 +36,17 @@ impl<S: Alter + Drop> Database<S> {
     {
         let Database { connection, .. } = self;
         connection
+    }
+
+    /// Whether an earlier failure closed the connection, so that it refuses whatever it is asked. Only its compiler is
+    /// asked, which reads and changes nothing.
+    pub fn is_closed(&mut self) -> bool
+        ensures { self.new.has_tables ≡ self.old.has_tables }
+    {
+        matches!(
+            self.connection.prepare("SELECT 1"),
+            Err(Error::SqliteFailure(ErrorCode::Closed))
+        )
     }
 
     /// Makes the tables where they are not there.

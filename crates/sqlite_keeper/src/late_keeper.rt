@@ -20,8 +20,8 @@ pub trait Opener {
     fn open(&mut self) -> Result<Connection<Self::Store>, Error>;
 }
 
-/// A keeper that opens its connection at its first call; where
-/// that is refused, the next call tries again. It tells no cases.
+/// A keeper that opens its connection at its first call; where that is refused, the next call tries again. A connection
+/// that a failure closed is opened anew at the next call. It tells no cases.
 #[derive(Drop)]
 pub struct LateKeeper<O: Opener + Drop> {
     opener: O,
@@ -42,12 +42,21 @@ impl<O: Opener + Drop> LateKeeper<O> {
     }
 }
 
+/// The database that is there, where it is open. One that a failure closed is let go, since a file is open once at a time.
+fn still_open<S: Alter + Drop>(database: Option<Database<S>>) -> Option<Database<S>> {
+    let mut database = database?;
+    if database.is_closed() {
+        return None;
+    }
+    Some(database)
+}
+
 /// The database, which is opened where it is not open.
 fn opened<'a, O: Opener>(
     opener: &mut O,
     database: &'a mut Option<Database<O::Store>>,
 ) -> Result<&'a mut Database<O::Store>, Refusal> {
-    let found = match database.take() {
+    let found = match still_open(database.take()) {
         Some(found) => found,
         None => Database::over(opener.open()?),
     };

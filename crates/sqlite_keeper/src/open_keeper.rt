@@ -31,6 +31,13 @@ impl<S: Alter + Drop> OpenKeeper<S> {
         }
     }
 
+    /// Whether an earlier failure closed the connection, so that each call fails.
+    pub fn is_closed(&mut self) -> bool
+        ensures { self.new.faults ≡ self.old.faults }
+    {
+        self.database.is_closed()
+    }
+
     /// Hands the connection back.
     pub fn give_back(self) -> Connection<S>
         ensures { result ≡ self.database.connection }
