@@ -5,22 +5,40 @@
 //! prints what a command takes with many cases.
 #![tactic(auto)]
 
-mod databases;
-
+use database_cases::no_folder;
 use memory_cases::{commands, connections};
+use sqlite_keeper::SqlKeeper;
+use std::rt::{Env, Files};
 use std::{env, io};
 
-fn all(rt: &HostRuntime) -> io::Result<()> {
+/// All that is tested over a keeper in memory.
+fn in_memory<R: Files + Print + AllocGlobal>(rt: &R) -> io::Result<()> {
     println!(rt; "commands, over a keeper in memory")?;
     commands::all(rt)?;
     println!(rt; "connections, over a keeper in memory")?;
-    connections::all(rt)?;
+    connections::all(rt)
+}
+
+/// All that is tested over databases whose files are in memory.
+fn in_databases<R: Files + Print + AllocGlobal>(rt: &R) -> io::Result<()> {
     println!(rt; "databases")?;
-    databases::all(rt)
+    database_cases::all(rt)
+}
+
+/// A keeper of a file that is not there.
+fn lost_keeper(rt: HostRuntime) -> io::Result<SqlKeeper> {
+    let path = String::from_str(rt.alloc(), "no_such_folder/desk.sqlite")?;
+    Ok(SqlKeeper::new(rt, path))
+}
+
+fn all(rt: &HostRuntime) -> io::Result<()> {
+    in_memory(rt)?;
+    in_databases(rt)?;
+    no_folder(rt, lost_keeper(rt.clone()?)?)
 }
 
 /// The words behind the program's name.
-fn words_of(rt: &HostRuntime) -> io::Result<Vec<String>> {
+fn words_of<R: Env + AllocGlobal>(rt: &R) -> io::Result<Vec<String>> {
     let mut words = Vec::new(rt.alloc());
     for word in env::args(rt)?.skip(1) {
         words.push(word)?;

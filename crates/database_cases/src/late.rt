@@ -2,8 +2,9 @@
 
 ghost use Rattle.desk_serving.specs.Obeying.{TellsDocket};
 
-use crate::databases::keepers::RefusedKeeper;
-use crate::databases::telling::{tells, told_by_memory};
+use crate::keepers::LateOne;
+use crate::store::LASTING;
+use crate::telling::{tells, told_by_memory};
 use case_keeper::{KeepFault, Keeper};
 use case_lines::due_in;
 use sqlite_keeper::{LateKeeper, Opener};
@@ -38,30 +39,26 @@ pub fn fails_twice<K: Keeper>(alloc: Global, keeper: &mut K) -> bool
 }
 
 /// Whether a keeper whose connection is refused twice fails twice, and then tells after each command what is due.
-fn tells_at_last<K: RefusedKeeper>(
+fn tells_at_last<K: LateOne>(
     alloc: Global,
     due: &str,
     commands: &str,
     questions: &str,
 ) -> io::Result<bool> {
-    let mut keeper = K::refused(alloc, 2)?;
+    let mut keeper = K::late(alloc, 2, LASTING)?;
     let failed = fails_twice(alloc, &mut keeper);
     let is_told = tells(alloc, &mut keeper, due, commands, questions)?;
     Ok(failed && is_told)
 }
 
 /// Whether a connection that is refused is asked for again: a keeper fails twice and then tells what memory does.
-pub fn asks_again<K: RefusedKeeper>(
-    alloc: Global,
-    commands: &str,
-    questions: &str,
-) -> io::Result<bool> {
+pub fn asks_again<K: LateOne>(alloc: Global, commands: &str, questions: &str) -> io::Result<bool> {
     let due = told_by_memory(alloc, commands, questions)?;
     tells_at_last::<K>(alloc, due.as_str(), commands, questions)
 }
 
 /// Prints whether a keeper fails at each call.
-fn fails_always<K: Keeper>(rt: &HostRuntime, keeper: &mut K) -> io::Result<()>
+fn fails_always<R: Print + AllocGlobal, K: Keeper>(rt: &R, keeper: &mut K) -> io::Result<()>
     requires { TellsDocket (K.told keeper.old) }
     ensures { TellsDocket (K.told keeper.new) }
 {
@@ -73,7 +70,10 @@ fn fails_always<K: Keeper>(rt: &HostRuntime, keeper: &mut K) -> io::Result<()>
 }
 
 /// Prints whether a keeper whose folder is not there fails at each call.
-pub fn no_folder<O: Opener + Drop>(rt: &HostRuntime, keeper: LateKeeper<O>) -> io::Result<()> {
+pub fn no_folder<R: Print + AllocGlobal, O: Opener + Drop>(
+    rt: &R,
+    keeper: LateKeeper<O>,
+) -> io::Result<()> {
     let mut keeper = keeper;
     fails_always(rt, &mut keeper)
 }

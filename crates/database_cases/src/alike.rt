@@ -2,10 +2,10 @@
 
 ghost use Rattle.desk_serving.specs.Obeying.{TellsDocket};
 
-use crate::databases::keepers::FileKeeper;
-use crate::databases::late::fails_twice;
-use crate::databases::store::LASTING;
-use crate::databases::telling::{story, tells, tells_end, told_by_memory};
+use crate::keepers::FileKeeper;
+use crate::late::fails_twice;
+use crate::store::LASTING;
+use crate::telling::{story, tells, tells_end, told_by_memory};
 use case_keeper::Keeper;
 use case_lines::change_of;
 use std::alloc::Global;

@@ -4,7 +4,7 @@
 ghost use Rattle.std.specs.Prelude.{IfOk};
 ghost use Rattle.desk_serving.specs.Obeying.{TellsDocket};
 
-use crate::databases::store::{Calls, Filed, LASTING};
+use crate::store::{Faults, Filed, LASTING};
 use case_keeper::{KeepFault, Keeper};
 use case_rules::Change;
 use sqlite::{Alter, Connection, Error, ErrorCode, Row};
@@ -14,14 +14,14 @@ use std::io;
 
 /// A keeper over a database in files that are closed and opened again.
 pub trait FileKeeper: Keeper + Drop + Sized {
-    /// A keeper over an empty database, of which log and file do so many calls and then no more, until the machine
-    /// comes back: when they are opened again, and where they stop while the database is made.
-    fn blank(alloc: Global, calls: Calls) -> io::Result<Self>
+    /// A keeper over an empty database, of which log and file fail so. Where they stop, the machine comes back when
+    /// they are opened again; and where the database can't be made at first, it comes back then.
+    fn blank(alloc: Global, faults: Faults) -> io::Result<Self>
         ensures { IfOk result (λ keeper. TellsDocket (Self.told keeper)) };
 
-    /// The keeper over the same files, which are closed and opened again. Where they may have stopped, the machine
+    /// The keeper over the same files, which are closed and opened again. Where they may have failed, the machine
     /// comes back in between, by which what was not synced is lost.
-    fn reopened(self, alloc: Global, may_have_stopped: bool) -> io::Result<Self>
+    fn reopened(self, alloc: Global, may_have_failed: bool) -> io::Result<Self>
         ensures { IfOk result (λ keeper. TellsDocket (Self.told keeper)) };
 
     /// The keeper once the statements have run.
@@ -32,14 +32,19 @@ pub trait FileKeeper: Keeper + Drop + Sized {
     fn refuses(&mut self, alloc: Global, change: &Change) -> bool
         ensures { TellsDocket (Self.told self.new) };
 
+    /// Whether a failure closed the database, so that its files are to be opened again.
+    fn is_shut(&mut self) -> bool
+        ensures { TellsDocket (Self.told self.new) };
+
     /// How many tables and indexes the database has.
     fn size(self) -> Option<i64>;
 }
 
-/// A keeper whose connection is refused at first.
-pub trait RefusedKeeper: Keeper + Drop + Sized {
-    /// A keeper over an empty database, of which the connection is refused as often as said.
-    fn refused(alloc: Global, refusals: u32) -> io::Result<Self>
+/// A keeper that opens its database at its first call, and anew where a failure closed it.
+pub trait LateOne: Keeper + Drop + Sized {
+    /// A keeper over an empty database, of which the connection is refused as often as said, and log and file fail so.
+    /// Where a failure closes it, another empty database is opened, which does not fail.
+    fn late(alloc: Global, refusals: u32, faults: Faults) -> io::Result<Self>
         ensures { IfOk result (λ keeper. TellsDocket (Self.told keeper)) };
 }
 
@@ -67,13 +72,13 @@ fn size_of<S: Alter + Drop>(connection: Connection<S>) -> Option<i64> {
 }
 
 impl<S: Filed> FileKeeper for OpenKeeper<S> {
-    fn blank(alloc: Global, calls: Calls) -> io::Result<OpenKeeper<S>> {
-        Ok(OpenKeeper::adopt(S::blank(alloc, calls)?))
+    fn blank(alloc: Global, faults: Faults) -> io::Result<OpenKeeper<S>> {
+        Ok(OpenKeeper::adopt(S::blank(alloc, faults)?))
     }
 
-    fn reopened(self, alloc: Global, may_have_stopped: bool) -> io::Result<OpenKeeper<S>> {
+    fn reopened(self, alloc: Global, may_have_failed: bool) -> io::Result<OpenKeeper<S>> {
         let store = self.give_back().into_store();
-        Ok(OpenKeeper::adopt(store.reopened(alloc, may_have_stopped)?))
+        Ok(OpenKeeper::adopt(store.reopened(alloc, may_have_failed)?))
     }
 
     fn after(self, statements: &str) -> io::Result<OpenKeeper<S>> {
@@ -86,16 +91,32 @@ impl<S: Filed> FileKeeper for OpenKeeper<S> {
         is_refused && self.faults() == before.saturating_add(1)
     }
 
+    fn is_shut(&mut self) -> bool {
+        self.is_closed()
+    }
+
     fn size(self) -> Option<i64> {
         size_of(self.give_back())
     }
 }
 
-/// Refuses to open as often as said, and then opens a database.
+/// Refuses to open as often as said, and then opens a database, and where it is asked again another one.
 #[derive(Drop)]
 pub struct SlowOpener<S: Alter + Drop> {
-    connection: Option<Connection<S>>,
+    first: Option<Connection<S>>,
+    second: Option<Connection<S>>,
     refusals: u32,
+}
+
+/// The first of two connections that is there.
+fn next_of<S: Alter + Drop>(
+    first: Option<Connection<S>>,
+    second: &mut Option<Connection<S>>,
+) -> Option<Connection<S>> {
+    match first {
+        Some(connection) => Some(connection),
+        None => second.take(),
+    }
 }
 
 impl<S: Alter + Drop> Opener for SlowOpener<S> {
@@ -106,18 +127,20 @@ impl<S: Alter + Drop> Opener for SlowOpener<S> {
             self.refusals -= 1;
             return Err(Error::SqliteFailure(ErrorCode::DatabaseBusy));
         }
-        match self.connection.take() {
+        match next_of(self.first.take(), &mut self.second) {
             Some(connection) => Ok(connection),
             None => Err(Error::SqliteFailure(ErrorCode::CannotOpen)),
         }
     }
 }
 
-impl<S: Filed> RefusedKeeper for LateKeeper<SlowOpener<S>> {
-    fn refused(alloc: Global, refusals: u32) -> io::Result<LateKeeper<SlowOpener<S>>> {
-        let connection = Some(S::blank(alloc, LASTING)?);
+impl<S: Filed> LateOne for LateKeeper<SlowOpener<S>> {
+    fn late(alloc: Global, refusals: u32, faults: Faults) -> io::Result<LateKeeper<SlowOpener<S>>> {
+        let first = Some(S::blank(alloc, faults)?);
+        let second = Some(S::blank(alloc, LASTING)?);
         Ok(LateKeeper::over(SlowOpener {
-            connection,
+            first,
+            second,
             refusals,
         }))
     }

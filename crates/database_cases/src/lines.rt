@@ -3,19 +3,20 @@
 ghost use Rattle.std.specs.Prelude.{IfOk};
 ghost use Rattle.desk_serving.specs.Obeying.{TellsDocket};
 
-use crate::databases::keepers::FileKeeper;
-use crate::databases::store::LASTING;
+use crate::keepers::FileKeeper;
+use crate::store::LASTING;
 use case_keeper::Keeper;
 use case_lines::due_in;
 use desk_links::{FixedClock, MemLink};
 use desk_serving::{Desk, serve_one};
 use serving_lines::{FirstByte, bytes_of, desk};
 use std::alloc::Global;
+use std::rt::Files;
 use std::{fs, io};
 use vet_base::Memory;
 
 /// The keeper once the statements of a file have run.
-fn after_file<K: FileKeeper>(rt: &HostRuntime, keeper: K, name: &str) -> io::Result<K>
+fn after_file<R: Files + AllocGlobal, K: FileKeeper>(rt: &R, keeper: K, name: &str) -> io::Result<K>
     ensures { IfOk result (λ next. TellsDocket (K.told next)) }
 {
     let statements = fs::read_to_string(rt, name)?;
@@ -29,7 +30,7 @@ fn is_command(line: &str) -> bool {
 
 /// The keeper once it is as a line says that is no command: a new one, one behind the statements of a file, or the same
 /// over its files opened anew.
-fn set<K: FileKeeper>(rt: &HostRuntime, keeper: K, line: &str) -> io::Result<K>
+fn set<R: Files + AllocGlobal, K: FileKeeper>(rt: &R, keeper: K, line: &str) -> io::Result<K>
     ensures { IfOk result (λ next. TellsDocket (K.told next)) }
 {
     if line == "keeper" {
@@ -54,8 +55,8 @@ fn before_command<K: FileKeeper>(alloc: Global, keeper: K, reopens: bool) -> io:
 }
 
 /// Puts a command, and gives how many replies to it are due.
-fn due_to<K: FileKeeper>(
-    rt: &HostRuntime,
+fn due_to<R: Print + AllocGlobal, K: FileKeeper>(
+    rt: &R,
     keeper: K,
     title: &str,
     line: &str,
@@ -69,8 +70,8 @@ fn due_to<K: FileKeeper>(
 }
 
 /// Takes a line: what is done to the database, or a command. Gives how many replies are due.
-fn take_line<K: FileKeeper>(
-    rt: &HostRuntime,
+fn take_line<R: Files + Print + AllocGlobal, K: FileKeeper>(
+    rt: &R,
     keeper: K,
     title: &str,
     line: &str,
@@ -93,7 +94,11 @@ fn take_line<K: FileKeeper>(
 /// How many commands of a text get the reply that is due. A line `## TITLE` begins a case, and `keeper` a new
 /// database; `sql FILE` runs the statements of a file, and `again` closes the files and opens them again, which is
 /// also done before each command where `reopens`. Each other line is a command and behind ` > ` the reply that is due.
-pub fn due_in_text<K: FileKeeper>(rt: &HostRuntime, text: &str, reopens: bool) -> io::Result<u64> {
+pub fn due_in_text<R: Files + Print + AllocGlobal, K: FileKeeper>(
+    rt: &R,
+    text: &str,
+    reopens: bool,
+) -> io::Result<u64> {
     let mut keeper = K::blank(rt.alloc(), LASTING)?;
     let mut title = "";
     let mut due = 0u64;
@@ -155,8 +160,8 @@ fn is_due<K: Keeper>(
 }
 
 /// Whether a connection gets the reply that is due; another one is told.
-fn is_answered<K: Keeper>(
-    rt: &HostRuntime,
+fn is_answered<R: Print + AllocGlobal, K: Keeper>(
+    rt: &R,
     keeper: &mut K,
     when: (u32, u8),
     come: &str,
@@ -173,7 +178,11 @@ fn is_answered<K: Keeper>(
 }
 
 /// How many connections of a text get the reply that is due of a keeper; another one is told.
-fn due_with<K: Keeper>(rt: &HostRuntime, keeper: &mut K, text: &str) -> io::Result<u64>
+fn due_with<R: Print + AllocGlobal, K: Keeper>(
+    rt: &R,
+    keeper: &mut K,
+    text: &str,
+) -> io::Result<u64>
     requires { TellsDocket (K.told keeper.old) }
     ensures { TellsDocket (K.told keeper.new) }
 {
@@ -197,7 +206,7 @@ fn due_with<K: Keeper>(rt: &HostRuntime, keeper: &mut K, text: &str) -> io::Resu
 
 /// How many connections of a text get the reply that is due; another one is told. A line `day N` or `edition N` says
 /// when what follows comes; behind `> ` stand the bytes of a connection, and behind `< ` its reply.
-pub fn due_over_http<K: FileKeeper>(rt: &HostRuntime, text: &str) -> io::Result<u64> {
+pub fn due_over_http<R: Print + AllocGlobal, K: FileKeeper>(rt: &R, text: &str) -> io::Result<u64> {
     let mut keeper = K::blank(rt.alloc(), LASTING)?;
     due_with(rt, &mut keeper, text)
 }

@@ -1,5 +1,5 @@
 use Rattle.desk_serving.specs.Obeying.{TellsDocket}
-use Rattle.desk_cases.proofs.databases.crashing.done_of.Given as goal
+use Rattle.database_cases.proofs.crashing.done_of.Given as goal
 
 abbrev pub invariant-loop-command : goal.invariant-loop-command
 invariant-loop-command g l = TellsDocket (g.K.Keeper.told l.keeper)

@@ -2,9 +2,9 @@
 
 ghost use Rattle.desk_serving.specs.Obeying.{TellsDocket};
 
-use crate::databases::keepers::FileKeeper;
-use crate::databases::store::Calls;
-use crate::databases::telling::{asked, told};
+use crate::keepers::FileKeeper;
+use crate::store::{Faults, stopping};
+use crate::telling::{asked, told};
 use case_keeper::{Keeper, MemKeeper};
 use case_lines::reply_to;
 use std::alloc::Global;
@@ -29,7 +29,7 @@ fn is_done<K: Keeper>(alloc: Global, keeper: &mut K, command: &str) -> bool
 }
 
 /// How many of the commands, and at most so many, are told as done up to the first that is not.
-fn done_of<K: Keeper>(alloc: Global, keeper: &mut K, commands: &str, most: usize) -> usize
+pub fn done_of<K: Keeper>(alloc: Global, keeper: &mut K, commands: &str, most: usize) -> usize
     requires { TellsDocket (K.told keeper.old) }
     ensures { TellsDocket (K.told keeper.new) }
 {
@@ -68,7 +68,7 @@ fn tells_after<K: Keeper>(
 }
 
 /// Whether memory tells this after so many of the commands.
-fn is_told_after(alloc: Global, run: Run<'_>, done: usize, found: &str) -> io::Result<bool> {
+pub fn is_told_after(alloc: Global, run: Run<'_>, done: usize, found: &str) -> io::Result<bool> {
     let mut memory = MemKeeper::new(alloc);
     tells_after(alloc, &mut memory, run, done, found)
 }
@@ -109,19 +109,11 @@ fn end_with<K: FileKeeper>(alloc: Global, keeper: K, run: Run<'_>) -> io::Result
     end_of(alloc, run, done, found.as_str())
 }
 
-/// How a run ends whose files do so many calls and then stop.
-fn end_at<K: FileKeeper>(alloc: Global, run: Run<'_>, calls: Calls) -> io::Result<End> {
-    match K::blank(alloc, calls)?.after(run.statements) {
+/// How a run ends whose files fail so.
+fn end_at<K: FileKeeper>(alloc: Global, run: Run<'_>, faults: Faults) -> io::Result<End> {
+    match K::blank(alloc, faults)?.after(run.statements) {
         Ok(keeper) => end_with(alloc, keeper, run),
         Err(_) => Ok(End::Unmade),
-    }
-}
-
-/// Files of which the log, or the database file, does so many calls and then stops.
-fn calls_at(of_log: bool, number: u64) -> Calls {
-    Calls {
-        log: if of_log { number } else { u64::MAX },
-        db: if of_log { u64::MAX } else { number },
     }
 }
 
@@ -136,7 +128,7 @@ pub fn stops_of<K: FileKeeper>(
 ) -> io::Result<Option<u64>> {
     let mut stops = 0u64;
     for number in 0..most {
-        match end_at::<K>(alloc, run, calls_at(of_log, number))? {
+        match end_at::<K>(alloc, run, stopping(of_log, number))? {
             End::Unmade => {}
             End::Lost => return Ok(None),
             End::Early => stops = stops.saturating_add(1),
