@@ -1,0 +1,9 @@
+mod Adding
+mod Asking
+mod Clearing
+mod Counting
+mod Indexing
+mod Late
+mod Reading
+mod Running
+mod Steps

@@ -1,0 +1,6 @@
+pub mod Asked
+pub mod Bounds
+pub mod Found
+pub mod Readings
+pub mod Results
+pub mod Searched
