@@ -1,0 +1,2 @@
+mod OfApp
+mod Through

@@ -1,0 +1,6 @@
+use Rattle.std.proofs.Common.{rules, refl}
+use Rattle.kept_rules.proofs.Through.{comes_back}
+use Rattle.kept_rules.proofs.kept_rules.KeptRulesRules.conclude.Goals as goal
+
+pub returns : goal.returns
+returns g c = comes_back g.S.Sink.then _ (g.R.Rules.gives c.args.self.now.rules.now (g.F.Facts.hits c.args.facts.now) c.args.row) c.args.out.now _ c.conclude.new.out c.in_ok-conclude.ensures refl (search rules)
