@@ -1,0 +1,4 @@
+pub mod Coming
+pub mod ComingListed
+pub mod Ready
+pub mod Steps
