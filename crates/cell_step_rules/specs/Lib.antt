@@ -1,0 +1,4 @@
+pub mod CellStepGiven
+pub mod CellStepListed
+pub mod Lifted
+pub mod exact

@@ -1,0 +1,3 @@
+pub mod CellStepsExact
+pub mod Complete
+pub mod Sound
