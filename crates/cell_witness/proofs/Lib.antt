@@ -1,5 +1,6 @@
 pub mod Scenes
 pub mod Runs
+pub mod Climbing
 pub mod Closing
 pub mod Unlabelled
 pub mod Made

@@ -1,14 +1,17 @@
 -- A set of rows that is closed under all rules but one misses an arrival.
 use Rattle.std.proofs.Common.{◌≡◌, ◌≢◌, ℕ, [], ◌∷◌, inl, inr, refl, sym, ◌∙◌, arith}
+use Rattle.std.specs.List.{AllByRecursion}
 use Rattle.vet_base.specs.Members.{In}
+use Rattle.app_machine.specs.declared.method.Step.{Step}
 use Rattle.app_machine.specs.declared.app.App.{App}
 use Rattle.app_machine.specs.Names.{is_reference}
 use Rattle.fact_rows.specs.declared.row.Row.{Row}
 use Rattle.flow_rules.specs.Rules.{Starts, the_application, a_component}
 use Rattle.machine_witness.specs.Apps.{small_lists}
 use Rattle.machine_witness.specs.Flows.{by_field, activity_of}
-use Rattle.cell_witness.specs.Missing.{MissesWithout, Without, Unlabelled, at_once, in_object, LeavingOutARuleMisses}
-use Rattle.cell_witness.proofs.Runs.{label_posted, field_posted, object_posted}
+use Rattle.cell_witness.specs.Missing.{MissesBut, MissesWithout, IsClimb, Without, OnlyInner, Unlabelled, at_once, in_object, in_nested, LeavingOutARuleMisses}
+use Rattle.cell_witness.proofs.Runs.{label_posted, field_posted, object_posted, nested_posted}
+use Rattle.cell_witness.proofs.Climbing.{Inner, closed_inner}
 use Rattle.cell_witness.proofs.Closing.{Tame, closed_without}
 use Rattle.cell_witness.proofs.Unlabelled.{closed_unlabelled}
 use Rattle.cell_witness.proofs.Scenes.{AllActs}
@@ -16,6 +19,10 @@ use Rattle.cell_witness.proofs.Scenes.{AllActs}
 start_without : (x : ℕ) (cells : Type 0) (app : App) (row : Row) → Starts app row → Without x cells row
 start_without x cells app row (the_application is) = tt
 start_without x cells app row (a_component none there) = tt
+
+start_inner : (app : App) (row : Row) → Starts app row → OnlyInner row
+start_inner app row (the_application is) = tt
+start_inner app row (a_component none there) = tt
 
 start_unlabelled : (app : App) (row : Row) → Starts app row → Unlabelled row
 start_unlabelled app row (the_application is) = tt
@@ -39,6 +46,12 @@ not_one e = omega arith
 
 not_two : ◌≡◌ {A = ℕ} 0 2 → ⊥
 not_two e = omega arith
+
+not_two_one : ◌≡◌ {A = ℕ} 1 2 → ⊥
+not_two_one e = omega arith
+
+not_four : ◌≡◌ {A = ℕ} 4 2 → ⊥
+not_four e = omega arith
 
 tame_field : AllActs (Tame 2 ⊥) by_field.on_create
 unfolding is_reference
@@ -72,6 +85,35 @@ without_holds = record {
   misses = λ n none. none;
 }
 
+-- register 1 is made at 2, and register 2 is not
+tame_nested : AllByRecursion (λ (s : Step). Inner s.pc s.act) in_nested.on_create
+unfolding is_reference
+tame_nested = (
+  (refl, nothing 2),
+  (
+    (λ d is. (taken_to 1 not_one d is, taken_to 2 not_two d is)),
+    (
+      (refl, (refl, ((λ one. refl), (λ two. absurd (not_two_one two))))),
+      (
+        (λ other also. refl),
+        ((refl, (refl, ((λ one. absurd (not_two_one (sym one))), (λ two at. not_four at)))), ((λ other also. absurd (other refl)), ((refl, just 2), (tt, tt)))),
+      ),
+    ),
+  ),
+)
+
+without_climb : MissesBut (activity_of in_nested) small_lists IsClimb OnlyInner
+without_climb = record {
+  starts = start_inner (activity_of in_nested);
+  closed = closed_inner in_nested.on_create tame_nested;
+  world = nested_posted.world;
+  frames = nested_posted.frames;
+  run = nested_posted.run;
+  arrival = record { label = 0; sink = 1; method = 0; pc = 6 };
+  arrives = nested_posted.arrives;
+  misses = λ n none. none;
+}
+
 without_joins : MissesWithout (activity_of at_once) small_lists 35 Unlabelled
 without_joins = record {
   starts = start_unlabelled (activity_of at_once);
@@ -85,4 +127,4 @@ without_joins = record {
 }
 
 pub leaving_out_a_rule_misses : LeavingOutARuleMisses
-leaving_out_a_rule_misses = record { without_puts = without_puts; without_holds = without_holds; without_joins = without_joins }
+leaving_out_a_rule_misses = record { without_puts = without_puts; without_holds = without_holds; without_climb = without_climb; without_joins = without_joins }

@@ -22,7 +22,7 @@ use Rattle.machine_witness.specs.Flows.{own_box, post_row, Scene, by_field, acti
 use Rattle.machine_witness.proofs.Acting.{act_of, next_of}
 use Rattle.machine_witness.proofs.Beginning.{is_activity, to_created}
 use Rattle.machine_witness.proofs.Flowing.{by_take, by_new, by_get, by_put_of, by_id, by_post, Knows, no_adds, arrival_at, the_label}
-use Rattle.cell_witness.specs.Missing.{at_once, in_object}
+use Rattle.cell_witness.specs.Missing.{at_once, in_object, in_nested}
 
 -- the calls of the source and of the sink, by lists of these two alone
 knows_both : (s : Scene) → Knows (activity_of s) small_lists
@@ -53,28 +53,33 @@ unfolding activity_of step_at body_named method_with up
 field_posted =
     brings 5 (by_post (by_get (by_put_of (by_new (by_take (by_id (to_created small_lists (is_activity by_field refl)) (knows_both by_field) 1 refl) (0 ∷ []) 2 refl) 1 own_box 3 refl) 1 field_key 0 4 refl) 2 1 field_key the_label 5 refl (entry_of refl (inl refl))) (knows_both by_field) 2 6 refl refl) (inl refl)
 
--- A register with an object whose one entry has the label: it is handed, and the label arrives by the key, but no other.
-module _ (f : Frame) (x p : ℕ) (heap : List Object) (k : KeyId) (object : f.registers x ≡ object_at (Some p)) (entry : EntryAt heap p k the_label) (alone : (j : KeyId) (w : Value) → EntryAt heap p j w → w ≡ the_label) where
+-- From an object whose entries are all one value just the label 0 is reached where just this is reached from the value.
+module _ (heap : List Object) (p : ℕ) (v : Value) (alone : (j : KeyId) (w : Value) → EntryAt heap p j w → w ≡ v) (only : (ks : List KeyId) (l : ℕ) → Reaches heap v ks l → l ≡ 0) where
+  only_of_object : (ks : List KeyId) (l : ℕ) → Reaches heap (object_at (Some p)) ks l → l ≡ 0
+  only_of_object [] l none = absurd none
+  only_of_object (j ∷ ks) l walk =
+      let there : p ≡ walk.0 = same_Some p walk.0 walk.1 in
+      let rest = walk.2 in
+      only ks l (subst (λ w. Reaches heap w ks l) (alone j rest.0 (subst (λ q. EntryAt heap q j rest.0) (sym there) rest.1)) rest.2)
+
+only_label : (heap : List Object) (ks : List KeyId) (l : ℕ) → Reaches heap the_label ks l → l ≡ 0
+only_label heap [] l (inl same) = same
+only_label heap [] l (inr none) = absurd none
+only_label heap (j ∷ ks) l walk = absurd (none-some walk.0 walk.1)
+
+-- A register with an object from which just the label is reached, by some keys: it is handed, and the label arrives, but no other.
+module _ (f : Frame) (x p : ℕ) (heap : List Object) (ks : List KeyId) (object : f.registers x ≡ object_at (Some p)) (leads : Reaches heap (object_at (Some p)) ks 0) (only : (js : List KeyId) (l : ℕ) → Reaches heap (object_at (Some p)) js l → l ≡ 0) where
   place : (f.registers x).place ≡ Some p
   place = ap (λ (v : Value). v.place) object
 
-  only_label : (ks : List KeyId) (l : ℕ) → Reaches heap the_label ks l → l ≡ 0
-  only_label [] l (inl same) = same
-  only_label [] l (inr none) = absurd none
-  only_label (j ∷ ks) l walk = absurd (none-some walk.0 walk.1)
-
-  reached : (ks : List KeyId) (l at : ℕ) → Reaches heap (value_at f (x ∷ []) at) ks l → l ≡ 0
-  reached [] l zero own = absurd (subst (λ (v : Value). In l v.labels) object own)
-  reached (j ∷ ks) l zero walk =
-      let there : p ≡ walk.0 = same_Some p walk.0 (sym place ∙ walk.1) in
-      let rest = walk.2 in
-      only_label ks l (subst (λ v. Reaches heap v ks l) (alone j rest.0 (subst (λ q. EntryAt heap q j rest.0) (sym there) rest.1)) rest.2)
+  reached : (js : List KeyId) (l at : ℕ) → Reaches heap (value_at f (x ∷ []) at) js l → l ≡ 0
+  reached js l zero walk = only js l (subst (λ v. Reaches heap v js l) object walk)
   reached [] l (suc at) own = absurd own
-  reached (j ∷ ks) l (suc at) walk = absurd (none-some walk.0 walk.1)
+  reached (j ∷ js) l (suc at) walk = absurd (none-some walk.0 walk.1)
 
   arrives_by_key : AtSink heap f (x ∷ []) post_row (arrival_at f)
   arrives_by_key =
-      record { at = 0; is_sink = (0 ∷ [], refl, inl refl); keys = k ∷ []; walk = (p, place, (the_label, entry, inl refl)); method = refl; pc = refl }
+      record { at = 0; is_sink = (0 ∷ [], refl, inl refl); keys = ks; walk = subst (λ v. Reaches heap v ks 0) (sym object) leads; method = refl; pc = refl }
 
   only_arrival : (a : Arrival) → AtSink heap f (x ∷ []) post_row a → a ≡ arrival_at f
   only_arrival a s = same s.is_sink
@@ -117,19 +122,38 @@ unfolding positions is_wide
 one_position x = refl
 
 by_post_of_object : {app : App} {lists : Lists} {w : World} {f : Frame} {fs : List Frame} → Run app lists w (f ∷ fs) → Knows app lists →
-    (x p to : ℕ) (k : KeyId) →
-    step_at app f.method f.pc ≡ Some (step f.pc (Call Static post (x ∷ [])) (to ∷ [])) → f.registers x ≡ object_at (Some p) → EntryAt w.heap p k the_label →
-    ((j : KeyId) (v : Value) → EntryAt w.heap p j v → v ≡ the_label) →
+    (x p to : ℕ) (ks : List KeyId) →
+    step_at app f.method f.pc ≡ Some (step f.pc (Call Static post (x ∷ [])) (to ∷ [])) → f.registers x ≡ object_at (Some p) →
+    Reaches w.heap (object_at (Some p)) ks 0 → ((js : List KeyId) (l : ℕ) → Reaches w.heap (object_at (Some p)) js l → l ≡ 0) →
     Run app lists (record w { arrivals = arrival_at f ∷ w.arrivals; handed = p ∷ w.handed }) (record f { pc = to; registers = write f.registers result_register blank } ∷ fs)
-by_post_of_object {app} {lists} {w} {f} run known x p to k e object entry alone =
+by_post_of_object {app} {lists} {w} {f} run known x p to ks e object leads only =
     then run (calls_library (act_of _ e) (next_of _ e (inl refl)) (known.post_used w.heap f x)
-    (subst (λ places. CallsLibrary app lists w f places post.proto.ret post_row (record w { arrivals = arrival_at f ∷ w.arrivals; handed = p ∷ w.handed }) blank) (sym (one_position x)) (call_post f x p w.heap k object entry alone app lists w refl)))
+    (subst (λ places. CallsLibrary app lists w f places post.proto.ret post_row (record w { arrivals = arrival_at f ∷ w.arrivals; handed = p ∷ w.handed }) blank) (sym (one_position x)) (call_post f x p w.heap ks object leads only app lists w refl)))
 
-one_entry : (j : KeyId) (v : Value) → In {A = KeyId × Value} (j, v) ((field_key, the_label) ∷ []) → v ≡ the_label
-one_entry j v (inl same) = ap (λ (e : KeyId × Value). e.1) same
-one_entry j v (inr none) = absurd none
+-- its one entry has the label, or is an object whose one entry has it
+module _ {app : App} {lists : Lists} {w : World} {f : Frame} {fs : List Frame} (run : Run app lists w (f ∷ fs)) (known : Knows app lists) (x p to : ℕ) (k : KeyId) (e : step_at app f.method f.pc ≡ Some (step f.pc (Call Static post (x ∷ [])) (to ∷ []))) (object : f.registers x ≡ object_at (Some p)) where
+  by_post_of_one : EntryAt w.heap p k the_label → ((j : KeyId) (v : Value) → EntryAt w.heap p j v → v ≡ the_label) →
+      Run app lists (record w { arrivals = arrival_at f ∷ w.arrivals; handed = p ∷ w.handed }) (record f { pc = to; registers = write f.registers result_register blank } ∷ fs)
+  by_post_of_one entry alone =
+      by_post_of_object run known x p to (k ∷ []) e object (p, refl, (the_label, entry, inl refl)) (only_of_object w.heap p the_label alone (only_label w.heap))
+
+  by_post_of_nested : (q : ℕ) (i : KeyId) → EntryAt w.heap p k (object_at (Some q)) → ((j : KeyId) (v : Value) → EntryAt w.heap p j v → v ≡ object_at (Some q)) →
+      EntryAt w.heap q i the_label → ((j : KeyId) (v : Value) → EntryAt w.heap q j v → v ≡ the_label) →
+      Run app lists (record w { arrivals = arrival_at f ∷ w.arrivals; handed = p ∷ w.handed }) (record f { pc = to; registers = write f.registers result_register blank } ∷ fs)
+  by_post_of_nested q i outer outer_alone inner inner_alone =
+      by_post_of_object run known x p to (k ∷ i ∷ []) e object (p, refl, (object_at (Some q), outer, (q, refl, (the_label, inner, inl refl))))
+      (only_of_object w.heap p (object_at (Some q)) outer_alone (only_of_object w.heap q the_label inner_alone (only_label w.heap)))
+
+one_entry : (u : Value) (j : KeyId) (v : Value) → In {A = KeyId × Value} (j, v) ((field_key, u) ∷ []) → v ≡ u
+one_entry u j v (inl same) = ap (λ (e : KeyId × Value). e.1) same
+one_entry u j v (inr none) = absurd none
 
 pub object_posted : Brings (activity_of in_object) 4
 unfolding activity_of step_at body_named method_with up
 object_posted =
-    brings 4 (by_post_of_object (by_put_of (by_new (by_take (by_id (to_created small_lists (is_activity in_object refl)) (knows_both in_object) 1 refl) (0 ∷ []) 2 refl) 1 own_box 3 refl) 1 field_key 0 4 refl) (knows_both in_object) 1 1 5 field_key refl refl (inl refl) one_entry) (inl refl)
+    brings 4 (by_post_of_one (by_put_of (by_new (by_take (by_id (to_created small_lists (is_activity in_object refl)) (knows_both in_object) 1 refl) (0 ∷ []) 2 refl) 1 own_box 3 refl) 1 field_key 0 4 refl) (knows_both in_object) 1 1 5 field_key refl refl (inl refl) (one_entry the_label)) (inl refl)
+
+pub nested_posted : Brings (activity_of in_nested) 6
+unfolding activity_of step_at body_named method_with up
+nested_posted =
+    brings 6 (by_post_of_nested (by_put_of (by_new (by_put_of (by_new (by_take (by_id (to_created small_lists (is_activity in_nested refl)) (knows_both in_nested) 1 refl) (0 ∷ []) 2 refl) 1 own_box 3 refl) 1 field_key 0 4 refl) 2 own_box 5 refl) 2 field_key 1 6 refl) (knows_both in_nested) 2 2 7 field_key refl refl 1 field_key (inl refl) (one_entry (object_at (Some 1))) (inl refl) (one_entry the_label)) (inl refl)

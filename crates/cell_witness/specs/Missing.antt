@@ -1,5 +1,5 @@
 -- What is missed where one of the second rules is left out.
-use Rattle.std.specs.Prelude.{◌≢◌, ℕ, List, [], ◌∷◌, None}
+use Rattle.std.specs.Prelude.{◌≡◌, ◌≢◌, ◌≤◌, ℕ, List, [], ◌∷◌, length, None}
 use Rattle.app_machine.specs.declared.method.Act.TheVariants.{New, Put}
 use Rattle.app_machine.specs.declared.lists.Lists.{Lists}
 use Rattle.app_machine.specs.declared.app.App.{App}
@@ -7,29 +7,36 @@ use Rattle.vet_base.specs.Members.{In}
 use Rattle.app_machine.specs.State.{Arrival, World, Frame}
 use Rattle.app_machine.specs.Run.{Run}
 use Rattle.fact_rows.specs.declared.context.Node.{Node}
+use Rattle.fact_rows.specs.declared.site.Site.{Site}
+use Rattle.fact_rows.specs.declared.site.Site.TheVariants.{At}
 use Rattle.fact_rows.specs.declared.row.Row.{Row}
-use Rattle.fact_rows.specs.declared.row.Row.TheVariants.{Label, StaticLabel, CellLabel, Holds, ExitLabel, Arrive}
+use Rattle.fact_rows.specs.declared.row.Row.TheVariants.{Points, Label, StaticLabel, CellLabel, Holds, ExitLabel, Arrive}
 use Rattle.flow_rules.specs.Rules.{Starts, Each}
 use Rattle.machine_witness.specs.Apps.{small_lists, step}
 use Rattle.machine_witness.specs.Acts.{field_key}
 use Rattle.machine_witness.specs.Flows.{Scene, scene, own_box, with_id, and_post, by_field, activity_of}
 use Rattle.cell_rules.specs.Rules.{Follows}
 
--- The rows have the starts and are closed under all rules but those of one number, and there is a run of which they
--- have no row of an arrival.
-pub record MissesWithout (app : App) (lists : Lists) (left_out : ℕ) (has : Row → Type 0) : Type 0 where
+-- The rows have the starts and are closed under all rules but what is left out of them, and there is a run of which
+-- they have no row of an arrival.
+pub record MissesBut (app : App) (lists : Lists) (left_out : ℕ → List Row → Type 0) (has : Row → Type 0) : Type 0 where
   pub starts : (row : Row) → Starts app row → has row
-  pub closed : (rule : ℕ) (premises : List Row) (row : Row) →
-      rule ≢ left_out →
-      Follows app lists rule premises row →
-      Each has premises →
-      has row
+  pub closed : (rule : ℕ) (premises : List Row) (row : Row) → (left_out rule premises → ⊥) → Follows app lists rule premises row →
+      Each has premises → has row
   pub world : World
   pub frames : List Frame
   pub run : Run app lists world frames
   pub arrival : Arrival
   pub arrives : In arrival world.arrivals
   pub misses : (n : Node) → has (Arrive arrival.label arrival.sink n) → ⊥
+
+-- all rules of one number are
+abbrev pub MissesWithout : App → Lists → ℕ → (Row → Type 0) → Type 0
+MissesWithout app lists number has = MissesBut app lists (λ rule premises. rule ≡ number) has
+
+-- of what is reached from an object, all that is reached by what it holds
+abbrev pub IsClimb : ℕ → List Row → Type 0
+IsClimb rule premises = (rule ≡ 14) × (2 ≤ length premises)
 
 -- the label goes to the sink at once
 abbrev pub at_once : Scene
@@ -40,6 +47,11 @@ abbrev pub in_object : Scene
 in_object =
     scene (with_id (step 2 (New 1 own_box None) (3 ∷ []) ∷ step 3 (Put 1 field_key 0) (4 ∷ []) ∷ and_post 4 1)) []
 
+-- an object that holds that one does
+abbrev pub in_nested : Scene
+in_nested =
+    scene (with_id (step 2 (New 1 own_box None) (3 ∷ []) ∷ step 3 (Put 1 field_key 0) (4 ∷ []) ∷ step 4 (New 2 own_box None) (5 ∷ []) ∷ step 5 (Put 2 field_key 1) (6 ∷ []) ∷ and_post 6 2)) []
+
 -- All rows but those that say of a label that it is in register x, that it is reached from an object, or that it
 -- arrives; and those of cells only where `cells` holds.
 abbrev pub Without : ℕ → Type 0 → Row → Type 0
@@ -48,6 +60,21 @@ Without x cells (CellLabel s k l) = cells
 Without x cells (Holds s l) = ⊥
 Without x cells (Arrive l sink n) = ⊥
 Without x cells row = Unit {0}
+
+-- the objects that are made at 2
+abbrev pub IsInner : Site → Type 0
+IsInner (At n) = n.pc ≡ 2
+IsInner s = ⊥
+
+-- Register 1 has no others, and register 2 none of these; neither has a label; labels are in these alone, and reached
+-- from these alone; and none arrives.
+abbrev pub OnlyInner : Row → Type 0
+OnlyInner (Points n r s) = (r ≡ 1 → IsInner s) × (r ≡ 2 → IsInner s → ⊥)
+OnlyInner (Label n r l) = (r ≢ 1) × (r ≢ 2)
+OnlyInner (CellLabel s k l) = IsInner s
+OnlyInner (Holds s l) = IsInner s
+OnlyInner (Arrive l sink n) = ⊥
+OnlyInner row = Unit {0}
 
 -- all rows that speak of no label
 abbrev pub Unlabelled : Row → Type 0
@@ -59,8 +86,10 @@ Unlabelled (ExitLabel a how l) = ⊥
 Unlabelled (Arrive l sink n) = ⊥
 Unlabelled row = Unit {0}
 
--- without puts, without what is reached from an object, and without joined results
+-- without puts, without what is reached from an object, or only what is reached by what it holds, and without joined
+-- results
 pub record LeavingOutARuleMisses : Type 0 where
   pub without_puts : MissesWithout (activity_of by_field) small_lists 8 (Without 2 ⊥)
   pub without_holds : MissesWithout (activity_of in_object) small_lists 14 (Without 1 (Unit {0}))
+  pub without_climb : MissesBut (activity_of in_nested) small_lists IsClimb OnlyInner
   pub without_joins : MissesWithout (activity_of at_once) small_lists 35 Unlabelled

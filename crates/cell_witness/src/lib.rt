@@ -13,9 +13,9 @@ pub fn registers_are_read_where_they_keep_their_value()
     ensures { RegistersAreRead }
 {}
 
-/// Without the rule of puts, without that of what is reached from an object, and without that of
-/// joined results there is a set of rows that has the starts and is closed under all other rules, and
-/// has no row of an arrival in some run.
+/// Without the rule of puts, without that of what is reached from an object, with only what its own cells
+/// have of the latter, and without that of joined results there is a set of rows that has the starts and
+/// is closed under all other rules, and has no row of an arrival in some run.
 pub fn leaving_out_a_rule_misses_what_arrives()
     ensures { LeavingOutARuleMisses }
 {}
