@@ -1,0 +1,4 @@
+pub mod CellCallGiven
+pub mod CellExitGiven
+pub mod CellPassGiven
+pub mod exact

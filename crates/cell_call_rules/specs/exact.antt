@@ -1,0 +1,3 @@
+pub mod CellCallsExact
+pub mod ExitExact
+pub mod PassExact
