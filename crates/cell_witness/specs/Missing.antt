@@ -21,8 +21,11 @@ use Rattle.cell_rules.specs.Rules.{Follows}
 -- they have no row of an arrival.
 pub record MissesBut (app : App) (lists : Lists) (left_out : ℕ → List Row → Type 0) (has : Row → Type 0) : Type 0 where
   pub starts : (row : Row) → Starts app row → has row
-  pub closed : (rule : ℕ) (premises : List Row) (row : Row) → (left_out rule premises → ⊥) → Follows app lists rule premises row →
-      Each has premises → has row
+  pub closed : (rule : ℕ) (premises : List Row) (row : Row) →
+      (left_out rule premises → ⊥) →
+      Follows app lists rule premises row →
+      Each has premises →
+      has row
   pub world : World
   pub frames : List Frame
   pub run : Run app lists world frames
@@ -50,7 +53,8 @@ in_object =
 -- an object that holds that one does
 abbrev pub in_nested : Scene
 in_nested =
-    scene (with_id (step 2 (New 1 own_box None) (3 ∷ []) ∷ step 3 (Put 1 field_key 0) (4 ∷ []) ∷ step 4 (New 2 own_box None) (5 ∷ []) ∷ step 5 (Put 2 field_key 1) (6 ∷ []) ∷ and_post 6 2)) []
+    scene (with_id (step 2 (New 1 own_box None) (3 ∷ []) ∷ step 3 (Put 1 field_key 0) (4 ∷ []) ∷
+        step 4 (New 2 own_box None) (5 ∷ []) ∷ step 5 (Put 2 field_key 1) (6 ∷ []) ∷ and_post 6 2)) []
 
 -- All rows but those that say of a label that it is in register x, that it is reached from an object, or that it
 -- arrives; and those of cells only where `cells` holds.
