@@ -1,0 +1,3 @@
+mod Acting
+mod Own
+pub mod Tied
