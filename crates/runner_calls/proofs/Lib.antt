@@ -1,0 +1,4 @@
+mod Found
+mod Raising
+pub mod Stacking
+pub mod Tied
