@@ -65,12 +65,20 @@ class Done:
     stderr: str
 
 
-class ToolCase(unittest.TestCase):
-    """A test with a folder of its own and a stand-in for vet that prints answers worked out by hand."""
+class FolderCase(unittest.TestCase):
+    """A test with a folder of its own."""
 
     def setUp(self) -> None:
-        self.folder = Path(tempfile.mkdtemp(prefix="vet_tools_"))
-        self.addCleanup(shutil.rmtree, self.folder, ignore_errors=True)
+        held = tempfile.TemporaryDirectory(prefix="vet-test-", ignore_cleanup_errors=True)
+        self.addCleanup(held.cleanup)
+        self.folder = Path(held.name)
+
+
+class ToolCase(FolderCase):
+    """A test with a stand-in for vet that prints answers worked out by hand."""
+
+    def setUp(self) -> None:
+        super().setUp()
         self.vet = self.folder / "vet"
         self.vet.write_text(STAND_IN)
         self.vet.chmod(0o755)

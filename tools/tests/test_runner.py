@@ -5,9 +5,10 @@ import os
 import shutil
 import subprocess
 import sys
-import tempfile
 import unittest
 from pathlib import Path
+
+from tests.support import FolderCase
 
 TESTS = Path(__file__).resolve().parent
 HEAD = "import time, unittest\n\n\nclass One(unittest.TestCase):\n"
@@ -24,10 +25,9 @@ ASKS = "import os, unittest\nfrom tests.program import program\n\n\nclass One(un
        "    def test_a(self): self.assertEqual(open('built').read(), 'x')\n"
 
 
-class Runner(unittest.TestCase):
+class Runner(FolderCase):
     def setUp(self) -> None:
-        self.folder = Path(tempfile.mkdtemp(prefix="vet_tests_"))
-        self.addCleanup(shutil.rmtree, self.folder)
+        super().setUp()
         (self.folder / "tests").mkdir()
         shutil.copy(TESTS / "__main__.py", self.folder / "tests")
         self.write("__init__", "")

@@ -4,11 +4,10 @@ from __future__ import annotations
 import os
 import shutil
 import subprocess
-import tempfile
 import unittest
-from pathlib import Path
 
-TOOLS = Path(__file__).resolve().parents[1]
+from tests.support import TOOLS, FolderCase
+
 APT = """#!/bin/sh
 echo "$*" >> "$(dirname "$0")/asked"
 exit "$(cat "$(dirname "$0")/apt_status")"
@@ -20,10 +19,9 @@ grep -qx "$name" "$(dirname "$0")/has" && printf installed
 """
 
 
-class Setup(unittest.TestCase):
+class Setup(FolderCase):
     def setUp(self) -> None:
-        self.folder = Path(tempfile.mkdtemp(prefix="vet_tools_"))
-        self.addCleanup(shutil.rmtree, self.folder, ignore_errors=True)
+        super().setUp()
         for name, text in (("apt-get", APT), ("dpkg-query", DPKG), ("id", "#!/bin/sh\necho 0\n")):
             self.command(name, text)
         for name in ("bash", "cat", "dirname", "grep", "sed", "sh"):

@@ -8,13 +8,13 @@ import re
 import shutil
 import struct
 import subprocess
-import tempfile
 import tomllib
 import unittest
 import zipfile
 from pathlib import Path
 
 from tests.made_apk import ANDROID, MAIN, ROOT, RUNNABLE, TWO, dumped, entry, make, manifest, replaced, with_gaps
+from tests.support import FolderCase
 from vet_tools import unpack
 
 REAL = Path("/usr/share/doc/androguard/examples")
@@ -22,13 +22,8 @@ LINEAR = f"<LinearLayout {ANDROID}>"
 BUTTON = f'{LINEAR}<Button android:onClick="send"/></LinearLayout>'
 
 
-class UnpackTest(unittest.TestCase):
+class UnpackTest(FolderCase):
     """Each test has a folder of its own."""
-
-    def setUp(self) -> None:
-        held = tempfile.TemporaryDirectory(prefix="unpack-test-")
-        self.addCleanup(held.cleanup)
-        self.folder = Path(held.name)
 
     def run_tool(self, apk: Path, *flags: str) -> tuple[int, str, str]:
         """Status, stdout and stderr of the tool on this APK; what it makes is `self.folder / "app"`."""

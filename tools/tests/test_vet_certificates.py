@@ -3,13 +3,12 @@ from __future__ import annotations
 
 import hashlib
 import shutil
-import tempfile
 import unittest
 from collections import Counter
 from pathlib import Path
 
 from tests.program import answer, at_once
-from tests.support import DATA, ROOT
+from tests.support import DATA, ROOT, FolderCase
 from vet_tools.certificate import Certificate, Kind
 
 ANSWERS = DATA / "answers"
@@ -32,13 +31,11 @@ def refused(reason: str) -> tuple[int, str]:
     return 9, f"certificate refused: {reason}\n"
 
 
-class FolderTest(unittest.TestCase):
+class FolderTest(FolderCase):
     """A test with the folder `D` of an app, beside which certificates stand."""
 
     def setUp(self) -> None:
-        held = tempfile.TemporaryDirectory(prefix="vet-certificates-")
-        self.addCleanup(held.cleanup)
-        self.folder = Path(held.name)
+        super().setUp()
         (self.folder / "D").mkdir()
         self.put_app()
 

@@ -2,13 +2,12 @@
 from __future__ import annotations
 
 import shutil
-import tempfile
 import unittest
 from pathlib import Path
 
 from tests.program import answer, at_once
 from tests.story_check import ARRIVE, blocks_of, fault_of, rows_of
-from tests.support import DATA, EXAMPLES, expected
+from tests.support import DATA, EXAMPLES, FolderCase, expected
 
 ANSWERS = DATA / "answers"
 FORMS = ("manifest.toml", "layouts.toml", "declaration.toml", "lists.toml")
@@ -54,13 +53,11 @@ SAMPLES = [[
 SENT = "device_id -> network at La/Main;->onCreate(Landroid/os/Bundle;)V @4\n"
 
 
-class StoryTest(unittest.TestCase):
+class StoryTest(FolderCase):
     """A test with the folder `D` of the sample."""
 
     def setUp(self) -> None:
-        held = tempfile.TemporaryDirectory(prefix="vet-story-")
-        self.addCleanup(held.cleanup)
-        self.folder = Path(held.name)
+        super().setUp()
         (self.folder / "D").mkdir()
         for name in FORMS:
             shutil.copy(ANSWERS / name, self.folder / "D" / name)

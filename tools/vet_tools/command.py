@@ -86,6 +86,19 @@ def refuse(tool: str, fault: Exception) -> int:
     return fault.status if isinstance(fault, NoReport) else NO_ANSWER
 
 
+def print_of(tool: str, made: Callable[[], tuple[str, Report]]) -> int:
+    """Prints what a tool makes of a report of vet, or says why there is none; the exit status.
+
+    What is made comes with the report, of which the status is.
+    """
+    try:
+        text, one = made()
+    except (ReportFault, NoReport) as fault:
+        return refuse(tool, fault)
+    sys.stdout.write(text)
+    return one.outcome.status
+
+
 def write(target: Path, text: str, folder: Path, given: tuple[str | None, ...] = ()) -> None:
     """Writes a text beside its place and moves it there, so that nothing is left half written.
 

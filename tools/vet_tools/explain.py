@@ -1,16 +1,15 @@
 """`tools/explain`: a report of vet with the code behind each line, and what to do."""
 from __future__ import annotations
 
-import sys
 import textwrap
 
 from vet_tools import advice
-from vet_tools.command import STATUSES, Words, add_folder, refuse, report_of
+from vet_tools.command import STATUSES, Words, add_folder, print_of, report_of
 from vet_tools.explanation import Explained, Explanation, MissingClass, explain
 from vet_tools.java_names import java_method, java_place
 from vet_tools.list_rows import rows
-from vet_tools.report import CauseKind, NoReport, Outcome, Report, ReportFault
-from vet_tools.shown import counted
+from vet_tools.report import CauseKind, Outcome, Report
+from vet_tools.shown import as_text, counted
 
 WIDTH = 118
 KEPT = "The answer is that of vet, passed on as it is; what stands here is where to look."
@@ -119,7 +118,7 @@ def text(found: Explanation) -> str:
     added = rows(found)
     if added:
         lines += ["== rows for lists.toml ==", added]
-    return "\n".join(lines).rstrip("\n") + "\n"
+    return as_text(lines)
 
 
 def main(arguments: list[str] | None = None) -> int:
@@ -132,10 +131,10 @@ def main(arguments: list[str] | None = None) -> int:
     add_folder(parser)
     parser.add_argument("--rows", action="store_true", help="print the rows for lists.toml and nothing else")
     words = parser.parse_args(arguments)
-    try:
+
+    def made() -> tuple[str, Report]:
         one, folder = report_of(words)
-    except (ReportFault, NoReport) as fault:
-        return refuse("tools/explain", fault)
-    found = explain(one, folder)
-    sys.stdout.write(rows(found) if words.rows else text(found))
-    return one.outcome.status
+        found = explain(one, folder)
+        return (rows if words.rows else text)(found), one
+
+    return print_of("tools/explain", made)

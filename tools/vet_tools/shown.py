@@ -4,6 +4,7 @@ from __future__ import annotations
 
 import html
 import unicodedata
+from typing import Iterable
 
 # Control and format characters (among them those that turn the direction of writing), what has no meaning agreed on,
 # and what breaks lines unseen.
@@ -49,6 +50,11 @@ def in_quotes(line: str) -> str:
     """A line of unknown origin, short and in visible ASCII, for a sentence about it."""
     text = printed(line.encode("utf-8", "surrogateescape"), " ")
     return f"'{text}'" if len(text) <= 80 else f"'{text[:80]}..'"
+
+
+def as_text(lines: Iterable[str]) -> str:
+    """Lines as one text that ends with a line feed, without empty lines at the end."""
+    return "\n".join(lines).rstrip("\n") + "\n"
 
 
 def counted(number: int, one: str, many: str = "") -> str:

@@ -1,15 +1,15 @@
 """`tools/why`: how each finding follows, told as a way from source to sink."""
 from __future__ import annotations
 
-import sys
 import textwrap
 from typing import Sequence
 
 from vet_tools import report, story
-from vet_tools.command import STATUSES, Words, refuse
+from vet_tools.command import STATUSES, Words, print_of
 from vet_tools.explain import WIDTH
 from vet_tools.explanation import Explained, Explanation, explain
-from vet_tools.report import NoReport, Outcome, ReportFault
+from vet_tools.report import Outcome, Report
+from vet_tools.shown import as_text
 from vet_tools.way import Step, grouped, said
 
 HEAD = ("Each way is a derivation by the rules of the analysis (docs/RULES.md), and may be no run: the analysis mixes "
@@ -60,7 +60,7 @@ def text(found: Explanation) -> str:
     lines += [f"Not shown: {fault}" for fault in found.faults]
     for one in found.findings:
         lines += finding_text(one)
-    return "\n".join(lines).rstrip("\n") + "\n"
+    return as_text(lines)
 
 
 def main(arguments: list[str] | None = None) -> int:
@@ -74,10 +74,10 @@ def main(arguments: list[str] | None = None) -> int:
     parser.add_argument("--story", metavar="FILE", help="read what vet story printed from FILE (- is the standard "
                         "input) instead of running vet")
     words = parser.parse_args(arguments)
-    try:
+
+    def made() -> tuple[str, Report]:
         folder = report.app_folder(words.folder)
         one, stories = story.read_file(words.story) if words.story else story.told(folder)
-    except (ReportFault, NoReport) as fault:
-        return refuse("tools/why", fault)
-    sys.stdout.write(text(explain(one, folder, stories)))
-    return one.outcome.status
+        return text(explain(one, folder, stories)), one
+
+    return print_of("tools/why", made)
