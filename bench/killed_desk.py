@@ -26,6 +26,8 @@ import threading
 import time
 import tomllib
 
+# So many cases of a developer may wait for a decision.
+WAITING = 1000
 TOP = os.path.dirname(os.path.dirname(os.path.abspath(__file__)))
 
 
@@ -104,6 +106,8 @@ class Office:
         ruled = [r for r, s in self.states.items() if s == "appealed"]
         decided = [r for r, s in self.states.items() if s == "decided"]
         kind = self.rng.choice(["submit", "submit", "decide", "appeal", "rule"])
+        if len(self.queue) >= WAITING:
+            kind = "decide"
         if kind == "decide" and self.queue:
             return self.reviewers[0], "POST", "/decisions", None, self.queue[0], "decided"
         if kind == "appeal" and decided:

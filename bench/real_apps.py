@@ -1,13 +1,14 @@
 #!/usr/bin/python3
 """Judges a folder of real apps, and puts what came of them into docs/REAL_APPS.md.
 
-usage: real_apps.py [--limit SECONDS] [--workers N] [--largest BYTES] [--page FILE] FOLDER
+usage: real_apps.py [--limit SECONDS] [--workers N] [--at-once N] [--largest BYTES] [--page FILE] FOLDER
 
 Each APK of the folder, the smallest first, goes through tools/unpack, `./vet check` under lists/android.toml, and,
 where there was an answer with a table, `./vet certify` and tools/coverage; its report goes through tools/explain and
 tools/page, and where one of them fails the page tells it. The part of the page between its two marks
 is made anew after each app, so what was done stays where the script is stopped. An app whose check takes more than the
 limit (120 seconds) by the clock is stopped, and its row says so; one of more than --largest bytes of DEX is not asked.
+With --at-once several apps are judged side by side.
 
 Time is by the clock, in brackets that of the processors; memory is the peak. Where ./vet runs the unproved program, one
 run of `certify` stands for both. Another program is asked where VET names one. Needed is what `tools/setup --tests`
@@ -23,6 +24,7 @@ import subprocess
 import sys
 import tempfile
 from collections import Counter
+from concurrent.futures import ThreadPoolExecutor, as_completed
 from dataclasses import dataclass, field
 from pathlib import Path
 
@@ -124,8 +126,14 @@ def not_shown(ran: Ran, folder: Path, certificate: Path, work: Path) -> list[str
     return found
 
 
-def judge(apk: Path, words: argparse.Namespace, judges: str, work: Path) -> App:
+def judge(apk: Path, words: argparse.Namespace, judges: str) -> App:
     """Unpacks and judges one APK."""
+    with tempfile.TemporaryDirectory(prefix="real_app_") as work:
+        return judge_in(Path(work), apk, words, judges)
+
+
+def judge_in(work: Path, apk: Path, words: argparse.Namespace, judges: str) -> App:
+    """The same in a folder to work in."""
     app, folder, certificate = App(apk.stem), work / "app", work / "app.cert"
     done = subprocess.run([str(TOP / "tools" / "unpack"), str(apk), str(folder)], capture_output=True, text=True,
                           check=False)
@@ -212,7 +220,8 @@ def made(apps: list[App], words: argparse.Namespace, judges: str) -> str:
                       "one's",
           "another": "another program, named by `VET`; time and memory are those of its `check`"}
     lines = [f"{counted(len(apps), 'app')}, judged by {by[judges]}. Time is by the clock, in brackets that of the "
-             f"processors. An app was stopped after {words.limit:.0f} s.", "",
+             f"processors. An app was stopped after {words.limit:.0f} s."
+             + (f" {words.at_once} ran at once." if words.at_once > 1 else ""), "",
              f"| {' | '.join(HEADS)} |", "|---" * len(HEADS) + "|"]
     lines += [row(app) for app in apps]
     outcomes = Counter(app.found.report.outcome.value if app.found else "no answer" for app in apps)
@@ -236,18 +245,20 @@ def main() -> int:
     parser.add_argument("folder", type=Path, metavar="FOLDER")
     parser.add_argument("--limit", type=float, default=120, metavar="SECONDS")
     parser.add_argument("--workers", type=int, default=1, metavar="N")
+    parser.add_argument("--at-once", type=int, default=1, metavar="N")
     parser.add_argument("--largest", type=int, default=1 << 30, metavar="BYTES")
     parser.add_argument("--page", type=Path, default=TOP / "docs" / "REAL_APPS.md", metavar="FILE")
     words = parser.parse_args()
     text = words.page.read_text()
     head, tail = text[:text.index(BEGIN)], text[text.index(END):]
     judges, apps = judge_of(), []
-    for apk in sorted(words.folder.glob("*.apk"), key=by_size):
-        with tempfile.TemporaryDirectory(prefix="real_app_") as work:
-            apps.append(judge(apk, words, judges, Path(work)))
-        print(row(apps[-1]), flush=True)
-        apps.sort(key=lambda app: (app.dex, app.name))
-        words.page.write_text(f"{head}{BEGIN}\n\n{made(apps, words, judges)}\n\n{tail}")
+    with ThreadPoolExecutor(words.at_once) as crew:
+        apks = sorted(words.folder.glob("*.apk"), key=by_size)
+        for one in as_completed([crew.submit(judge, apk, words, judges) for apk in apks]):
+            apps.append(one.result())
+            print(row(apps[-1]), flush=True)
+            apps.sort(key=lambda app: (app.dex, app.name))
+            words.page.write_text(f"{head}{BEGIN}\n\n{made(apps, words, judges)}\n\n{tail}")
     return 0
 
 
