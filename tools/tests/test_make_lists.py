@@ -118,6 +118,13 @@ class Lint(Case):
         self.assertEqual(self.rules(classes=classes, callbacks='+[android.app.Activity]\nvoid onStop(int)\n'
                                                                '[android.app.Application]\nvoid onStop()\n'), {})
 
+    def test_what_is_set_is_got(self) -> None:
+        self.assertIn('methods.txt:10', self.rules(
+            methods='+[a.Box]\nvoid setSize(int)\nint getSize()\nboolean isOpen()\n')['kept'])
+        for kept in ('void setSize(int)  puts 1>0\nint getSize()  joined 0\n', 'void setSize(int)\nint getHeight()\n',
+                     'void setSize(int)  reflective -- far\nint getSize()\n'):
+            self.assertEqual(self.rules(methods=f'+[a.Box]\n{kept}'), {})
+
     def test_parents_that_are_not_listed(self) -> None:
         self.assertIn('b.Lost', self.rules(classes='+class Found : b.Lost\n')['parents'])
 

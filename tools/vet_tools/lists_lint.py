@@ -150,6 +150,23 @@ def position_faults(tables: Tables) -> Iterator[Fault]:
             yield Fault("position", call.place, f"{call} does not have a position of its sources")
 
 
+def kept_faults(tables: Tables) -> Iterator[Fault]:
+    """Rows of `get..` and `is..` that give nothing back of what the same class is given by a row of `set..`."""
+    setters = {(row.owner, row.name.removeprefix("set")) for row in tables.methods
+               if row.name.startswith("set") and row.proto.endswith(")V") and not row.static and gives_nothing(row)}
+    for row in tables.methods:
+        named = re.fullmatch(r"(?:get|is)(.+)", row.name)
+        if named and not row.proto.endswith("V") and gives_nothing(row) and (row.owner, named[1]) in setters:
+            yield Fault("kept", row.place, f"{row} gives back what set{named[1]} was given, which keeps it nowhere")
+
+
+def gives_nothing(row: MethodRow) -> bool:
+    """Whether what a method is given is neither kept in its receiver or elsewhere nor comes out of it."""
+    effects = row.effects
+    return effects.result is Result.BLANK and not (effects.puts or effects.stores or effects.copies
+                                                   or effects.reflective)
+
+
 def weaker_faults(tables: Tables, declared: Declared) -> Iterator[Fault]:
     """Rows below a class that has the method too and for which the lists say less. `declared` says what else than
     the rows tell is known of the methods of a class."""
@@ -217,5 +234,5 @@ def faults(tables: Tables, declared: Declared = nothing_more) -> list[Fault]:
     """All faults, in the order of the rules; walks upward are tried only where no class is above itself."""
     found = [*head_faults(tables), *class_faults(tables), *twice_faults(tables), *reason_faults(tables),
              *name_faults(tables), *position_faults(tables), *constructor_faults(tables), *callback_faults(tables),
-             *life_faults(tables)]
+             *life_faults(tables), *kept_faults(tables)]
     return found + list(weaker_faults(tables, declared))
