@@ -4,16 +4,18 @@
 usage: story_cases.py PROGRAM FOLDER [COUNT [SEED]] (the built program, a folder to work in, how many apps, 200 where
 none is named, and the first seed, 1 where none is; needs Debian's smali and androguard)
 
-Each app is drawn from a seed (`drawn_app.py`), where it is not there yet, and has two to four classes. Its report has
-to be that of `check`, with the same status, and a story has to stand behind it for each finding: without a fault by
-the pages of rules and formats (`tools/tests/story_check.py`), each of its rows in the table that `certify` writes,
-and the last the first arrival there of the finding's pair at its place. Ends with status 1 at the first app of which
-that is not so. Prints how many apps were flagged, how many stories they have, and the length of the longest.
+Each app is drawn from a seed (`drawn_app.py`), where it is not there yet, and has two to four classes. Where more rows
+follow than ROWS, it is too large, and nothing more is looked at. Its report has to be that of `check`, with the same
+status, and a story has to stand behind it for each finding: without a fault by the pages of rules and formats
+(`tools/tests/story_check.py`), each of its rows in the table that `certify` writes, and the last the first arrival
+there of the finding's pair at its place. Ends with status 1 at the first app of which that is not so. Prints how many
+apps were flagged or too large, how many stories they have, and the length of the longest.
 """
 import subprocess
 import sys
 from pathlib import Path
 
+ROWS = 300_000
 TOP = Path(__file__).resolve().parent.parent
 sys.dont_write_bytecode = True
 sys.path[:0] = [str(TOP / "bench"), str(TOP / "tools")]
@@ -42,13 +44,22 @@ def first_arrivals(folder, rows):
     return found
 
 
+def draw(folder, seed):
+    """Makes the folder of the app of this seed, with lists of at most so many rows."""
+    drawn(folder, seed, 2 + seed % 3)
+    lists = Path(folder, "lists.toml")
+    lists.write_text(lists.read_text().replace("rows = 4000000\n", f"rows = {ROWS}\n"))
+
+
 def looked_over(program, folder):
-    """How long the stories of an app are; raises `SystemExit` where one is not as it is to be."""
+    """How long the stories of an app are, None where it is too large. Raises `SystemExit` where one is wrong."""
     status, said = answer(program, "check", folder, 1)
     told, text = answer(program, "story", folder)
     if status != told or not text.startswith(said):
         raise SystemExit(f"{folder}: story ended with {told}: {text[:200]!r}, check with {status}: {said[:200]!r}")
     blocks = blocks_of(text[len(said):])
+    if "\ntoo large: " in said:
+        return None
     findings = [str(one) for one in report.parse(said).findings]
     if len(blocks) != len(findings):
         raise SystemExit(f"{folder}: {len(findings)} findings and {len(blocks)} stories")
@@ -72,10 +83,10 @@ def main():
     for seed in range(first, first + count):
         folder = f"{work}/{seed}"
         if not Path(folder, "classes.dex").exists():
-            drawn(folder, seed, 2 + seed % 3)
+            draw(folder, seed)
         lengths.append(looked_over(program, folder))
     flagged = [one for one in lengths if one]
-    print(f"{count} apps, {len(flagged)} flagged, {sum(map(len, flagged))} stories, "
+    print(f"{count} apps, {len(flagged)} flagged, {lengths.count(None)} too large, {sum(map(len, flagged))} stories, "
           f"the longest of {max(map(max, flagged), default=0)} lines: all as they are to be")
 
 
