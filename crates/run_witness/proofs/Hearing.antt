@@ -3,9 +3,11 @@ use Rattle.std.proofs.Common.{◌≡◌, ℕ, ◌≤◌, ◌<◌, List, [], ◌�
 use Rattle.vet_base.specs.declared.outside.FileFault.{FileFault}
 use Rattle.heard_files.specs.Outside.{Entry, answer_of}
 use Rattle.vet_base.proofs.Results.{ok_or_err}
+use Rattle.form_fields.specs.declared.told.FormFault.{FormFault}
 use Rattle.verdict.specs.declared.outcome.Part.{Part}
 use Rattle.verdict.specs.declared.outcome.Part.TheVariants.{Manifest}
-use Rattle.verdict.specs.declared.outcome.Reason.TheVariants.{Absent}
+use Rattle.verdict.specs.declared.outcome.Reason.{Reason}
+use Rattle.verdict.specs.declared.outcome.Reason.TheVariants.{Absent, Form}
 use Rattle.verdict.specs.declared.parts.Parts.{Parts}
 use Rattle.app_folder.specs.Due.{Due}
 use Rattle.app_folder.specs.Folder.{Refusal}
@@ -73,11 +75,14 @@ one_read dir text (file ∷ files) part fault same =
     let as_long = ap length same in
     omega (arith, whole, as_long)
 
+not_absent : (fault : FormFault) → ◌≡◌ {A = Reason} (Form fault) Absent → ⊥
+not_absent fault same = cc
+
 there_at : (before new : List Entry) (dir text : List ℕ) (refusal : Refusal) → refusal ≡ (Manifest, Absent) → new ≡ before ++ read_of dir Manifest (Ok text) ∷ []
     → GaveRefusal before new dir refusal → ⊥
 there_at before new dir text _ same heard (GaveRefusal.no_manifest refusal gave) =
     one_read dir text gave.files refusal.0 gave.fault (cancel before _ _ (sym heard ∙ gave.heard))
-there_at before new dir text _ same heard (GaveRefusal.bad_manifest seen fault read form) = absurd cc
+there_at before new dir text _ same heard (GaveRefusal.bad_manifest seen fault read form) = not_absent fault (ap (λ (r : Refusal). r.1) same)
 there_at before new dir text _ same heard (GaveRefusal.no_other seen says refusal form gave) =
     let more = up_to_more _ (before ++ read_of dir Manifest (Ok seen) ∷ []) new dir refusal gave in
     let front = length-append before (read_of dir Manifest (Ok seen) ∷ []) in
