@@ -54,7 +54,7 @@ in_object =
 abbrev pub in_nested : Scene
 in_nested =
     scene (with_id (step 2 (New 1 own_box None) (3 ∷ []) ∷ step 3 (Put 1 field_key 0) (4 ∷ []) ∷
-        step 4 (New 2 own_box None) (5 ∷ []) ∷ step 5 (Put 2 field_key 1) (6 ∷ []) ∷ and_post 6 2)) []
+    step 4 (New 2 own_box None) (5 ∷ []) ∷ step 5 (Put 2 field_key 1) (6 ∷ []) ∷ and_post 6 2)) []
 
 -- All rows but those that say of a label that it is in register x, that it is reached from an object, or that it
 -- arrives; and those of cells only where `cells` holds.
