@@ -51,6 +51,11 @@ impl<S: Read + OpenStream + Drop> Queue<S> {
         })
     }
 
+    /// Whether there is none that something may come of, so that the next one can be waited for.
+    fn is_empty(&self) -> bool {
+        self.held.is_empty() && self.parting.is_empty()
+    }
+
     /// Ends a connection to which a reply was written.
     pub(crate) fn part(&mut self, stream: S) {
         if self.parting.len() >= PARTING_LIMIT {
@@ -142,7 +147,7 @@ impl<S: Read + OpenStream + Drop> Queue<S> {
         let mut last = rt.monotonic()?;
         for _ in 0..u64::MAX {
             self.take_more(alloc, listener)?;
-            if self.held.is_empty() && self.parting.is_empty() {
+            if self.is_empty() {
                 self.take_first(alloc, rt, listener)?;
                 last = rt.monotonic()?;
             }
@@ -153,7 +158,7 @@ impl<S: Read + OpenStream + Drop> Queue<S> {
                 return Ok(held);
             }
             self.give_turn();
-            if !came {
+            if !came && !self.is_empty() {
                 self.rest(rt);
             }
         }
