@@ -106,8 +106,8 @@ fn leave<S: Sink>(
     out: &mut S,
 ) -> Result<(), S::Refusal>
     requires { SoundApp app.now }
-    ensures { OnOk result (out.new ≡ fold S.then out.old (left app.now readers.now leaving.by leaving.how leaving.content
-        node)) }
+    ensures { OnOk result (out.new ≡ fold S.then out.old (left app.now readers.now leaving.by leaving.how
+        leaving.content node)) }
 {
     match leaving.how {
         RETURNING => {
