@@ -1,0 +1,3 @@
+pub mod CellHandedGiven
+pub mod Offers
+pub mod exact

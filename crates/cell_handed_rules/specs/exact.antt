@@ -1,0 +1,2 @@
+pub mod CellHandedExact
+pub mod RowNumbers
