@@ -1,0 +1,3 @@
+mod Crowded
+mod Listed
+mod Reached
