@@ -155,10 +155,11 @@ impl<D: Disk> Disk for Stumbling<D> {
     }
 }
 
-/// The machine comes back: what was not synced is lost.
+/// The machine comes back, and no call fails any more: what was not synced is lost.
 impl<D: Crash> Crash for Stumbling<D> {
     fn crash(&mut self) {
         self.inner.crash();
+        self.calls_left = None;
         self.sync_refused = false;
     }
 }
