@@ -1,0 +1,2 @@
+pub mod CellBeginGiven
+pub mod exact
