@@ -1,3 +1,3 @@
 pub mod Kept
-pub mod KeptExact
 pub mod OfApp
+pub mod exact

@@ -1,7 +1,7 @@
 ghost use Rattle.std.specs.Prelude.{filter};
 ghost use Rattle.rule_ground.specs.Hits.{Among};
 ghost use Rattle.kept_rules.specs.Kept.{KeptBy, is_kept};
-ghost use Rattle.kept_rules.specs.KeptExact.{kept_exact, kept_led};
+ghost use Rattle.kept_rules.specs.exact.KeptExact.{kept_exact, kept_led};
 ghost use Rattle.kept_rules.specs.OfApp.{IsTheAppsKept};
 
 use crate::kept_sink::KeptSink;
