@@ -1,0 +1,5 @@
+pub mod CellEventGiven
+pub mod CellGivenBack
+pub mod CellRowGiven
+pub mod Receivers
+pub mod exact

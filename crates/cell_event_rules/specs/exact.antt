@@ -1,0 +1,3 @@
+pub mod CellEventsExact
+pub mod Complete
+pub mod Sound
