@@ -1,0 +1,3 @@
+pub mod CellHeapGiven
+pub mod CellLibraryGiven
+pub mod exact

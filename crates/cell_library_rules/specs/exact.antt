@@ -1,0 +1,5 @@
+pub mod CellHeapComplete
+pub mod CellHeapSound
+pub mod CellLibraryComplete
+pub mod CellLibraryExact
+pub mod CellLibrarySound

@@ -1,0 +1,4 @@
+pub mod CellPinned
+pub mod CellValueGiven
+pub mod CellValues
+pub mod exact

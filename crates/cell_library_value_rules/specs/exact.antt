@@ -1,0 +1,2 @@
+pub mod CellValueComplete
+pub mod CellValueSound
