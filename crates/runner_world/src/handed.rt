@@ -1,6 +1,7 @@
-ghost use Rattle.std.specs.Prelude.{◌≡◌, [], ◌∷◌, OnOk, OnErr, reverse};
+ghost use Rattle.std.specs.Prelude.{◌≡◌, ◌↔◌, [], ◌∷◌, IsTrue, OnOk, OnErr, reverse};
 ghost use Rattle.app_machine.specs.Calls.{hand};
 ghost use Rattle.played_machine.specs.Reading.{handed_places};
+ghost use Rattle.vet_base.specs.Members.{In};
 
 use std::alloc::Global;
 use std::collections::BTreeSet;
@@ -40,6 +41,13 @@ impl Handed {
         ensures places { result.now ≡ handed_places (reverse self.now) }
     {
         &self.places
+    }
+
+    /// Whether the place was handed.
+    pub fn has(&self, place: u32) -> bool
+        ensures { IsTrue result ↔ In place self.now }
+    {
+        self.there.contains(&place)
     }
 
     /// Hands the place, where there is one. After want of memory what was handed is as before.
