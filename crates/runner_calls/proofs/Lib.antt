@@ -1,4 +1,4 @@
 mod Found
-mod Raising
+pub mod Raising
 pub mod Stacking
 pub mod Tied
