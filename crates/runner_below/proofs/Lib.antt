@@ -1,0 +1,3 @@
+pub mod Looked
+mod Numbered
+mod Staying
