@@ -1,0 +1,7 @@
+mod Acts
+pub mod Alike
+mod Does
+mod Few
+mod Returns
+pub mod Running
+pub mod Went

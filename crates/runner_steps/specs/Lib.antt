@@ -1,0 +1,5 @@
+pub mod Back
+pub mod Doing
+pub mod Given
+pub mod State
+pub mod Went
