@@ -1,13 +1,12 @@
 -- Lists and worlds that grow.
-use Rattle.std.proofs.Common.{◌≡◌, ◌==◌, ℕ, zero, suc, Bool, true, false, cond, List, [], ◌∷◌, ◌++◌, map, Option, Some, None, option_map, slice_get, refl, sym, ap, ◌∙◌, subst, append_assoc}
+use Rattle.std.proofs.Common.{◌≡◌, ◌==◌, ℕ, zero, suc, Bool, true, false, cond, List, [], ◌∷◌, ◌++◌, Option, Some, None, option_map, slice_get, refl, sym, ap, ◌∙◌, append_assoc}
 use Rattle.std.proofs.lemmas.List.{append-nil, map-append}
 use Rattle.vet_base.specs.declared.key_id.KeyId.{KeyId}
 use Rattle.app_machine.specs.Calls.{hand}
 use Rattle.app_machine.specs.Heap.{Value, Object, put_at, put_to, add_all}
 use Rattle.app_machine.specs.Lookups.{elem_key}
-use Rattle.app_machine.specs.Names.{Name}
 use Rattle.app_machine.specs.State.{World}
-use Rattle.played_alike.specs.Alike.{Pairwise, AlikeObject, AlikeHeap, AlikeWorld}
+use Rattle.played_alike.specs.Alike.{AlikeHeap, AlikeWorld}
 use Rattle.played_alike.proofs.Orders.{put_once, handed_next}
 use Rattle.played_machine.specs.Reading.{class_at, handed_places}
 use Rattle.played_growth.specs.Growth.{Extends, classes_of, Grows}

@@ -1,8 +1,7 @@
 -- Whatever a step draws, the world grows.
-use Rattle.std.proofs.Common.{◌≡◌, ◌==◌, ◌⊎◌, inl, inr, ℕ, zero, suc, ◌+◌, Bool, true, false, cond, List, [], ◌∷◌, ◌++◌, map, length, Option, Some, None, slice_get, refl, sym, ap, ◌∙◌, subst}
-use Rattle.std.specs.Prelude.{◌%◌, filter, filter_map, flat_map, option_to_list}
+use Rattle.std.proofs.Common.{◌≡◌, ◌==◌, ◌⊎◌, inl, inr, ℕ, ◌+◌, Bool, true, false, cond, List, [], ◌∷◌, ◌++◌, map, length, Option, Some, None, slice_get, refl, sym, ap, subst}
+use Rattle.std.specs.Prelude.{◌%◌, filter, flat_map, option_to_list}
 use Rattle.std.proofs.lemmas.Option.{none-some, same_Some}
-use Rattle.vet_base.specs.declared.key_id.KeyId.{KeyId}
 use Rattle.vet_base.specs.Members.{In}
 use Rattle.vet_base.proofs.Members.{in_either, in_slice_get, from_flat, from_filter_map, from_map}
 use Rattle.app_machine.specs.declared.app.App.{App}
@@ -32,7 +31,7 @@ use Rattle.played_machine.specs.Calling.{code_of, call_target, called_row}
 use Rattle.played_machine.specs.Coming.{Event, Receives, Initialiser, may_begin, lived, born, life_coming, callback_coming, click_coming, life_count, lives, callbacks, clicks, initialisations, component_events, handed_coming, handed_events, events, fresh_object, parameter_values, parameter, parameters, receiver, event_frame, begins_with, initialises_with, begun}
 use Rattle.played_machine.specs.Drawing.{Drawing, give, continue, ◌>>=◌, draw, given, one_of}
 use Rattle.played_machine.specs.Drawn.{drawn_step}
-use Rattle.played_machine.specs.Librarian.{added, after_call, given_back, given_result, hand_all, joined_labels, joined_value, library_call, made_shared, result, shared_there, with_shared}
+use Rattle.played_machine.specs.Librarian.{added, after_call, given_back, given_result, hand_all, joined_labels, joined_value, library_call, result, shared_there, with_shared}
 use Rattle.played_machine.specs.Local.{Playing, playing, catches_of, elements, next_of, moved, got, local, raised_to, raised, with_object}
 use Rattle.played_machine.specs.Reading.{class_at, handed_places, is_of_type}
 use Rattle.played_machine.specs.Step as stepping

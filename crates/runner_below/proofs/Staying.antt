@@ -1,6 +1,5 @@
 -- What is kept stays true while objects and handed places are added.
-use Rattle.std.proofs.Common.{◌≡◌, ◌+◌, ◌<◌, ◌≤◌, ℕ, List, ◌++◌, length, take, slice_get, refl, sym, ap, ◌∙◌, subst, length-append, arith}
-use Rattle.std.specs.List.{All}
+use Rattle.std.proofs.Common.{◌≡◌, ◌+◌, ◌<◌, ℕ, List, ◌++◌, length, take, sym, ap, ◌∙◌, subst, length-append, arith}
 use Rattle.std.proofs.lemmas.List.{take-append-le}
 use Rattle.vet_base.specs.Members.{In}
 use Rattle.vet_base.proofs.Members.{all_in, all_from_in}

@@ -1,5 +1,5 @@
 -- Instructions that stay in their method.
-use Rattle.std.proofs.Common.{◌≡◌, ◌+◌, ◌<◌, ◌≤◌, ℕ, zero, suc, Bool, List, [], ◌∷◌, length, take, get_or, Option, Some, None, slice_get, refl, sym, ap, ◌∙◌, subst, arith}
+use Rattle.std.proofs.Common.{◌≡◌, ◌+◌, ◌<◌, ℕ, List, [], ◌∷◌, length, take, get_or, Option, Some, None, refl, sym, ap, ◌∙◌, subst, arith}
 use Rattle.std.specs.Prelude.{slice_set}
 use Rattle.std.proofs.lemmas.Option.{none-some, slice_get-get_or}
 use Rattle.app_machine.specs.declared.app.App.{App}
@@ -12,7 +12,7 @@ use Rattle.played_alike.specs.Alike.{AlikePlaying}
 use Rattle.played_machine.specs.Drawing.{Drawing, continue, draw, give, given, one_of, ◌>>=◌}
 use Rattle.played_machine.specs.Local.{Playing, playing, moved}
 use Rattle.played_machine.specs.Step.{acts}
-use Rattle.runner_calls.proofs.Raising.{one_none, one_some}
+use Rattle.runner_calls.proofs.Raising.{one_some}
 use Rattle.runner_calls.proofs.Stacking.{stack, stack_set, stack_top}
 use Rattle.runner_local.specs.Changed.{AlikeChange, changed, read_by}
 use Rattle.runner_local.proofs.Tied.{local_is}

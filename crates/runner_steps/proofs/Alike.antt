@@ -1,10 +1,10 @@
 -- States that are alike to themselves, and what is made as it is drawn.
-use Rattle.std.proofs.Common.{◌≡◌, ℕ, List, Option, Some, refl, sym, subst}
+use Rattle.std.proofs.Common.{◌≡◌, ℕ, List, Option, Some, refl}
 use Rattle.app_machine.specs.State.{World, Frame}
 use Rattle.played_alike.specs.Alike.{AlikeFrame, AlikeFrames, AlikeObject, AlikePlaying, AlikeWorld}
 use Rattle.played_alike.proofs.Heaps.{alike_itself, alike_object}
 use Rattle.played_alike.proofs.Pairs.{pair_same}
-use Rattle.played_machine.specs.Local.{Playing, playing}
+use Rattle.played_machine.specs.Local.{Playing}
 use Rattle.played_machine.specs.Reading.{handed_places}
 use Rattle.runner_state.specs.declared.script.Script.{Script}
 use Rattle.runner_steps.specs.State.{Makes}

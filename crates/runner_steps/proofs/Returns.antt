@@ -1,12 +1,12 @@
 -- Returns.
-use Rattle.std.proofs.Common.{◌≡◌, ℕ, Bool, true, false, cond, List, [], ◌∷◌, drop, Option, Some, None, slice_get, refl, sym, ap, ◌∙◌, subst}
+use Rattle.std.proofs.Common.{◌≡◌, ℕ, Bool, true, false, List, [], drop, Some, None, slice_get, sym, ap, ◌∙◌, subst}
 use Rattle.app_machine.specs.declared.app.App.{App}
 use Rattle.app_machine.specs.Calls.{hand}
 use Rattle.app_machine.specs.Heap.{Value}
 use Rattle.app_machine.specs.Lookups.{step_at}
 use Rattle.app_machine.specs.State.{World, Frame, result_register}
 use Rattle.played_alike.specs.Alike.{AlikePlaying, AlikeWorld}
-use Rattle.played_machine.specs.Drawing.{Drawing, continue, give, one_of}
+use Rattle.played_machine.specs.Drawing.{continue, give, one_of}
 use Rattle.played_machine.specs.Local.{Playing, playing, next_of}
 use Rattle.runner_calls.specs.Frames.{gone_on}
 use Rattle.runner_steps.specs.Back.{again_or_on, back_to, on_with}

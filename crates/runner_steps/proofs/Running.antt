@@ -1,5 +1,5 @@
 -- The running frame and its caller, and what is drawn there.
-use Rattle.std.proofs.Common.{◌≡◌, ℕ, List, [], ◌∷◌, drop, Option, Some, None, slice_get, refl, sym, ap}
+use Rattle.std.proofs.Common.{◌≡◌, ℕ, List, [], ◌∷◌, drop, Some, None, slice_get, refl, sym, ap}
 use Rattle.std.proofs.lemmas.Option.{none-some, same_Some}
 use Rattle.app_machine.specs.State.{Frame}
 use Rattle.played_machine.specs.Drawing.{Drawing}

@@ -1,4 +1,4 @@
-use Rattle.std.proofs.Common.{Some, sym, ap, ◌∙◌}
+use Rattle.std.proofs.Common.{Some, sym, ◌∙◌}
 use Rattle.runner_below.proofs.Looked.{is_below, not_below}
 use Rattle.runner_below.proofs.looking.add.Goals as goal
 

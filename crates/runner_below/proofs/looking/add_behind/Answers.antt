@@ -1,4 +1,4 @@
-use Rattle.std.proofs.Common.{◌≡◌, ◌++◌, Option, Some, map, slice_get, subst}
+use Rattle.std.proofs.Common.{◌≡◌, ◌++◌, Option, map, slice_get, subst}
 use Rattle.std.specs.Prelude.{OnOk}
 use Rattle.app_machine.specs.Names.{Name}
 use Rattle.played_growth.specs.Growth.{classes_of}

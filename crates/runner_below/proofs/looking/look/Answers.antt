@@ -1,4 +1,4 @@
-use Rattle.std.proofs.Common.{length, get_or, sym, ◌∙◌, arith}
+use Rattle.std.proofs.Common.{get_or, ◌∙◌, arith}
 use Rattle.std.proofs.lemmas.Option.{slice_get-get_or}
 use Rattle.played_growth.specs.Growth.{classes_of}
 use Rattle.played_growth.proofs.Growing.{class_is}

@@ -1,4 +1,4 @@
-use Rattle.std.proofs.Common.{ℕ, ◌-◌, refl, subst, arith}
+use Rattle.std.proofs.Common.{◌-◌, refl, subst, arith}
 use Rattle.app_machine.specs.declared.lists.Lists.{Lists}
 use Rattle.runner_local.specs.Changed.{AlikeChange, changed}
 use Rattle.runner_state.specs.Shown.{register_in, value_of}

@@ -1,6 +1,5 @@
 use Rattle.std.proofs.Common.{List, sym, ◌∙◌}
 use Rattle.app_machine.specs.State.{Frame}
-use Rattle.played_machine.specs.Drawing.{Drawing}
 use Rattle.runner_calls.specs.Frames.{frames_of}
 use Rattle.runner_heap.specs.Objects.{heap_of}
 use Rattle.runner_state.specs.Shown.{frame_in}

@@ -1,4 +1,4 @@
-use Rattle.std.proofs.Common.{◌∷◌, ℕ, List, Option, Some, false, map, drop, refl, sym, ap, ◌∙◌}
+use Rattle.std.proofs.Common.{◌∷◌, List, Some, false, map, refl, sym, ap, ◌∙◌}
 use Rattle.app_machine.specs.Calls.{arguments}
 use Rattle.app_machine.specs.Heap.{Value}
 use Rattle.app_machine.specs.State.{Frame}

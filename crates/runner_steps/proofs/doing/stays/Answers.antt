@@ -1,4 +1,3 @@
-use Rattle.std.proofs.Common.{ap, ◌∙◌}
 use Rattle.played_machine.specs.Step.{acts}
 use Rattle.runner_steps.proofs.Does.{no_next, some_next}
 use Rattle.runner_steps.proofs.doing.stays.Goals as goal

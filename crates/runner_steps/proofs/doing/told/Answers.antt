@@ -1,4 +1,4 @@
-use Rattle.std.proofs.Common.{List, ℕ, Some, sym, ap, ◌∙◌}
+use Rattle.std.proofs.Common.{List, ℕ, Some, ap, ◌∙◌}
 use Rattle.app_machine.specs.Lookups.{is_static_call}
 use Rattle.played_machine.specs.Step.{calls_library}
 use Rattle.runner_library.specs.Call.{row_in}

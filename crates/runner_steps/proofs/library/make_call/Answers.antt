@@ -1,4 +1,4 @@
-use Rattle.std.proofs.Common.{Some, sym, subst, ◌∙◌}
+use Rattle.std.proofs.Common.{sym, subst, ◌∙◌}
 use Rattle.std.proofs.lemmas.Option.{none-some, same_Some}
 use Rattle.app_machine.specs.State.{Frame}
 use Rattle.played_alike.specs.Alike.{AlikePlaying}
@@ -6,7 +6,6 @@ use Rattle.runner_calls.specs.Frames.{frames_of}
 use Rattle.runner_library.specs.Call.{row_in, values_in}
 use Rattle.runner_library.specs.Whole.{called}
 use Rattle.runner_state.specs.Shown.{frame_in, register_in, value_of}
-use Rattle.runner_steps.specs.State.{playing_in}
 use Rattle.runner_steps.specs.Went.{called_by}
 use Rattle.runner_steps.proofs.Went.{called_alike}
 use Rattle.runner_steps.proofs.library.make_call.Goals as goal

@@ -1,4 +1,4 @@
-use Rattle.std.proofs.Common.{ℕ, List, Option, drop, sym, subst}
+use Rattle.std.proofs.Common.{ℕ, List, Option, subst}
 use Rattle.std.specs.Prelude.{IfOk}
 use Rattle.played_machine.specs.Local as local
 use Rattle.runner_calls.specs.Frames.{frames_of}

@@ -1,4 +1,4 @@
-use Rattle.std.proofs.Common.{◌≡◌, length, map, sym, ap, ◌∙◌, subst, arith}
+use Rattle.std.proofs.Common.{map, sym, subst, arith}
 use Rattle.played_growth.specs.Growth.{classes_of}
 use Rattle.runner_below.specs.Below.{AreOfFirst}
 use Rattle.runner_below.proofs.Looked.{seen_kept}

@@ -1,4 +1,4 @@
-use Rattle.std.proofs.Common.{length, arith}
+use Rattle.std.proofs.Common.{arith}
 use Rattle.runner_below.proofs.Numbered.{one_numbered, one_kept}
 use Rattle.runner_below.proofs.belows.Belows.add.Goals as goal
 

@@ -1,6 +1,3 @@
-use Rattle.std.proofs.Common.{sym, subst}
-use Rattle.std.specs.List.{All}
-use Rattle.runner_below.specs.Kept.{IsBelow}
 use Rattle.runner_below.proofs.Numbered.{none_kept}
 use Rattle.runner_below.proofs.belows.Belows.new.Goals as goal
 
