@@ -1,8 +1,9 @@
-//! Small facts that show what the clauses of a run's code say of instructions and of raised values. Each is a theorem
-//! over the definitions that these clauses name, so that code which answers otherwise is refused.
+//! Small facts that show what the clauses of a run's code say of instructions, of library calls and of raised values.
+//! Each is a theorem over the definitions that these clauses name, so that code which answers otherwise is refused.
 #![tactic(auto)]
 
 ghost use Rattle.runner_witness.specs.Acts.{ActsTell};
+ghost use Rattle.runner_witness.specs.Calls.{CallsTell};
 ghost use Rattle.runner_witness.specs.Raises.{RaisesTell};
 
 /// What instructions write, make and put, and what they are given by a script.
@@ -14,4 +15,9 @@ pub fn instructions_do_what_they_say()
 /// not entered.
 pub fn raised_values_go_where_they_are_drawn()
     ensures { RaisesTell }
+{}
+
+/// What arrives, is joined, put, copied and handed by a library call, and which of its results take a byte.
+pub fn library_calls_do_what_their_rows_say()
+    ensures { CallsTell }
 {}
