@@ -1,0 +1,4 @@
+pub mod Exact
+pub mod Lists
+pub mod Lived
+mod Made

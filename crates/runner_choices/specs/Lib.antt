@@ -1,0 +1,4 @@
+pub mod Choices
+pub mod Laws
+pub mod Meeting
+pub mod Table
