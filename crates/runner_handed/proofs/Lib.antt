@@ -1,0 +1,4 @@
+pub mod Events
+mod Rows
+pub mod Stays
+pub mod Walked
