@@ -1,0 +1,4 @@
+mod Chosen
+mod Had
+mod Read
+mod Since
