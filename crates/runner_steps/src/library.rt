@@ -6,7 +6,7 @@ ghost use Rattle.played_alike.specs.Alike.{AlikePlaying};
 ghost use Rattle.runner_calls.specs.Frames.{frames_of};
 ghost use Rattle.runner_library.specs.Call.{row_in, shared_in, values_in};
 ghost use Rattle.runner_state.specs.Shown.{bytes_behind, value_of};
-ghost use Rattle.runner_steps.specs.State.{IsGround, Makes, playing_in};
+ghost use Rattle.runner_steps.specs.State.{IsGround, Makes, on_running, playing_in};
 ghost use Rattle.runner_steps.specs.Went.{called_by, called_in, drawn_after, either_way, on_at, raised_to, went};
 ghost use Rattle.runner_world.specs.World.{world_in};
 
@@ -30,8 +30,30 @@ enum After {
 }
 
 /// The library does what its row says, where what the script gives the call is known, and the running frame goes on, or
-/// a blank is raised.
+/// a blank is raised. Without a frame nothing is done.
 pub fn call_given<'a, 's>(
+    alloc: Global,
+    ground: &Ground<'a>,
+    playing: &mut Playing<'a>,
+    of: LibraryCall<'a>,
+    next: &[u32],
+    read: Held,
+    script: Script<'s>,
+) -> Result<Option<Script<'s>>, Memory>
+    requires ground { IsGround ground.now }
+    requires few { All (λ i. i < 65536) (shared_in of) }
+    ensures { IfOk result (Makes (on_running (called_in ground.now.app.now ground.now.lists.now
+        (world_in playing.old.world) of.entry next.now (value_of read)) (frames_of playing.old.frames)
+        script.entry.left.now) (playing_in playing.old) (playing_in playing.new)) }
+{
+    match playing.frames.running() {
+        None => Ok(None),
+        Some(_running) => call_running(alloc, ground, playing, of, next, read, script),
+    }
+}
+
+/// The same where there is a frame.
+fn call_running<'a, 's>(
     alloc: Global,
     ground: &Ground<'a>,
     playing: &mut Playing<'a>,

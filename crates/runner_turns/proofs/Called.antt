@@ -1,5 +1,5 @@
 -- A library call of the running frame.
-use Rattle.std.proofs.Common.{◌≡◌, ℕ, List, [], ◌∷◌, drop, Option, Some, None, slice_get, refl, sym, ap, ◌∙◌, subst}
+use Rattle.std.proofs.Common.{◌≡◌, ℕ, List, [], ◌∷◌, Some, None, refl, sym, ap, ◌∙◌}
 use Rattle.std.proofs.lemmas.Option.{none-some}
 use Rattle.app_machine.specs.declared.app.App.{App}
 use Rattle.app_machine.specs.declared.lists.Lists.{Lists}
@@ -26,9 +26,7 @@ module _ (app : App) (lists : Lists) (w : World) (call : LibraryCall) (next : Li
   not_called [] none = refl
   not_called (f ∷ fs) none = calls_is app lists w call next f fs bytes ∙ ap (continue (λ v. called_in app lists w call next v f fs)) (sym none)
 
-  -- what is so of the call that was given the value is so of the call
-  pub is_called : (R : Option (Playing × List ℕ) → Type 0) (fs : List Frame) (v : Value) (left : List ℕ) → Some (v, left) ≡ on_running reads fs bytes →
-      ((f : Frame) → Some f ≡ slice_get fs 0 → R (called_in app lists w call next v f (drop 1 fs) left)) → R (on_running calls fs bytes)
-  is_called R [] v left some each = absurd (none-some (v, left) (sym some))
-  is_called R (f ∷ fs) v left some each =
-      subst R (sym (calls_is app lists w call next f fs bytes ∙ ap (continue (λ z. called_in app lists w call next z f fs)) (sym some))) (each f refl)
+  pub is_called : (fs : List Frame) (v : Value) (left : List ℕ) → Some (v, left) ≡ on_running reads fs bytes →
+      on_running (called_in app lists w call next v) fs left ≡ on_running calls fs bytes
+  is_called [] v left some = absurd (none-some (v, left) (sym some))
+  is_called (f ∷ fs) v left some = sym (calls_is app lists w call next f fs bytes ∙ ap (continue (λ z. called_in app lists w call next z f fs)) (sym some))

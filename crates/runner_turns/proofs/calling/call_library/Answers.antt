@@ -1,4 +1,4 @@
-use Rattle.std.proofs.Common.{List, ℕ, Option, refl, sym, ap, ◌∙◌}
+use Rattle.std.proofs.Common.{List, ℕ, Option, refl, sym, ap, ◌∙◌, subst}
 use Rattle.std.specs.Prelude.{IfOk, option_map}
 use Rattle.played_machine.specs.Local as local
 use Rattle.runner_calls.specs.Frames.{frames_of}
@@ -16,6 +16,7 @@ returns-in-None-clause-made c = (not_called c.args.ground.now.app.now c.args.gro
 
 pub returns-in-Some-clause-made : goal.returns-in-Some-clause-made
 returns-in-Some-clause-made c =
-    is_called c.args.ground.now.app.now c.args.ground.now.lists.now (world_in c.args.playing.now.world) c.args.of c.args.next.now c.args.script.left.now
-    (λ (drawn : Option (local.Playing × List ℕ)). IfOk c.call_given.result (Makes drawn (playing_in c.args.playing.now) (playing_in c.call_given.new.playing)))
-    (frames_of c.args.playing.now.frames) (value_of c.in-Some.read) c.in-Some.left.left.now (ap (λ (o : Option (Held × Script)). option_map value_behind o) (sym c.in-Some.is) ∙ c.in_ok-given.ensures.given) c.call_given.ensures
+    subst (λ (drawn : Option (local.Playing × List ℕ)). IfOk c.call_given.result (Makes drawn (playing_in c.args.playing.now) (playing_in c.call_given.new.playing)))
+    (is_called c.args.ground.now.app.now c.args.ground.now.lists.now (world_in c.args.playing.now.world) c.args.of c.args.next.now c.args.script.left.now
+    (frames_of c.args.playing.now.frames) (value_of c.in-Some.read) c.in-Some.left.left.now (ap (λ (o : Option (Held × Script)). option_map value_behind o) (sym c.in-Some.is) ∙ c.in_ok-given.ensures.given))
+    c.call_given.ensures
