@@ -44,6 +44,7 @@ fn handed_since(alloc: Global, handed: &Handed, values: &[Held]) -> Result<Vec<u
         (hand_each (map value_of values.now) (reverse handed.now))) }
 {
     let mut new = Vec::new(alloc);
+    // It is asked for what its clause says of the handed places: they are in order, each once.
     let _before = handed.places();
     for value in values {
         hand_value(handed, &mut new, value.place)?;

@@ -1,6 +1,6 @@
 -- What is kept of a row is what may come to handed objects by it.
-use Rattle.std.proofs.Common.{◌≡◌, ℕ, zero, suc, ◌+◌, ◌<◌, Bool, true, false, cond, List, [], ◌++◌, map, length, filter_map, flat_map, Option, Some, None, option_map, slice_get, refl, ap, ◌∙◌, arith}
-use Rattle.std.proofs.lemmas.Option.{slice_get-map, slice_get_within}
+use Rattle.std.proofs.Common.{◌≡◌, ℕ, zero, suc, ◌+◌, ◌<◌, Bool, true, false, cond, List, [], ◌++◌, map, length, filter_map, flat_map, Option, Some, None, option_map, slice_get, refl, sym, ap, ◌∙◌, arith}
+use Rattle.std.proofs.lemmas.Option.{slice_get_within}
 use Rattle.app_machine.specs.declared.app.App.{App}
 use Rattle.app_machine.specs.declared.lists.Callback.{Callback}
 use Rattle.app_machine.specs.declared.lists.Lists.{Lists}
@@ -18,17 +18,15 @@ use Rattle.runner_choices.proofs.Lists.{filter_map_agree, map-filter_map}
 use Rattle.runner_handed.specs.declared.adding.Reached.{Reached}
 use Rattle.runner_handed.specs.declared.menu.HandedMenu.{HandedMenu}
 use Rattle.runner_handed.specs.Menu.{HasAll, menu_in}
-use Rattle.runner_handed.specs.Reached.{classes_of, kept_of, positions_of, reached_event, run_on, runs_on}
+use Rattle.played_growth.specs.Growth.{classes_of}
+use Rattle.played_growth.proofs.Growing.{class_is}
+use Rattle.runner_handed.specs.Reached.{kept_of, positions_of, reached_event, run_on, runs_on}
 
 pub flat_agree : {B : Type 0} (f g : ℕ → List B) (s n : ℕ) → ((q : ℕ) → q < s + n → f q ≡ g q) → flat_map f (numbers_from s n) ≡ flat_map g (numbers_from s n)
 flat_agree f g s zero alike = refl
 flat_agree f g s (suc n) alike =
     ap (λ xs. xs ++ flat_map f (numbers_from (s + 1) n)) (alike s (omega arith))
     ∙ ap (λ xs. g s ++ xs) (flat_agree f g (s + 1) n (λ q below. alike q (omega (arith, below))))
-
-pub class_is : (heap : List Object) (p : ℕ) → slice_get (classes_of heap) p ≡ class_at heap p
-unfolding class_at
-class_is heap p = slice_get-map (λ (o : Object). o.class) heap p
 
 module _ (app : App) (lists : Lists) (w : World) (q p : ℕ) where
   abbrev made : ℕ → Reached
@@ -59,7 +57,7 @@ unfolding handed_events
 row_is app lists w q =
     map-filter_map (reached_event w lists q) (λ p. run_on app lists q p (slice_get (classes_of w.heap) p)) (handed_places w.handed)
     ∙ filter_map_agree (λ p. option_map (reached_event w lists q) (run_on app lists q p (slice_get (classes_of w.heap) p))) (λ p. handed_coming app lists w q p (class_at w.heap p))
-    (λ p. of_place app lists w q p (slice_get (classes_of w.heap) p) ∙ ap (handed_coming app lists w q p) (class_is w.heap p)) (handed_places w.handed)
+    (λ p. of_place app lists w q p (slice_get (classes_of w.heap) p) ∙ ap (handed_coming app lists w q p) (sym (class_is w.heap p))) (handed_places w.handed)
 
 pub are_events : (app : App) (lists : Lists) (w : World) (menu : HandedMenu) → HasAll app lists (classes_of w.heap) (handed_places w.handed) menu → menu_in w lists menu ≡ flat_map (handed_events app lists w) (numbers_from 0 (length lists.callbacks))
 are_events app lists w menu has =
@@ -68,4 +66,4 @@ are_events app lists w menu has =
     (λ q below. ap (map (reached_event w lists q)) (has.rows q (omega (arith, below))) ∙ row_is app lists w q)
 
 pub class_within : (heap : List Object) (p : ℕ) (class : Name) → class_at heap p ≡ Some class → p < length (classes_of heap)
-class_within heap p class is = slice_get_within (classes_of heap) p class (class_is heap p ∙ is)
+class_within heap p class is = slice_get_within (classes_of heap) p class (sym (class_is heap p) ∙ is)

@@ -146,6 +146,7 @@ module _ {A : Type 0} (app : App) (lists : Lists) (classes : List Name) (p : ℕ
         ∙ (among app lists class p q (length lists.callbacks) (subst (λ n. q < n) long below)
         ∙ ap (λ o. option_to_list (run_on app lists q p o)) (sym is)));
     object = λ agreed. within;
+    absent = λ agreed. absurd (cc);
   }
 
 pub none_looked_at : {A : Type 0} (app : App) (lists : Lists) (classes : List Name) (p : ℕ) (old : List (Vec Reached A)) → slice_get classes p ≡ None → LooksAt app lists classes p old old false
@@ -153,6 +154,7 @@ none_looked_at app lists classes p old is = record {
   long = refl;
   rows = λ q below. sym (append-nil (kept_of old q)) ∙ ap (λ o. kept_of old q ++ option_to_list (run_on app lists q p o)) (sym is);
   object = λ agreed. absurd (cc);
+  absent = λ agreed. is;
 }
 
 -- place after place

@@ -9,7 +9,7 @@ use Rattle.played_machine.specs.Coming.{handed_events}
 use Rattle.played_machine.specs.Reading.{handed_places}
 use Rattle.runner_handed.specs.declared.menu.HandedMenu.{HandedMenu}
 use Rattle.runner_handed.specs.Menu.{Fits, HasAll, menu_in}
-use Rattle.runner_handed.specs.Reached.{classes_of}
+use Rattle.played_growth.specs.Growth.{classes_of}
 
 abbrev pub ReachedAreEvents : Type 0
 ReachedAreEvents =

@@ -1,10 +1,9 @@
 -- Objects to which callbacks come, by the callback row.
-use Rattle.std.specs.Prelude.{◌≡◌, ◌<◌, ◌==◌, ℕ, Bool, true, if◌then◌else◌, List, [], ◌++◌, map, length, filter_map, Option, Some, None, option_map, option_to_list, slice_get}
+use Rattle.std.specs.Prelude.{◌≡◌, ◌<◌, ◌==◌, ℕ, Bool, true, false, if◌then◌else◌, List, [], ◌++◌, length, filter_map, Option, Some, None, option_map, option_to_list, slice_get}
 use Rattle.std.specs.declared.vec.Vec.{Vec}
 use Rattle.app_machine.specs.declared.app.App.{App}
 use Rattle.app_machine.specs.declared.lists.Callback.{Callback}
 use Rattle.app_machine.specs.declared.lists.Lists.{Lists}
-use Rattle.app_machine.specs.Heap.{Object}
 use Rattle.app_machine.specs.Names.{Name}
 use Rattle.app_machine.specs.State.{World}
 use Rattle.app_model.specs.EventBodies.{handed_callback}
@@ -12,10 +11,6 @@ use Rattle.event_index.specs.declared.comings.Coming.{Coming}
 use Rattle.event_index.specs.Comings.{callback_run}
 use Rattle.played_machine.specs.Coming.{Event, Receives}
 use Rattle.runner_handed.specs.declared.adding.Reached.{Reached}
-
--- the classes of the objects, by place
-abbrev pub classes_of : List Object → List Name
-classes_of heap = map (λ (o : Object). o.class) heap
 
 -- the object at the place, where the callback row runs a body on it
 abbrev pub run_on : App → Lists → ℕ → ℕ → Option Name → Option Reached
@@ -65,3 +60,4 @@ pub record LooksAt {A : Type 0} (app : App) (lists : Lists) (classes : List Name
   pub long : length new ≡ length old
   pub rows : (q : ℕ) → q < length old → kept_of new q ≡ kept_of old q ++ option_to_list (run_on app lists q p (slice_get classes p))
   pub object : is_object ≡ true → p < length classes
+  pub absent : is_object ≡ false → slice_get classes p ≡ None

@@ -1,6 +1,7 @@
 ghost use Rattle.std.specs.Prelude.{◌≡◌, IfOk, length};
 ghost use Rattle.app_machine.specs.Sound.{SoundApp};
-ghost use Rattle.runner_handed.specs.Reached.{LooksAt, classes_of};
+ghost use Rattle.played_growth.specs.Growth.{classes_of};
+ghost use Rattle.runner_handed.specs.Reached.{LooksAt};
 ghost use Rattle.runner_heap.specs.Objects.{heap_of};
 
 use crate::adding::{Reached, add_each};

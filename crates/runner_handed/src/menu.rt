@@ -1,4 +1,4 @@
-ghost use Rattle.std.specs.Prelude.{◌≡◌, ℕ, true, List, IfOk, OnOk, length, option_map, slice_get};
+ghost use Rattle.std.specs.Prelude.{◌≡◌, ◌&&◌, ℕ, true, List, IfOk, OnOk, length, option_map, slice_get};
 ghost use Rattle.app_machine.specs.declared.app.App.{App as AnApp};
 ghost use Rattle.app_machine.specs.declared.lists.Lists.{Lists as SomeLists};
 ghost use Rattle.app_machine.specs.Names.{Name as AName};
@@ -6,7 +6,8 @@ ghost use Rattle.app_machine.specs.Sound.{SoundApp};
 ghost use Rattle.app_machine.specs.State.{World};
 ghost use Rattle.runner_choices.specs.Choices.{event_of};
 ghost use Rattle.runner_handed.specs.Menu.{Fits, HasAll, menu_in};
-ghost use Rattle.runner_handed.specs.Reached.{classes_of, reached_event};
+ghost use Rattle.played_growth.specs.Growth.{classes_of};
+ghost use Rattle.runner_handed.specs.Reached.{reached_event};
 ghost use Rattle.runner_heap.specs.Objects.{heap_of};
 
 use crate::adding::{Reached, empty_rows};
@@ -114,6 +115,7 @@ impl HandedMenu {
 }
 
 fn both(one: bool, other: bool) -> bool
+    ensures is { result ≡ (one && other) }
     ensures one { result ≡ true → one ≡ true }
     ensures other { result ≡ true → other ≡ true }
 {

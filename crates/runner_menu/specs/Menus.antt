@@ -10,7 +10,7 @@ use Rattle.runner_choices.specs.declared.choice.Choice.{Choice}
 use Rattle.runner_choices.specs.Choices.{event_of}
 use Rattle.runner_handed.specs.Menu as handed
 use Rattle.runner_handed.specs.Menu.{HasAll}
-use Rattle.runner_handed.specs.Reached.{classes_of}
+use Rattle.played_growth.specs.Growth.{classes_of}
 use Rattle.runner_menu.specs.declared.menu.Menu.{Menu}
 use Rattle.runner_menu.specs.Tables.{AreTables}
 use Rattle.runner_state.specs.declared.script.Script.{Script}

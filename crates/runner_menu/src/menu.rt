@@ -4,7 +4,7 @@ ghost use Rattle.app_machine.specs.Sound.{SoundApp};
 ghost use Rattle.played_machine.specs.Coming.{events};
 ghost use Rattle.played_machine.specs.Drawing.{given, one_of};
 ghost use Rattle.runner_choices.specs.Choices.{event_of};
-ghost use Rattle.runner_handed.specs.Reached.{classes_of};
+ghost use Rattle.played_growth.specs.Growth.{classes_of};
 ghost use Rattle.runner_heap.specs.Objects.{heap_of};
 ghost use Rattle.runner_menu.specs.Menus.{Fits, IsReady, choice_behind};
 ghost use Rattle.runner_world.specs.World.{world_in};

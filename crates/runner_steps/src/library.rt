@@ -66,8 +66,8 @@ fn call_running<'a, 's>(
     requires few { All (λ i. i < 65536) (shared_in of) }
     ensures { (f : Frame) → Some f ≡ slice_get (frames_of playing.old.frames) 0 →
         IfOk result (Makes (called_in ground.now.app.now ground.now.lists.now (world_in playing.old.world) of.entry
-        next.now (value_of read) f (drop 1 (frames_of playing.old.frames)) script.entry.left.now) (playing_in playing.old)
-        (playing_in playing.new)) }
+        next.now (value_of read) f (drop 1 (frames_of playing.old.frames)) script.entry.left.now)
+        (playing_in playing.old) (playing_in playing.new)) }
 {
     match after_call(ground.app, &playing.frames, next, script) {
         None => Ok(None),

@@ -1,5 +1,5 @@
 use Rattle.std.proofs.Common.{◌≡◌, ℕ, length, subst, arith}
-use Rattle.runner_handed.specs.Reached.{classes_of}
+use Rattle.played_growth.specs.Growth.{classes_of}
 use Rattle.runner_handed.proofs.Rows.{Looked, fits_then, has_all, looked_before, looked_further}
 use Rattle.runner_handed.proofs.menu.HandedMenu.look_further.Goals as goal
 use Rattle.runner_heap.specs.Objects.{heap_of}

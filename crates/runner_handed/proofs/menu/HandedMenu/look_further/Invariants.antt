@@ -1,4 +1,4 @@
-use Rattle.runner_handed.specs.Reached.{classes_of}
+use Rattle.played_growth.specs.Growth.{classes_of}
 use Rattle.runner_handed.proofs.Rows.{Looked}
 use Rattle.runner_handed.proofs.menu.HandedMenu.look_further.Given as goal
 use Rattle.runner_heap.specs.Objects.{heap_of}

@@ -1,7 +1,7 @@
 use Rattle.std.proofs.Common.{ℕ, List, sym, subst}
 use Rattle.runner_handed.specs.Menu as handed
 use Rattle.runner_handed.specs.Menu.{HasAll}
-use Rattle.runner_handed.specs.Reached.{classes_of}
+use Rattle.played_growth.specs.Growth.{classes_of}
 use Rattle.runner_heap.specs.Objects.{heap_of}
 use Rattle.runner_menu.proofs.menu.Menu.catch_up.Goals as goal
 
