@@ -9,4 +9,6 @@ mod initialised;
 mod numbers;
 mod rules;
 
+pub use arguments::hangs_on;
+pub use initialised::is_initialised;
 pub use rules::CallRules;

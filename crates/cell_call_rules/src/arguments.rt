@@ -2,17 +2,15 @@
 ghost use Rattle.std.specs.Prelude.{◌≡◌, OnOk, fold, length};
 ghost use Rattle.app_machine.specs.Sound.{SoundApp};
 ghost use Rattle.rule_ground.specs.Below.{for_below};
-ghost use Rattle.call_rules.specs.PassGiven.{hangs_on as decides};
 ghost use Rattle.cell_ground.specs.Steps.{step_here};
 ghost use Rattle.cell_call_rules.specs.CellPassGiven.{argument_at, argument_gets, argument_passed};
 ghost use Rattle.cell_call_rules.specs.CellPassGiven.{call_passes, calls_on, passed};
 
-use crate::initialised::is_initialised;
 use crate::numbers;
 use crate::passing::pass_to;
 use app_machine::{Act, App, CallKind};
 use app_model::step_at;
-use app_parts::is_by_receiver;
+use call_rules::{hangs_on, is_initialised};
 use call_targets::argument_register;
 use cell_ground::Content;
 use fact_rows::{Activation, Node, Row};
@@ -28,13 +26,6 @@ pub struct Entering<'a> {
     pub by: Activation,
     pub kind: CallKind,
     pub args: &'a [u32],
-}
-
-/// Whether the target of a call of the kind hangs on the objects of its argument of this index.
-pub fn hangs_on(kind: CallKind, index: usize) -> bool
-    ensures { result ≡ decides kind index }
-{
-    is_by_receiver(kind) && index == 0
 }
 
 /// What the argument holds comes to a register of the activation.

@@ -5,11 +5,11 @@ ghost use Rattle.rule_ground.specs.Below.{for_below};
 ghost use Rattle.cell_call_rules.specs.CellPassGiven.{callee_gets, content_passed, is_passed as passes};
 ghost use Rattle.cell_call_rules.specs.CellPassGiven.{passed_at};
 
-use crate::arguments::{Entering, hangs_on};
-use crate::initialised::is_initialised;
+use crate::arguments::Entering;
 use crate::numbers;
 use crate::passing::pass_to;
 use app_machine::{Act, App, CallKind};
+use call_rules::{hangs_on, is_initialised};
 use call_targets::{argument_register, is_argument};
 use cell_ground::Content;
 use fact_rows::{Node, Row};

@@ -4,7 +4,6 @@
 mod arguments;
 mod contents;
 mod exits;
-mod initialised;
 mod numbers;
 mod passing;
 mod receivers;
