@@ -1,7 +1,7 @@
 """Writes the cases of crates/table_cases: changed certificates, each with the answer that is due by the page of formats.
 
-usage: certificate_cases.py DATA (the data folder of the crate, with unlisted_call.cert in it; writes each_kind.cert and the
-files of cases)
+usage: certificate_cases.py DATA (the data folder of the crate, with unlisted_call.cert in it; writes each_kind.cert,
+each_cell_kind.cert and the files of cases)
 
 The reader below follows docs/FORMATS.md and nothing else. A case is a line `CHANGE: ANSWER`: `cut N` keeps the first N bytes of
 the file, `set AT BYTE` changes one, and `hex DIGITS` gives all bytes.
@@ -14,7 +14,13 @@ CONTEXTS = {0: "nn", 1: "nn", 2: "nn", 3: "n0", 4: "n0", 5: "nn", 6: "nnnn"}
 ROWS = {
     1: "N", 2: "NnS", 3: "NnPl", 4: "SnS", 5: "SnS", 6: "nS", 7: "nPl", 8: "NA", 9: "AN", 10: "NSPl", 11: "ASPl",
     12: "AeS", 13: "AePl", 14: "nl", 15: "nlPl", 16: "S", 17: "SPl", 18: "llN", 19: "Nc", 20: "NU",
+    21: "Nnl", 22: "nl", 23: "Snl", 24: "Sl", 25: "Ael",
 }
+SITES = {0: "N", 1: "Cn", 2: "n", 3: "n", 4: "nn"}
+FIRST, SECOND = b"VETCERT2", b"VETCELL1"
+# By the first eight bytes: the kinds of rows and the kinds of sites.
+KINDS = {FIRST: range(1, 21), SECOND: (1, 2, 4, 5, 6, 8, 9, 12, 14, 16, 18, 19, 20, 21, 22, 23, 24, 25)}
+SITE_KINDS = {FIRST: range(4), SECOND: range(5)}
 
 # A row of each kind, by their kinds, from certificates that a program wrote which was made apart from this one.
 FOREIGN_ROWS = bytes.fromhex(
@@ -51,11 +57,11 @@ class Fault(Exception):
 
 
 class Row:
-    """Reads one row from an offset on, as the list of its numbers."""
+    """Reads one row from an offset on, as the list of its numbers. The first eight bytes tell which rows there are."""
 
     def __init__(self, data, at):
-        self.data, self.at, self.numbers = data, at, []
-        kind = self.byte(lambda n: 1 <= n <= 20)
+        self.data, self.at, self.numbers, self.magic = data, at, [], data[:8]
+        kind = self.byte(lambda n: n in KINDS[self.magic])
         self.fields(ROWS[kind])
 
     def next(self):
@@ -102,7 +108,7 @@ class Row:
             elif field == "N":
                 self.fields("An")
             elif field == "S":
-                self.fields({0: "N", 1: "Cn", 2: "n", 3: "n"}[self.byte(lambda n: n < 4)])
+                self.fields(SITES[self.byte(lambda n: n in SITE_KINDS[self.magic])])
             elif field == "P":
                 self.fields("n" * (self.byte(lambda n: n % 128 <= 5) % 128))
             elif field == "U":
@@ -115,7 +121,7 @@ def answer(data):
     head = data[:8]
     if head == b"VETCERT1":
         return "version"
-    if head != b"VETCERT2":
+    if head not in KINDS:
         return "magic"
     if len(data) < 40:
         return "cut at 8"
@@ -142,11 +148,11 @@ def begins(data):
     return found
 
 
-def certificate(rows):
-    return b"VETCERT2" + bytes(range(32)) + len(rows).to_bytes(4, "little") + b"".join(rows)
+def certificate(magic, rows):
+    return magic + bytes(range(32)) + len(rows).to_bytes(4, "little") + b"".join(rows)
 
 
-def each_kind():
+def each_kind(magic):
     """A row of each kind, with numbers that tell the fields apart, and every kind of context, site, path and use."""
     count, places = [0x01020304], {"C": 0, "S": 0, "P": 0, "U": 0}
     keys = [0, 1, 2, 3, 4, 5, 128, 129, 130, 131, 132, 133]
@@ -180,8 +186,8 @@ def each_kind():
             elif field == "N":
                 made += spelled("An")
             elif field == "S":
-                kind = turn("S", range(4))
-                made += bytes([kind]) + spelled({0: "N", 1: "Cn", 2: "n", 3: "n"}[kind])
+                kind = turn("S", SITE_KINDS[magic])
+                made += bytes([kind]) + spelled(SITES[kind])
             elif field == "P":
                 first = turn("P", keys)
                 made += bytes([first]) + spelled("n" * (first % 128))
@@ -189,7 +195,7 @@ def each_kind():
                 made += bytes([turn("U", range(2))]) + spelled("n")
         return made
 
-    return certificate([bytes([kind]) + spelled(shape) for kind, shape in ROWS.items()])
+    return certificate(magic, [bytes([kind]) + spelled(ROWS[kind]) for kind in KINDS[magic]])
 
 
 def cases(data, values):
@@ -201,14 +207,23 @@ def cases(data, values):
             yield f"set {at} {value}", data[:at] + bytes([value]) + data[at + 1 :]
 
 
-def spelled_out(data):
-    """Rows exchanged, twice and missing; great counts; what stands behind the last row; long paths; first eight bytes."""
+def rows_of(data):
+    """The bytes of each row of a certificate."""
     ends = begins(data)
-    rows = [data[one:other] for one, other in zip(ends, ends[1:])]
-    head = data[:40]
+    return [data[one:other] for one, other in zip(ends, ends[1:])]
+
+
+def with_rows(head, rows, count=None):
+    """A certificate with these first 40 bytes."""
+    return head + (len(rows) if count is None else count).to_bytes(4, "little") + b"".join(rows)
+
+
+def counted(data):
+    """Rows exchanged, twice and missing; great counts; what stands behind the last row."""
+    rows, head = rows_of(data), data[:40]
 
     def of(rows, count=None):
-        return head + (len(rows) if count is None else count).to_bytes(4, "little") + b"".join(rows)
+        return with_rows(head, rows, count)
 
     last = len(rows) - 1
     yield of([])
@@ -224,6 +239,15 @@ def spelled_out(data):
     yield of(rows[-2:]) + b"\0"
     yield of(rows[-2:]) + rows[last]
     yield of([]) + b"\0"
+
+
+def spelled_out(data):
+    """Those, long paths, and other first eight bytes."""
+    yield from counted(data)
+
+    def of(rows):
+        return with_rows(data[:40], rows)
+
     path = bytes([7, 1, 0, 0, 0])
     for first in [5, 6, 77, 127, 128, 133, 134, 205, 255]:
         yield of([path + bytes([first]) + bytes(4 * (first % 128)) + b"\2"])
@@ -252,6 +276,39 @@ def apart():
         yield of(1, row)
 
 
+def of_the_second(kinds, cells):
+    """Certificates of the second set; rows of each set under both; and what the first refuses at its first byte."""
+    yield from counted(cells)
+    yield SECOND
+    for magic in b"VETCELL0", b"VETCELL2", b"vetcell1", b"VETCELL", b"VETCEL1\0":
+        yield magic + cells[8:]
+    yield SECOND + kinds[8:]
+    yield FIRST + cells[8:]
+    for magic in FIRST, SECOND:
+        head = magic + bytes(32)
+        yield with_rows(head, [])
+        for row in (*rows_of(kinds), *rows_of(cells)):
+            yield with_rows(head, [row])
+            yield with_rows(head, [row[:1]], 1)
+        for kind in range(26, 256, 23):
+            yield with_rows(head, [bytes([kind])])
+        # An object handed to the library: by a site of each kind and one more, whole and after the byte of its kind.
+        for site in range(6):
+            row = bytes([16, site]) + bytes({0: 17, 1: 13, 4: 8}.get(site, 4))
+            yield with_rows(head, [row])
+            yield with_rows(head, [row[:2]])
+        for row in ODD_ROWS:
+            yield with_rows(head, [row])
+    # The order of sites and of kinds: that of a step in whatever context is behind all others.
+    handed = [bytes([16, site]) + bytes({0: 17, 1: 13, 4: 8}.get(site, 4)) for site in range(5)]
+    yield with_rows(SECOND + bytes(32), handed)
+    yield with_rows(SECOND + bytes(32), [handed[4], handed[3]])
+    labels = [bytes([22]) + bytes(5), bytes([23, 2]) + bytes(9), bytes([24, 2]) + bytes(5)]
+    yield with_rows(SECOND + bytes(32), [handed[4], *labels])
+    yield with_rows(SECOND + bytes(32), [labels[0], handed[4]])
+    yield with_rows(SECOND + bytes(32), [labels[0], labels[0]])
+
+
 def write(path, made):
     lines = [f"{change}: {answer(data)}\n" for change, data in made]
     path.write_text("".join(lines))
@@ -261,14 +318,18 @@ def write(path, made):
 def main():
     folder = pathlib.Path(sys.argv[1])
     call = (folder / "unlisted_call.cert").read_bytes()
-    kinds = each_kind()
-    for data in call, kinds:
+    kinds, cells = each_kind(FIRST), each_kind(SECOND)
+    for data in call, kinds, cells:
         assert answer(data) == "ok", answer(data)
     (folder / "each_kind.cert").write_bytes(kinds)
+    (folder / "each_cell_kind.cert").write_bytes(cells)
     write(folder / "unlisted_call.txt", cases(call, lambda was: [(was + 1) % 256, was ^ 128]))
     write(folder / "each_kind.txt", cases(kinds, lambda was: [(was + 1) % 256]))
+    write(folder / "each_cell_kind.txt", cases(cells, lambda was: [(was + 1) % 256]))
     write(folder / "spelled.txt", ((f"hex {data.hex()}", data) for data in (*spelled_out(call), *apart())))
+    write(folder / "cells.txt", ((f"hex {data.hex()}", data) for data in of_the_second(kinds, cells)))
     print("each_kind.cert", hashlib.sha256(kinds).hexdigest())
+    print("each_cell_kind.cert", hashlib.sha256(cells).hexdigest())
 
 
 if __name__ == "__main__":

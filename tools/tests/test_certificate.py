@@ -34,7 +34,7 @@ def changed(name: str) -> Iterator[tuple[str, bytes, str]]:
 
 class Reading(unittest.TestCase):
     def test_cut_and_changed_certificates_have_the_fault_that_the_project_tells(self) -> None:
-        for name in ("each_kind", "unlisted_call"):
+        for name in ("each_kind", "each_cell_kind", "unlisted_call"):
             count = 0
             for line, data, due in changed(name):
                 self.assertEqual(answer(data), due, f"{name}: {line}")
@@ -42,17 +42,21 @@ class Reading(unittest.TestCase):
             self.assertGreater(count, 500)
 
     def test_spelled_bytes_have_the_fault_that_the_project_tells(self) -> None:
-        for line in (CASES / "spelled.txt").read_text().splitlines():
-            head, due = line.split(": ")
-            self.assertEqual(answer(bytes.fromhex(head.removeprefix("hex").strip())), due, line[:120])
+        for name in ("spelled.txt", "cells.txt"):
+            for line in (CASES / name).read_text().splitlines():
+                head, due = line.split(": ")
+                self.assertEqual(answer(bytes.fromhex(head.removeprefix("hex").strip())), due, line[:120])
 
     def test_the_certificate_of_the_page_of_formats_has_its_row(self) -> None:
         data = b"VETCERT2" + bytes(32) + bytes.fromhex("01000000 0e 05000000 00")
         self.assertEqual(list(Certificate(data).rows()), [(Kind.LIVE, 5, 0)])
 
     def test_each_kind_is_read_once(self) -> None:
-        rows = list(Certificate((CASES / "each_kind.cert").read_bytes()).rows())
-        self.assertEqual(sorted({row[0] for row in rows}), [kind.value for kind in Kind])
+        found = [[row[0] for row in Certificate((CASES / f"{name}.cert").read_bytes()).rows()]
+                 for name in ("each_kind", "each_cell_kind")]
+        self.assertEqual(found[0], list(range(1, 21)))
+        self.assertEqual(found[1], [1, 2, 4, 5, 6, 8, 9, 12, 14, 16, 18, 19, 20, 21, 22, 23, 24, 25])
+        self.assertEqual(sorted({*found[0], *found[1]}), [kind.value for kind in Kind])
 
     def test_the_unlisted_call_stands_without_summary_at_the_first_instruction(self) -> None:
         # examples/unlisted_call: onCreate, event 1 of component 0, is method 0 and stands at address 0 for cause 1.

@@ -265,6 +265,7 @@ categories = ["id", "net"]
 strict = true
 platform = ["La/"]
 bundled = ["La/b/"]
+large = "cells"
 
 [[class]]
 name = "Ljava/lang/Object;"
@@ -361,7 +362,7 @@ class Writing(Case):
 
     def small(self) -> Tables:
         return self.tables(
-            head='rows 1000\nstrict\ncategory id  it\ncategory net  it\nshared kept a.Up\nplatform La/\n'
+            head='rows 1000\nstrict\nlarge cells\ncategory id  it\ncategory net  it\nshared kept a.Up\nplatform La/\n'
                  'bundled La/b/\n',
             classes='[java.lang]\nclass Object = blank\n[a]\nclass Down : Up = mixed\nclass Up\n',
             methods='[a.Up]\nnew(long)  puts 1>0 stores 1>kept\nstatic Down id(int[])  source id -- permission X\n'

@@ -9,22 +9,22 @@ from pathlib import Path
 
 from tests.program import answer, at_once
 from tests.support import DATA, ROOT, FolderCase
-from vet_tools.certificate import Certificate, Kind
+from vet_tools.certificate import Certificate, CertificateFault, Kind
 
 ANSWERS = DATA / "answers"
 # A certificate of 273 bytes that another program wrote, of another app.
 UNLISTED_CALL = ROOT / "crates" / "table_cases" / "data" / "unlisted_call.cert"
 FORMS = ("manifest.toml", "layouts.toml", "declaration.toml")
 PARTS = (*FORMS, "lists.toml", "classes.dex")
-MAGIC = b"VETCERT2"
+MAGIC, SECOND = b"VETCERT2", b"VETCELL1"
 
 
 def u4(*numbers: int) -> bytes:
     return b"".join(number.to_bytes(4, "little") for number in numbers)
 
 
-def certificate(digest: bytes, rows: list[bytes]) -> bytes:
-    return MAGIC + digest + u4(len(rows)) + b"".join(rows)
+def certificate(digest: bytes, rows: list[bytes], magic: bytes = MAGIC) -> bytes:
+    return magic + digest + u4(len(rows)) + b"".join(rows)
 
 
 def refused(reason: str) -> tuple[int, str]:
@@ -213,7 +213,7 @@ class TableTest(FolderTest):
         changed = [(whole[:cut], reason(cut)) for cut in range(len(whole))]
         changed += [(whole[:40] + b"\xff" * 4 + whole[44:], f"cut at {len(whole)}"),
                     (whole + b"\0", f"rest at {len(whole)}"), (b"VETCERT1" + whole[8:], "version 1")]
-        # A kind of row and a site that no certificate has, one behind the last of each.
+        # A kind of row and a site that no certificate of this set has, one behind the last of each.
         changed += [(whole[:40] + u4(1) + bytes([21]) + ENTRY, "bad at 44"),
                     (whole[:40] + u4(1) + bytes([16, 4]) + u4(0, 0), "bad at 44")]
         found = self.rechecked([content for content, _ in changed])
@@ -244,6 +244,134 @@ class TableTest(FolderTest):
             (self.folder / "D" / name).write_bytes(content)
         said, = self.rechecked([certificate(bytes(32), [])])
         self.assertEqual(refused(f"digest {'00' * 32} {self.digest(*parts).hex()}"), said)
+
+
+class SecondSetTest(TableTest):
+    """Certificates of tables by the second set, by which no register of the small app has a row: none is read."""
+
+    ROWS = [REACHED, *LIVE]
+
+    def lists(self, rows: int, *words: str) -> None:
+        (self.folder / "D" / "lists.toml").write_text("\n".join([f"rows = {rows}", 'categories = ["a"]', *words, ""]))
+
+    def setUp(self) -> None:
+        super().setUp()
+        self.lists(10, 'large = "cells"')
+
+    def whole(self) -> bytes:
+        return certificate(self.digest(), self.ROWS, SECOND)
+
+    def test_nine_rows_follow_and_eight_are_too_few(self) -> None:
+        for rows in 10, 9:
+            self.lists(rows, 'large = "cells"')
+            self.assertEqual((0, "clear\n"), self.certify(f"C{rows}"))
+            self.assertEqual(self.whole(), (self.folder / f"C{rows}").read_bytes())
+        self.lists(8, 'large = "cells"')
+        self.assertEqual((2, "undecided 1\ntoo large: 8\n"), self.certify("C8"))
+        self.assertFalse((self.folder / "C8").exists())
+
+    def test_the_first_set_is_taken_where_its_rows_are_no_more_than_allowed(self) -> None:
+        self.lists(11, 'large = "cells"')
+        self.assertEqual((0, "clear\n"), self.certify())
+        self.assertEqual(certificate(self.digest(), ROWS), (self.folder / "C").read_bytes())
+
+    def test_without_the_word_the_app_is_too_large(self) -> None:
+        self.lists(10)
+        self.assertEqual((2, "undecided 1\ntoo large: 10\n"), self.certify())
+
+    def test_either_kind_is_taken_where_the_lists_have_the_word(self) -> None:
+        for rows in 8, 11:
+            self.lists(rows, 'large = "cells"')
+            found = self.rechecked([self.whole(), certificate(self.digest(), ROWS)])
+            self.assertEqual([(0, "clear\n")] * 2, found)
+            for number in range(2):
+                shutil.rmtree(self.folder / str(number))
+
+    def test_the_second_kind_is_refused_where_the_lists_do_not_have_the_word(self) -> None:
+        for rows in 8, 11:
+            self.lists(rows)
+            found = self.rechecked([self.whole(), certificate(self.digest(), [], SECOND),
+                                    certificate(self.digest(), STRANGERS, SECOND), certificate(self.digest(), ROWS)])
+            self.assertEqual([refused("magic")] * 3 + [(0, "clear\n")], found)
+            for number in range(4):
+                shutil.rmtree(self.folder / str(number))
+
+    def test_what_comes_before_it_is_told_before(self) -> None:
+        # The bytes, then the digest, then the refusals of the files, and only then whether the lists ask for the kind.
+        self.lists(11)
+        whole = self.whole()
+        found = self.rechecked([whole[:45], whole + b"\0", certificate(bytes(32), self.ROWS, SECOND)])
+        self.assertEqual([refused("cut at 44"), refused(f"rest at {len(whole)}"),
+                          refused(f"digest {'00' * 32} {self.digest().hex()}")], found)
+        (self.folder / "D" / "classes.dex").write_bytes(b"")
+        (self.folder / "again").write_bytes(self.whole())
+        self.assertEqual((3, "refused classes.dex: magic\n"), answer(self.folder, "recheck", "D", "again"))
+
+    def test_rows_of_one_set_are_checked_by_that_set(self) -> None:
+        digest = self.digest()
+        found = self.rechecked([certificate(digest, self.ROWS), certificate(digest, ROWS, SECOND)])
+        # By the first rules the registers at the entry have rows; by the second they may.
+        self.assertEqual([refused(f"not closed {POINTS[0].hex()}"), (0, "clear\n")], found)
+
+    def test_each_row_but_the_start_is_missed_as_what_follows(self) -> None:
+        digest = self.digest()
+        found = self.rechecked([certificate(digest, [row for row in self.ROWS if row != left_out], SECOND)
+                                for left_out in self.ROWS])
+        for row, said in zip(self.ROWS, found):
+            with self.subTest(row=row.hex()):
+                self.assertEqual(NO_START if row == LIVE[0] else refused(f"not closed {row.hex()}"), said)
+
+    def test_strangers_of_its_own_kinds_are_told(self) -> None:
+        # Labels of the category 1, which the lists do not have, an object of a step that makes none, and no key.
+        strange = [bytes([21]) + ENTRY + u4(0) + b"\1", bytes([16, 4]) + u4(0, 0), bytes([24, 2]) + u4(0) + b"\1",
+                   bytes([25]) + ENTRY[:-4] + b"\0\1", bytes([23, 2]) + u4(0, 65535) + b"\0"]
+        found = self.rechecked([certificate(self.digest(), [row], SECOND) for row in strange])
+        for row, said in zip(strange, found):
+            with self.subTest(row=row.hex()):
+                self.assertEqual(refused(f"stranger {row.hex()}"), said)
+
+    def test_labels_from_which_nothing_follows_may_be_there(self) -> None:
+        # The body does not read register 0, and nothing holds the component.
+        label, holds = bytes([21]) + ENTRY + u4(0) + b"\0", bytes([24, 2]) + u4(0) + b"\0"
+        found = self.rechecked([certificate(self.digest(), [*self.ROWS, row], SECOND) for row in (label, holds)])
+        self.assertEqual([(0, "clear\n")] * 2, found)
+
+    def test_it_is_refused_when_cut_at_each_byte(self) -> None:
+        whole = self.whole()
+        begins = [44]
+        for row in self.ROWS:
+            begins.append(begins[-1] + len(row))
+
+        def reason(cut: int) -> str:
+            if cut < 44:
+                return "magic" if cut < 8 else "cut at 8" if cut < 40 else "cut at 40"
+            return f"cut at {max(begin for begin in begins if begin <= cut)}"
+
+        found = self.rechecked([whole[:cut] for cut in range(len(whole))])
+        for cut, said in enumerate(found):
+            with self.subTest(cut=cut):
+                self.assertEqual(refused(reason(cut)), said)
+
+    def test_it_is_refused_when_a_byte_is_changed(self) -> None:
+        whole = self.whole()
+
+        def due(changed: bytes) -> tuple[int, str]:
+            try:
+                rows = list(Certificate(changed).rows())
+            except CertificateFault as fault:
+                return refused(fault.reason)
+            if changed[8:40] != whole[8:40]:
+                return refused(f"digest {changed[8:40].hex()} {whole[8:40].hex()}")
+            # A changed row that is still one names what the app does not have, since all others are in the table.
+            known = list(Certificate(whole).rows())
+            number = next(number for number, row in enumerate(rows) if row not in known)
+            begin = 44 + sum(len(row) for row in self.ROWS[:number])
+            return refused(f"stranger {changed[begin:begin + len(self.ROWS[number])].hex()}")
+
+        tries = [whole[:at] + bytes([(whole[at] + 1) % 256]) + whole[at + 1:] for at in range(len(whole))]
+        for at, (changed, said) in enumerate(zip(tries, self.rechecked(tries))):
+            with self.subTest(at=at):
+                self.assertEqual(due(changed), said)
 
 
 class GeneratedTest(FolderTest):

@@ -21,7 +21,7 @@ FAULTLESS = {"manifest": 'package = "a"\ndex_files = 1\n', "layouts": "", "decla
 # The form that each file has texts of, and how many.
 FILES = {"declarations": ("declaration", 18), "layouts": ("layouts", 16), "manifests": ("manifest", 42),
          "lists": ("lists", 25), "classes": ("lists", 19), "methods": ("lists", 89), "signatures": ("lists", 22),
-         "callbacks": ("lists", 17), "device": ("lists", 73)}
+         "callbacks": ("lists", 17), "device": ("lists", 73), "large": ("lists", 32)}
 # The answers to the greatest number of tables, each without a key.
 ENDS = (("manifest", "component", "missing component.kind"), ("layouts", "layout", "missing layout.name"),
         ("declaration", "use", "missing use.source"))

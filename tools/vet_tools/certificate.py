@@ -1,4 +1,5 @@
-"""A certificate: the table of what follows in an app, as `vet certify` writes it (`docs/FORMATS.md`).
+"""A certificate of either set of rules: the table of what follows in an app, as `vet certify` writes it
+(`docs/FORMATS.md`).
 
 The rows are read strictly; bytes that are no certificate are a `CertificateFault` with the words of the program. That
 a table is closed is not looked at here: `vet recheck DIR CERT` does that.
@@ -14,7 +15,7 @@ from typing import Iterator
 from vet_tools.progress import tell
 from vet_tools.shown import in_quotes
 
-MAGIC, OLD_MAGIC = b"VETCERT2", b"VETCERT1"
+FIRST, SECOND, OLD_MAGIC = b"VETCERT2", b"VETCELL1", b"VETCERT1"
 LONGEST = 536_870_912
 
 
@@ -52,6 +53,11 @@ class Kind(IntEnum):
     ARRIVE = 18
     UNKNOWN = 19
     USES = 20
+    LABEL = 21
+    STATIC_LABEL = 22
+    CELL_LABEL = 23
+    HOLDS = 24
+    EXIT_LABEL = 25
 
 
 class ContextKind(IntEnum):
@@ -79,7 +85,13 @@ class Node:
 # The fields of each kind: n node, a activation, s site, p path, 4 number, 1 byte, h how (0, 1), c cause (1 to 3),
 # u use (0, 1).
 _FIELDS = {1: "n", 2: "n4s", 3: "n4p1", 4: "s4s", 5: "s4s", 6: "4s", 7: "4p1", 8: "na", 9: "an", 10: "nsp1",
-           11: "asp1", 12: "ahs", 13: "ahp1", 14: "41", 15: "41p1", 16: "s", 17: "sp1", 18: "11n", 19: "nc", 20: "nu4"}
+           11: "asp1", 12: "ahs", 13: "ahp1", 14: "41", 15: "41p1", 16: "s", 17: "sp1", 18: "11n", 19: "nc", 20: "nu4",
+           21: "n41", 22: "41", 23: "s41", 24: "s1", 25: "ah1"}
+# The kinds of rows and of sites by the first eight bytes: the first set of rules says labels along paths, the second of
+# values. In a story, which has rows of one of the two, any is taken.
+_KINDS = {FIRST: range(1, 21), SECOND: [kind for kind, fields in _FIELDS.items() if "p" not in fields],
+          b"": list(_FIELDS)}
+_SITES = {FIRST: 4, SECOND: 5, b"": 5}
 _NUMBERS = {count: struct.Struct(f"<{count}I") for count in range(1, 8)}
 _LIMITS = {"h": (0, 1), "c": (1, 3), "u": (0, 1)}
 
@@ -93,17 +105,18 @@ class _Bad(Exception):
 class _Reader:
     """Reads one row's fields as numbers, in the order in which rows are compared."""
 
-    def __init__(self, data: bytes) -> None:
+    def __init__(self, data: bytes, magic: bytes) -> None:
         self.data = data
         self.at = 0
+        self.kinds = frozenset(_KINDS[magic])
+        self.sites = _SITES[magic]
 
     def row(self) -> Flat:
         """One row: its kind and its fields. Raises `_Bad`, and `IndexError` or `struct.error` where it is cut."""
         found = [self.byte()]
-        fields = _FIELDS.get(found[0])
-        if fields is None:
+        if found[0] not in self.kinds:
             raise _Bad
-        for sign in fields:
+        for sign in _FIELDS[found[0]]:
             if sign == "n":
                 self.context(found, 2)
             elif sign == "a":
@@ -143,15 +156,15 @@ class _Reader:
 
     def site(self, found: list[int]) -> None:
         kind = self.byte()
-        if kind > 3:
+        if kind >= self.sites:
             raise _Bad
         found.append(kind)
-        if kind == 0:
+        if kind == SiteKind.NODE:
             self.context(found, 2)
-        elif kind == 1:
+        elif kind == SiteKind.PARAMETER:
             self.context(found, 1)
         else:
-            self.numbers(found, 1)
+            self.numbers(found, 2 if kind == SiteKind.MADE else 1)
 
     def path(self, found: list[int]) -> None:
         first = self.byte()
@@ -167,7 +180,7 @@ class Certificate:
 
     def __init__(self, data: bytes) -> None:
         """Raises `CertificateFault` where the head is none."""
-        if len(data) < 8 or data[:8] not in (MAGIC, OLD_MAGIC):
+        if len(data) < 8 or data[:8] not in (FIRST, SECOND, OLD_MAGIC):
             raise CertificateFault("magic")
         if data[:8] == OLD_MAGIC:
             raise CertificateFault("version 1")
@@ -176,6 +189,7 @@ class Certificate:
         if len(data) < 44:
             raise CertificateFault("cut at 40")
         self.data = data
+        self.magic = data[:8]
         self.digest = data[8:40]
         self.count = int.from_bytes(data[40:44], "little")
 
@@ -193,7 +207,7 @@ class Certificate:
 
     def rows(self) -> Iterator[Flat]:
         """All rows in their order, each as its kind and the numbers of its fields. Raises `CertificateFault`."""
-        reader = _Reader(self.data)
+        reader = _Reader(self.data, self.magic)
         reader.at = 44
         last: Flat = ()
         for number in range(self.count):
@@ -216,8 +230,9 @@ class Certificate:
 
 
 def row_of(data: bytes) -> Flat:
-    """The one row that these bytes are, as its kind and the numbers of its fields. Raises `CertificateFault`."""
-    reader = _Reader(data)
+    """The one row of either set that these bytes are, as its kind and the numbers of its fields. Raises
+    `CertificateFault`."""
+    reader = _Reader(data, b"")
     try:
         row = reader.row()
     except _Bad:
@@ -247,12 +262,14 @@ class SiteKind(IntEnum):
     PARAMETER = 1
     COMPONENT = 2
     SHARED = 3
+    MADE = 4
 
 
 def site_of(fields: Flat) -> tuple[Flat, Flat]:
     """The site with which these fields begin, as its kind and numbers, and the fields behind it."""
     if fields[0] > SiteKind.PARAMETER:
-        return fields[:2], fields[2:]
+        end = 3 if fields[0] == SiteKind.MADE else 2
+        return fields[:end], fields[end:]
     context = 5 if fields[1] == ContextKind.TWO_CALLS else 3
     end = 1 + context + (2 if fields[0] == SiteKind.NODE else 1)
     return fields[:end], fields[end:]

@@ -130,6 +130,7 @@ class Head:
     """What stands at the top of the lists."""
     rows: int = 0
     strict: bool = False
+    large: str = ""
     categories: dict[str, str] = field(default_factory=dict)
     shared: dict[str, str] = field(default_factory=dict)
     platform: list[str] = field(default_factory=list)

@@ -51,6 +51,8 @@ def read_head(path: Path) -> Head:
             head.rows = int(name)
         elif word == "strict" and not rest:
             head.strict = True
+        elif word == "large" and rest.strip() == "cells":
+            head.large = "cells"
         elif word == "category" and said.strip():
             add_once(place, head.categories, name, said.strip())
         elif word == "shared" and said.strip():
@@ -58,8 +60,8 @@ def read_head(path: Path) -> Head:
         elif word in ("platform", "bundled") and name and not said:
             (head.platform if word == "platform" else head.bundled).append(name)
         else:
-            raise TableFault(place, "a line is `rows N`, `strict`, `category NAME MEANING`, `shared NAME CLASS`, "
-                                    "`platform PREFIX` or `bundled PREFIX`")
+            raise TableFault(place, "a line is `rows N`, `strict`, `large cells`, `category NAME MEANING`, "
+                                    "`shared NAME CLASS`, `platform PREFIX` or `bundled PREFIX`")
     return head
 
 

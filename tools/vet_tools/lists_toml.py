@@ -116,6 +116,8 @@ def head_lines(tables: Tables) -> Iterator[str]:
         yield f"platform = {json.dumps(head.platform)}"
     if head.bundled:
         yield f"bundled = {json.dumps(head.bundled)}"
+    if head.large:
+        yield f"large = {text(head.large)}"
 
 
 def lists_text(tables: Tables) -> str:

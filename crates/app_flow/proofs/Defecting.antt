@@ -9,9 +9,10 @@ use Rattle.app_machine.specs.declared.lists.Lists.{Lists}
 use Rattle.cert_checker.specs.Defects.{HasDefect}
 use Rattle.cert_checker.specs.Least.{FollowsFrom, IsLeastFailing}
 use Rattle.fact_rows.specs.declared.row.Row.{Row}
-use Rattle.fact_rows.specs.InApp.{InApp}
 use Rattle.fact_rows.specs.Order.{RowOrder, row_cmp}
-use Rattle.flow_rules.specs.Rules.{Each, Follows, Starts, GoodTable}
+use Rattle.flow_analyses.specs.declared.Analysis.{Analysis}
+use Rattle.flow_analyses.specs.Analyses.{FollowsBy, GoodTableBy, InAppBy}
+use Rattle.flow_rules.specs.Rules.{Each, Starts}
 use Rattle.rule_ground.specs.declared.conclusion.Inference.{Inference}
 use Rattle.rule_ground.specs.Hits.{Among}
 use Rattle.rule_sets.specs.Growing.{IsNew}
@@ -35,24 +36,24 @@ same_least order Due Met a b one other = go (row_cmp a b) refl
     go Equal e = order.exact a b e
     go Greater e = absurd (one.least b other.due other.fails e)
 
-module _ (app : App) (lists : Lists) (rows : List Row) where
+module _ (analysis : Analysis) (app : App) (lists : Lists) (rows : List Row) where
   -- no two of a good table and the three defects
-  all_there : (row : Row) → IsLeastFailing (Among rows) (InApp app lists) row → ((x : Row) → Among rows x → InApp app lists x) → ⊥
+  all_there : (row : Row) → IsLeastFailing (Among rows) (InAppBy analysis app lists) row → ((x : Row) → Among rows x → InAppBy analysis app lists x) → ⊥
   all_there row strange in_app = strange.fails (in_app row strange.due)
 
-  all_started : (row : Row) → LacksStart app lists rows row → ((x : Row) → Starts app x → Among rows x) → ⊥
+  all_started : (row : Row) → LacksStart analysis app lists rows row → ((x : Row) → Starts app x → Among rows x) → ⊥
   all_started row lacking starts = lacking.lacks.fails (starts row lacking.lacks.due)
 
-  all_closed : (row : Row) → IsNotClosed app lists rows row → GoodTable app lists rows → ⊥
+  all_closed : (row : Row) → IsNotClosed analysis app lists rows row → GoodTableBy analysis app lists rows → ⊥
   all_closed row open_at good = let due = open_at.lacks.due in open_at.lacks.fails (good.closed due.0 due.1.0 row due.1.1.0 due.1.1.1)
 
-  one_of : RowOrder → (one other : Option TableDefect) → IsChecked app lists rows one → IsChecked app lists rows other → one ≡ other
+  one_of : RowOrder → (one other : Option TableDefect) → IsChecked analysis app lists rows one → IsChecked analysis app lists rows other → one ≡ other
   one_of order None None a b = refl
   one_of order None (Some (At Stranger x)) a b = absurd (all_there x b a.in_app)
   one_of order None (Some (At NoStart x)) a b = absurd (all_started x b a.starts)
   one_of order None (Some (NotClosed x)) a b = absurd (all_closed x b a)
   one_of order (Some (At Stranger x)) None a b = absurd (all_there x a b.in_app)
-  one_of order (Some (At Stranger x)) (Some (At Stranger y)) a b = ap (λ r. Some (At Stranger r)) (same_least order (Among rows) (InApp app lists) x y a b)
+  one_of order (Some (At Stranger x)) (Some (At Stranger y)) a b = ap (λ r. Some (At Stranger r)) (same_least order (Among rows) (InAppBy analysis app lists) x y a b)
   one_of order (Some (At Stranger x)) (Some (At NoStart y)) a b = absurd (all_there x a b.in_app)
   one_of order (Some (At Stranger x)) (Some (NotClosed y)) a b = absurd (all_there x a b.in_app)
   one_of order (Some (At NoStart x)) None a b = absurd (all_started x a b.starts)
@@ -62,18 +63,18 @@ module _ (app : App) (lists : Lists) (rows : List Row) where
   one_of order (Some (NotClosed x)) None a b = absurd (all_closed x a b)
   one_of order (Some (NotClosed x)) (Some (At Stranger y)) a b = absurd (all_there y b a.in_app)
   one_of order (Some (NotClosed x)) (Some (At NoStart y)) a b = absurd (all_started y b a.starts)
-  one_of order (Some (NotClosed x)) (Some (NotClosed y)) a b = ap (λ r. Some (NotClosed r)) (same_least order (FollowsFrom (Follows app lists) rows) (Among rows) x y a.lacks b.lacks)
+  one_of order (Some (NotClosed x)) (Some (NotClosed y)) a b = ap (λ r. Some (NotClosed r)) (same_least order (FollowsFrom (FollowsBy analysis app lists) rows) (Among rows) x y a.lacks b.lacks)
 
 pub one_defect : RowOrder → OneDefect
-one_defect order app lists rows one other a b = one_of app lists rows order one other a b
+one_defect order analysis app lists rows one other a b = one_of analysis app lists rows order one other a b
 
 -- what the checker says of an app's rows
-pub at_is : (app : App) (lists : Lists) (rows : List Row) (what : RowDefect) (row : Row) → HasDefect (Follows app lists) (Starts app) (InApp app lists) rows row (lacks.At what) → IsChecked app lists rows (Some (At what row))
-at_is app lists rows Stranger row strange = strange
-at_is app lists rows NoStart row lacking = record { in_app = lacking.in_app; lacks = lacking.lacks }
+pub at_is : (analysis : Analysis) (app : App) (lists : Lists) (rows : List Row) (what : RowDefect) (row : Row) → HasDefect (FollowsBy analysis app lists) (Starts app) (InAppBy analysis app lists) rows row (lacks.At what) → IsChecked analysis app lists rows (Some (At what row))
+at_is analysis app lists rows Stranger row strange = strange
+at_is analysis app lists rows NoStart row lacking = record { in_app = lacking.in_app; lacks = lacking.lacks }
 
-pub consequence_is : (app : App) (lists : Lists) (rows : List Row) (row : Row) (by : Inference) → HasDefect (Follows app lists) (Starts app) (InApp app lists) rows row (lacks.NotClosed by) → IsChecked app lists rows (Some (NotClosed row))
-consequence_is app lists rows row by lacking = record { in_app = lacking.in_app; starts = lacking.starts; lacks = lacking.lacks.least }
+pub consequence_is : (analysis : Analysis) (app : App) (lists : Lists) (rows : List Row) (row : Row) (by : Inference) → HasDefect (FollowsBy analysis app lists) (Starts app) (InAppBy analysis app lists) rows row (lacks.NotClosed by) → IsChecked analysis app lists rows (Some (NotClosed row))
+consequence_is analysis app lists rows row by lacking = record { in_app = lacking.in_app; starts = lacking.starts; lacks = lacking.lacks.least }
 
 -- one row more of a list, and of the rows that have their keys
 pub one_more : (rows : List Row) (i : ℕ) (row : Row) (old new : List Row) (fresh : Bool) → i < length rows → row ≡ get_or rows i row →
@@ -106,17 +107,17 @@ one_more rows i row old new fresh within is added same =
     )
 
 -- the same rows in another order, or some of them twice, are checked alike
-module _ (app : App) (lists : Lists) (rows others : List Row) (same : SameRows rows others) where
+module _ (analysis : Analysis) (app : App) (lists : Lists) (rows others : List Row) (same : SameRows rows others) where
   each_other : (premises : List Row) → Each (Among others) premises → Each (Among rows) premises
   each_other premises known = each_there (Among others) (Among rows) (λ x. (same x).1) premises known
 
-  follows_other : (x : Row) → FollowsFrom (Follows app lists) others x → FollowsFrom (Follows app lists) rows x
+  follows_other : (x : Row) → FollowsFrom (FollowsBy analysis app lists) others x → FollowsFrom (FollowsBy analysis app lists) rows x
   follows_other x due = (due.0, (due.1.0, (due.1.1.0, each_other due.1.0 due.1.1.1)))
 
-  follows_on : (x : Row) → FollowsFrom (Follows app lists) rows x → FollowsFrom (Follows app lists) others x
+  follows_on : (x : Row) → FollowsFrom (FollowsBy analysis app lists) rows x → FollowsFrom (FollowsBy analysis app lists) others x
   follows_on x due = (due.0, (due.1.0, (due.1.1.0, each_there (Among rows) (Among others) (λ y. (same y).0) due.1.0 due.1.1.1)))
 
-  pub moved_checked : (found : Option TableDefect) → IsChecked app lists rows found → IsChecked app lists others found
+  pub moved_checked : (found : Option TableDefect) → IsChecked analysis app lists rows found → IsChecked analysis app lists others found
   moved_checked None good = record {
     in_app = λ x there. good.in_app x ((same x).1 there);
     starts = λ x start. (same x).0 (good.starts x start);
@@ -144,9 +145,3 @@ module _ (app : App) (lists : Lists) (rows others : List Row) (same : SameRows r
       least = λ x due absent. lacking.lacks.least x (follows_other x due) (λ there. absent ((same x).0 there));
     };
   }
-
--- and so are rows of an app and lists that are the same
-pub checked_as : (app same_app : App) (lists same_lists : Lists) (rows : List Row) (found : Option TableDefect) → same_app ≡ app → same_lists ≡ lists → IsChecked same_app same_lists rows found → IsChecked app lists rows found
-checked_as app same_app lists same_lists rows found is_app is_lists checked =
-    let first : IsChecked app same_lists rows found = subst (λ (a : App). IsChecked a same_lists rows found) is_app checked in
-    subst (λ (ls : Lists). IsChecked app ls rows found) is_lists first

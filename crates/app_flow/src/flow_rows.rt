@@ -7,6 +7,7 @@ ghost use Rattle.app_flow.specs.Defect.{SameRows};
 ghost use Rattle.app_flow.specs.InOrder.{in_order, tells};
 
 use fact_rows::{Row, rows_stand_in_order};
+use flow_analyses::Analysis;
 use hashed_rows::HashedRows;
 use std::alloc::Global;
 use std::collections::BTreeSet;
@@ -31,6 +32,13 @@ impl Model for FlowRows {
     ghost view = { λ flow. in_order flow.rows };
 
     ghost invariant = { λ flow. Apart flow.rows };
+}
+
+/// All rows that are derivable in an app by an analysis.
+#[derive(Drop)]
+pub struct FlowTable {
+    pub analysis: Analysis,
+    pub rows: FlowRows,
 }
 
 /// Whether the row tells something of an app by itself.

@@ -1,4 +1,4 @@
-//! The flow in an app: the solver and the checker over its rules.
+//! The flow in an app: the solver and the checker over the rules of its analysis.
 #![tactic(auto)]
 
 ghost use Rattle.app_flow.specs.Defect.{OneDefect};
@@ -12,7 +12,8 @@ pub use cert_checker::{RowDefect, TableDefect};
 pub use defect::defect_of;
 use fact_rows::rows_stand_in_order;
 pub use flow::{Flow, flow_of, is_good};
-pub use flow_rows::FlowRows;
+pub use flow_analyses::Analysis;
+pub use flow_rows::{FlowRows, FlowTable};
 
 /// An app has one flow by its lists.
 pub fn one_flow()

@@ -1,2 +1,3 @@
+pub mod CellTestsTell
 pub mod Starting
 pub mod TestsTell

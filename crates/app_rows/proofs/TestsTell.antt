@@ -112,10 +112,10 @@ module _ (app : App) where
   made (act.Call kind at args) method pc h there = by_call there h
   made _ method pc h there = absurd cc
 
-  makes_to : (method pc : ℕ) → step_tells makes (step_at app method pc) ≡ true → MakesAt app method pc
+  pub makes_to : (method pc : ℕ) → step_tells makes (step_at app method pc) ≡ true → MakesAt app method pc
   makes_to method pc h = let s = step_there makes (step_at app method pc) h in made s.0.act method pc s.2 (record { step = s.0; there = s.1; same = refl })
 
-  makes_from : (method pc : ℕ) → MakesAt app method pc → step_tells makes (step_at app method pc) ≡ true
+  pub makes_from : (method pc : ℕ) → MakesAt app method pc → step_tells makes (step_at app method pc) ≡ true
   makes_from method pc (by_new at) = step_from makes at refl
   makes_from method pc (by_fill at) = step_from makes at refl
   makes_from method pc (by_call at reference) = step_from makes at reference
@@ -324,7 +324,7 @@ module _ (app : App) (lists : Lists) (exact : EventsAreExact app lists) where
       let type : parameter_type (types_run app lists x) i ≡ Some p.type = ap (λ types. parameter_type types i) (types_same x p.context) ∙ p.is_type in
       and_from (is_reference_one (parameter_type (types_run app lists x) i)) (is_ctx_in app lists x) (ap is_reference_one type ∙ p.reference) (ctx_from x p.context)
 
-  site_to : (s : Site) → is_site_in app lists s ≡ true → SiteIn app lists s
+  pub site_to : (s : Site) → is_site_in app lists s ≡ true → SiteIn app lists s
   site_to (At n) h =
       let parts = and_parts (step_tells makes (step_at app n.by.method n.pc)) (is_node_in app lists n) h in
       (node_to n parts.1, makes_to app n.by.method n.pc parts.0)
@@ -333,14 +333,14 @@ module _ (app : App) (lists : Lists) (exact : EventsAreExact app lists) where
   site_to (Shared i) h = ltb-true i (length lists.shared) h
   site_to (Made m pc) h = cc
 
-  site_from : (s : Site) → SiteIn app lists s → is_site_in app lists s ≡ true
+  pub site_from : (s : Site) → SiteIn app lists s → is_site_in app lists s ≡ true
   site_from (At n) h = and_from (step_tells makes (step_at app n.by.method n.pc)) (is_node_in app lists n) (makes_from app n.by.method n.pc h.1) (node_from n h.0)
   site_from (Param x i) h = parameter_from x i h
   site_from (ComponentOf c) h = lt-ltb c (length app.components) h
   site_from (Shared i) h = lt-ltb i (length lists.shared) h
   site_from (Made m pc) h = absurd h
 
-  field_to : (f : Field) → is_field_in app lists f ≡ true → FieldIn app lists f
+  pub field_to : (f : Field) → is_field_in app lists f ≡ true → FieldIn app lists f
   field_to (field.Node n) h = node_to n h
   field_to (field.Register n r) h = register_to app n r h
   field_to (field.Activation a) h = activation_to a h
@@ -356,7 +356,7 @@ module _ (app : App) (lists : Lists) (exact : EventsAreExact app lists) where
   field_to (field.Use u) h = summary_to lists u h
   field_to (field.Label l) h = cc
 
-  field_from : (f : Field) → FieldIn app lists f → is_field_in app lists f ≡ true
+  pub field_from : (f : Field) → FieldIn app lists f → is_field_in app lists f ≡ true
   field_from (field.Node n) h = node_from n h
   field_from (field.Register n r) h = register_from app n r h
   field_from (field.Activation a) h = activation_from a h

@@ -1,4 +1,5 @@
 pub mod Application
+pub mod CellTests
 pub mod StartLaws
 pub mod StartRows
 pub mod Tests

@@ -68,7 +68,7 @@ fn is_summary_in(lists: &Lists, summary: SummaryId) -> bool
     }
 }
 
-fn is_field_in(index: &EventIndex<'_>, field: Field) -> bool
+pub(crate) fn is_field_in(index: &EventIndex<'_>, field: Field) -> bool
     requires { SoundApp index.now.0 }
     ensures { result ≡ is_field_in index.now.0 index.now.1 field }
 {

@@ -20,7 +20,7 @@ fn makes(act: &Act) -> bool
     }
 }
 
-fn is_made_at(app: &App, method: u32, pc: u32) -> bool
+pub(crate) fn is_made_at(app: &App, method: u32, pc: u32) -> bool
     requires { SoundApp app.now }
     ensures { result ≡ step_tells makes (step_at app.now method pc) }
 {

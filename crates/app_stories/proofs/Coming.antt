@@ -3,7 +3,8 @@ use Rattle.std.proofs.Common.{◌≡◌, List, [], ◌∷◌, ◌++◌, Option, 
 use Rattle.std.proofs.lemmas.Option.{none-some, same_Some}
 use Rattle.app_flow.specs.declared.flow.Flow.{Flow}
 use Rattle.app_flow.specs.declared.flow.Flow.TheVariants.{Rows, TooLarge}
-use Rattle.app_flow.specs.Flow.{AreDerivable, IsFlow, all_rows}
+use Rattle.app_flow.specs.declared.flow_rows.FlowTable.{FlowTable}
+use Rattle.app_flow.specs.Flow.{AreDerivable, IsFlow, by_paths, by_cells}
 use Rattle.app_machine.specs.declared.app.App.{App}
 use Rattle.app_machine.specs.declared.lists.Lists.{Lists}
 use Rattle.app_machine.specs.declared.papers.Declaration.{Declaration}
@@ -12,6 +13,7 @@ use Rattle.outcomes.specs.declared.outcome.Cause.{Cause}
 use Rattle.outcomes.specs.declared.outcome.Finding.{Finding}
 use Rattle.outcomes.specs.Causes.{causes_of}
 use Rattle.outcomes.specs.Findings.{findings_of}
+use Rattle.store_lists.specs.declared.large.Large.{Large}
 use Rattle.verdict.specs.declared.linking.Linked.{Linked}
 use Rattle.verdict.specs.declared.outcome.Judged.{Judged}
 use Rattle.verdict.specs.declared.outcome.Outcome.{Outcome}
@@ -32,54 +34,60 @@ findings_told [] [] = refl
 findings_told [] (f ∷ fs) = refl
 findings_told (c ∷ cs) fs = refl
 
--- the table has what is derivable, and the findings are those of its rows
-pub record IsOfTable (app : App) (lists : Lists) (declaration : Declaration) (outcome : Outcome) (rows : List Row) : Type 0 where
-  pub derivable : AreDerivable app lists rows
-  pub findings : findings_in outcome ≡ findings_of app lists declaration rows
+-- the table has what is derivable by its analysis, and the findings are those of its rows
+pub record IsOfTable (app : App) (lists : Lists) (declaration : Declaration) (outcome : Outcome) (table : FlowTable) : Type 0 where
+  pub derivable : AreDerivable table.analysis app lists table.rows
+  pub findings : findings_in outcome ≡ findings_of app lists declaration table.rows
 
-pub of_table : (app : App) (lists : Lists) (declaration : Declaration) (beside : List Cause) (judged : Judged) (rows : List Row) →
-    ComesTo app lists declaration beside judged → judged.table ≡ Some rows → IsOfTable app lists declaration judged.outcome rows
-of_table app lists declaration beside judged rows comes is = by_flow comes.flow comes.is_flow comes.same
+pub of_table : (app : App) (lists : Lists) (large : Option Large) (declaration : Declaration) (beside : List Cause) (judged : Judged) (table : FlowTable) →
+    ComesTo app lists large declaration beside judged → judged.table ≡ Some table → IsOfTable app lists declaration judged.outcome table
+of_table app lists large declaration beside judged table comes is = by_flow comes.flow comes.is_flow comes.same
   where
-    by_flow : (flow : Flow) → IsFlow app lists flow → judged ≡ judged_by app lists declaration beside flow → IsOfTable app lists declaration judged.outcome rows
-    by_flow (Rows rs) (all_rows derivable few) same =
-        let there : Some rs ≡ Some rows = sym (ap (λ (j : Judged). j.table) same) ∙ is in
-        let e : rs ≡ rows = same_Some rs rows there in
+    of_rows : (found : FlowTable) → AreDerivable found.analysis app lists found.rows → judged ≡ judged_by app lists declaration beside (Rows found) →
+        IsOfTable app lists declaration judged.outcome table
+    of_rows found derivable same =
+        let there : Some found ≡ Some table = sym (ap (λ (j : Judged). j.table) same) ∙ is in
+        let e : found ≡ table = same_Some found table there in
         record {
-          derivable = subst (AreDerivable app lists) e derivable;
+          derivable = subst (λ (t : FlowTable). AreDerivable t.analysis app lists t.rows) e derivable;
           findings =
               ap (λ (j : Judged). findings_in j.outcome) same
-              ∙ findings_told (causes_of app rs ++ beside) (findings_of app lists declaration rs) ∙ ap (findings_of app lists declaration) e;
+              ∙ findings_told (causes_of app found.rows ++ beside) (findings_of app lists declaration found.rows)
+              ∙ ap (λ (t : FlowTable). findings_of app lists declaration t.rows) e;
         }
+
+    by_flow : (flow : Flow) → IsFlow app lists large flow → judged ≡ judged_by app lists declaration beside flow → IsOfTable app lists declaration judged.outcome table
+    by_flow (Rows found) (by_paths derivable few) same = of_rows found derivable same
+    by_flow (Rows found) (by_cells more asked derivable few) same = of_rows found derivable same
     by_flow (TooLarge limit) f same =
-        let there : None ≡ Some rows = sym (ap (λ (j : Judged). j.table) same) ∙ is in
-        absurd (none-some rows there)
+        let there : None ≡ Some table = sym (ap (λ (j : Judged). j.table) same) ∙ is in
+        absurd (none-some table there)
 
 -- stories of the findings of the rows are those of the outcome
-pub stories_with : (linked : Linked) (judged : Judged) (rows : List Row) (stories : List Story) → judged.table ≡ Some rows →
-    IsOfTable linked.app linked.papers.lists linked.papers.declaration judged.outcome rows →
-    AreStoriesOf linked.app linked.papers.lists linked.papers.declaration rows (findings_of linked.app linked.papers.lists linked.papers.declaration rows) stories →
+pub stories_with : (linked : Linked) (judged : Judged) (table : FlowTable) (stories : List Story) → judged.table ≡ Some table →
+    IsOfTable linked.app linked.papers.lists linked.papers.declaration judged.outcome table →
+    AreStoriesOf linked.app linked.papers.lists linked.papers.declaration table (findings_of linked.app linked.papers.lists linked.papers.declaration table.rows) stories →
     HasStories linked judged (Some stories)
-stories_with linked judged rows stories is of are =
-    let P : List Finding → Type 0 = λ fs. AreStoriesOf linked.app linked.papers.lists linked.papers.declaration rows fs stories in
-    subst (λ (table : Option (List Row)). StoriesBy linked judged.outcome table (Some stories)) (sym is) (subst P (sym of.findings) are)
+stories_with linked judged table stories is of are =
+    let P : List Finding → Type 0 = λ fs. AreStoriesOf linked.app linked.papers.lists linked.papers.declaration table fs stories in
+    subst (λ (t : Option FlowTable). StoriesBy linked judged.outcome t (Some stories)) (sym is) (subst P (sym of.findings) are)
 
 pub stories_without : (linked : Linked) (judged : Judged) → judged.table ≡ None → HasStories linked judged None
-stories_without linked judged is = subst (λ (table : Option (List Row)). StoriesBy linked judged.outcome table None) (sym is) tt
+stories_without linked judged is = subst (λ (table : Option FlowTable). StoriesBy linked judged.outcome table None) (sym is) tt
 
 -- what an app comes to with stories
 pub comes_with : (linked : Linked) (judged : Judged) (outcome : Outcome) (stories : Option (List Story)) →
-    ComesTo linked.app linked.papers.lists linked.papers.declaration (causes_beside linked) judged → outcome ≡ judged.outcome → HasStories linked judged stories →
+    ComesTo linked.app linked.papers.lists linked.papers.large linked.papers.declaration (causes_beside linked) judged → outcome ≡ judged.outcome → HasStories linked judged stories →
     ComesToStories linked outcome stories
 comes_with linked judged outcome stories comes same has = record {
   table = judged.table;
-  comes = subst (λ (o : Outcome). ComesTo linked.app linked.papers.lists linked.papers.declaration (causes_beside linked) (record { outcome = o; table = judged.table })) (sym same) comes;
+  comes = subst (λ (o : Outcome). ComesTo linked.app linked.papers.lists linked.papers.large linked.papers.declaration (causes_beside linked) (record { outcome = o; table = judged.table })) (sym same) comes;
   told = subst (λ (o : Outcome). StoriesBy linked o judged.table stories) (sym same) has;
 }
 
 -- the same of what is told, unless memory ran out
 pub told_value : {E : Type 0} (linked : Linked) (judged : Judged) (r : Result Told E) →
-    ComesTo linked.app linked.papers.lists linked.papers.declaration (causes_beside linked) judged → IfOk r (λ t. t.outcome ≡ judged.outcome) →
+    ComesTo linked.app linked.papers.lists linked.papers.large linked.papers.declaration (causes_beside linked) judged → IfOk r (λ t. t.outcome ≡ judged.outcome) →
     IfOk r (λ t. HasStories linked judged t.stories) → IfOk r (λ t. ComesToStories linked t.outcome t.stories)
 told_value linked judged (Ok t) comes same has = comes_with linked judged t.outcome t.stories comes same has
 told_value linked judged (Err e) comes same has = tt
@@ -93,13 +101,13 @@ told_outcome P judged (Err e) holds same = tt
 pub tells_parts : (parts : Parts) (linked : Linked) (outcome : Outcome) (stories : Option (List Story)) → IsLinked parts linked → ComesToStories linked outcome stories → Tells parts outcome stories
 tells_parts parts linked outcome stories is comes = by_table comes.table stories comes.comes comes.told
   where
-    by_table : (table : Option (List Row)) (stories : Option (List Story)) →
-        ComesTo linked.app linked.papers.lists linked.papers.declaration (causes_beside linked) (record { outcome = outcome; table = table }) →
+    by_table : (table : Option FlowTable) (stories : Option (List Story)) →
+        ComesTo linked.app linked.papers.lists linked.papers.large linked.papers.declaration (causes_beside linked) (record { outcome = outcome; table = table }) →
         StoriesBy linked outcome table stories → Tells parts outcome stories
     by_table None None comes by = alone outcome (judgement_on parts linked (record { outcome = outcome; table = None }) is comes)
     by_table None (Some stories) comes by = absurd by
-    by_table (Some rows) None comes by = absurd by
-    by_table (Some rows) (Some stories) comes by = told outcome rows linked stories (judgement_on parts linked (record { outcome = outcome; table = Some rows }) is comes) is by
+    by_table (Some table) None comes by = absurd by
+    by_table (Some table) (Some stories) comes by = told outcome table linked stories (judgement_on parts linked (record { outcome = outcome; table = Some table }) is comes) is by
 
 pub one_of_only : (parts : Parts) (judged : Judged) → OnlyJudgement parts judged → OneJudgement parts
 one_of_only parts judged only one other is too = only one is ∙ sym (only other too)

@@ -1,5 +1,5 @@
 -- Stories one by one, and the rows that they are of.
-use Rattle.std.proofs.Common.{◌≡◌, ◌<◌, ◌+◌, ℕ, List, [], ◌∷◌, ◌++◌, length, take, get_or, sym, ap, ◌∙◌, subst, inl, inr, arith}
+use Rattle.std.proofs.Common.{◌≡◌, ◌<◌, ◌+◌, ℕ, List, [], ◌∷◌, ◌++◌, length, take, get_or, sym, ap, ◌∙◌, subst, inl, inr, arith, Result, IfOk, Vec, Global}
 use Rattle.std.proofs.lemmas.List.{take_more}
 use Rattle.app_flow.specs.Defect.{SameRows}
 use Rattle.app_flow.specs.Flow.{AreDerivable}
@@ -7,16 +7,13 @@ use Rattle.app_machine.specs.declared.app.App.{App}
 use Rattle.app_machine.specs.declared.lists.Lists.{Lists}
 use Rattle.app_machine.specs.declared.papers.Declaration.{Declaration}
 use Rattle.fact_rows.specs.declared.row.Row.{Row}
-use Rattle.fact_rows.specs.declared.row.Row.TheVariants.{Arrive, Unknown}
-use Rattle.fact_rows.specs.InApp.{InApp}
 use Rattle.finding_rows.specs.Arrivals.{AreFirstArrivals}
-use Rattle.flow_proof.specs.Staying.{StayInApp}
-use Rattle.flow_rules.specs.Rules.{Follows, Starts}
+use Rattle.flow_analyses.specs.declared.Analysis.{Analysis}
+use Rattle.flow_analyses.specs.Analyses.{FollowsBy}
+use Rattle.flow_rules.specs.Rules.{Starts}
 use Rattle.flow_story.specs.Stories.{TellsOf}
 use Rattle.flow_trail.specs.Trails.{AreAll, AreSame, Came, IsTrail}
 use Rattle.outcomes.specs.declared.outcome.Finding.{Finding}
-use Rattle.outcomes.specs.Within.{IsWithin, AreWithin}
-use Rattle.rule_sets.specs.OfApp.{DerivesAsTheApp}
 use Rattle.vet_base.specs.Members.{In}
 use Rattle.vet_base.proofs.Members.{in_slice_get}
 use Rattle.app_stories.specs.Stories.{Story, AreStories}
@@ -58,29 +55,30 @@ goals_there app lists declaration rows (finding ∷ findings) (goal ∷ goals) a
     subst (λ (z : Row). In z rows) (sym same) (in_slice_get rows are.0.place goal are.0.there.there)
 goals_there app lists declaration rows (finding ∷ findings) (goal ∷ goals) are row (inr later) = goals_there app lists declaration rows findings goals are.1 row later
 
--- what is derivable in the app is so by its rules, in whatever order the rows stand
-all_derivable : DerivesAsTheApp → (app : App) (lists : Lists) (table rows : List Row) → AreDerivable app lists table → SameRows rows table → AreAll (Follows app lists) (Starts app) rows
-all_derivable same app lists table rows derivable alike = record {
+-- what is derivable by an analysis is all that follows by its rules, in whatever order the rows stand
+pub all_by_rules : (analysis : Analysis) (app : App) (lists : Lists) (table rows : List Row) → AreDerivable analysis app lists table → SameRows rows table →
+    AreAll (FollowsBy analysis app lists) (Starts app) rows
+all_by_rules analysis app lists table rows derivable alike = record {
   each = λ row. (
-    λ there. (same app lists row).1 ((derivable.exact row).0 ((alike row).0 there)),
-    λ derived. (alike row).1 ((derivable.exact row).1 ((same app lists row).0 derived)),
+    λ there. (derivable.exact row).0 ((alike row).0 there),
+    λ derived. (alike row).1 ((derivable.exact row).1 derived),
   );
 }
 
-pub all_by_rules : DerivesAsTheApp → (app of_rules : App) (lists of_index : Lists) (table rows : List Row) → of_rules ≡ app → of_index ≡ lists → AreDerivable app lists table → SameRows rows table →
-    AreAll (Follows of_rules of_index) (Starts of_rules) rows
-all_by_rules same app of_rules lists of_index table rows one_app one_lists derivable alike =
-    subst (λ (z : App). AreAll (Follows z of_index) (Starts z) rows) (sym one_app)
-    (subst (λ (z : Lists). AreAll (Follows app z) (Starts app) rows) (sym one_lists) (all_derivable same app lists table rows derivable alike))
+module _ (analysis of_rules : Analysis) (app of_index : App) (lists listed : Lists) (one_analysis : of_rules ≡ analysis) (one_app : of_index ≡ app) (one_lists : listed ≡ lists) where
+  -- what is said of an analysis, an app and lists is said of those that the rules are of
+  pub derivable_as : (rows : List Row) → AreDerivable analysis app lists rows → AreDerivable of_rules of_index listed rows
+  derivable_as rows derivable =
+      subst (λ (a : Analysis). AreDerivable a of_index listed rows) (sym one_analysis)
+      (subst (λ (z : App). AreDerivable analysis z listed rows) (sym one_app) (subst (λ (z : Lists). AreDerivable analysis app z rows) (sym one_lists) derivable))
+
+  pub told_as : {E : Type 0} (goals : List Row) (r : Result (Vec Story Global) E) →
+      IfOk r (λ v. AreStories (FollowsBy of_rules of_index listed) (Starts of_index) goals v.items) →
+      IfOk r (λ v. AreStories (FollowsBy analysis app lists) (Starts app) goals v.items)
+  told_as goals r told =
+      subst (λ (a : Analysis). IfOk r (λ v. AreStories (FollowsBy a app lists) (Starts app) goals v.items)) one_analysis
+      (subst (λ (z : App). IfOk r (λ v. AreStories (FollowsBy of_rules z lists) (Starts z) goals v.items)) one_app
+      (subst (λ (z : Lists). IfOk r (λ v. AreStories (FollowsBy of_rules of_index z) (Starts of_index) goals v.items)) one_lists told))
 
 pub same_itself : (rows : List Row) → AreSame rows rows
 same_itself rows = record { each = λ row. (λ there. there, λ there. there) }
-
--- a row in the app names methods of the app
-is_within : (app : App) (lists : Lists) (row : Row) → InApp app lists row → IsWithin app row
-is_within app lists (Arrive label sink n) fields = fields.1.1.0.activation.method
-is_within app lists (Unknown n cause) fields = fields.0.activation.method
-is_within app lists _ fields = tt
-
-pub rows_are_within : (app : App) (lists : Lists) (rows : List Row) → StayInApp app lists → AreDerivable app lists rows → AreWithin app rows
-rows_are_within app lists rows stay derivable row there = is_within app lists row (stay.derivable row ((derivable.exact row).0 there))

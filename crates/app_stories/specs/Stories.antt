@@ -3,9 +3,11 @@ use Rattle.std.specs.Prelude.{◌≡◌, ℕ, List, [], ◌∷◌, Option, Some,
 use Rattle.app_machine.specs.declared.app.App.{App}
 use Rattle.app_machine.specs.declared.lists.Lists.{Lists}
 use Rattle.app_machine.specs.declared.papers.Declaration.{Declaration}
+use Rattle.app_flow.specs.declared.flow_rows.FlowTable.{FlowTable}
 use Rattle.fact_rows.specs.declared.row.Row.{Row}
 use Rattle.finding_rows.specs.Arrivals.{AreFirstArrivals}
-use Rattle.flow_rules.specs.Rules.{Follows, Starts}
+use Rattle.flow_analyses.specs.Analyses.{FollowsBy}
+use Rattle.flow_rules.specs.Rules.{Starts}
 use Rattle.flow_story.specs.declared.line.StoryLine.{StoryLine}
 use Rattle.flow_story.specs.Stories.{TellsOf}
 use Rattle.outcomes.specs.declared.outcome.Finding.{Finding}
@@ -26,38 +28,38 @@ AreStories Rule Start [] [] = Unit {0}
 AreStories Rule Start (row ∷ rows) (story ∷ stories) = TellsOf Rule Start row story × AreStories Rule Start rows stories
 AreStories Rule Start _ _ = ⊥
 
--- for each of the findings, in their order, a story of the first of the rows that tells it
-pub record AreStoriesOf (app : App) (lists : Lists) (declaration : Declaration) (rows : List Row)
+-- for each of the findings, in their order, a story of the first row of the table that tells it, by the rules of its analysis
+pub record AreStoriesOf (app : App) (lists : Lists) (declaration : Declaration) (table : FlowTable)
     (findings : List Finding) (stories : List Story) : Type 0 where
   pub goals : List Row
-  pub first : AreFirstArrivals app lists declaration rows findings goals
-  pub told : AreStories (Follows app lists) (Starts app) goals stories
+  pub first : AreFirstArrivals app lists declaration table.rows findings goals
+  pub told : AreStories (FollowsBy table.analysis app lists) (Starts app) goals stories
 
 -- What is told of the parts: what they come to, and the stories of its findings by their table, where there is one.
 pub data Tells (parts : Parts) : Outcome → Option (List Story) → Type 0 where
   alone : (outcome : Outcome) →
       Judgement parts (record { outcome = outcome; table = None }) →
       Tells parts outcome None
-  told : (outcome : Outcome) (rows : List Row) (linked : Linked) (stories : List Story) →
-      Judgement parts (record { outcome = outcome; table = Some rows }) →
+  told : (outcome : Outcome) (table : FlowTable) (linked : Linked) (stories : List Story) →
+      Judgement parts (record { outcome = outcome; table = Some table }) →
       IsLinked parts linked →
-      AreStoriesOf linked.app linked.papers.lists linked.papers.declaration rows (findings_in outcome) stories →
+      AreStoriesOf linked.app linked.papers.lists linked.papers.declaration table (findings_in outcome) stories →
       Tells parts outcome (Some stories)
 
 -- what is told of a linked app by what it comes to
-abbrev pub StoriesBy : Linked → Outcome → Option (List Row) → Option (List Story) → Type 0
+abbrev pub StoriesBy : Linked → Outcome → Option FlowTable → Option (List Story) → Type 0
 StoriesBy linked outcome None None = Unit {0}
-StoriesBy linked outcome (Some rows) (Some stories) =
-    AreStoriesOf linked.app linked.papers.lists linked.papers.declaration rows (findings_in outcome) stories
+StoriesBy linked outcome (Some table) (Some stories) =
+    AreStoriesOf linked.app linked.papers.lists linked.papers.declaration table (findings_in outcome) stories
 StoriesBy linked outcome _ _ = ⊥
 
 abbrev pub HasStories : Linked → Judged → Option (List Story) → Type 0
 HasStories linked judged stories = StoriesBy linked judged.outcome judged.table stories
 
 pub record ComesToStories (linked : Linked) (outcome : Outcome) (stories : Option (List Story)) : Type 0 where
-  pub table : Option (List Row)
+  pub table : Option FlowTable
   pub comes :
-      ComesTo linked.app linked.papers.lists linked.papers.declaration (causes_beside linked)
+      ComesTo linked.app linked.papers.lists linked.papers.large linked.papers.declaration (causes_beside linked)
       (record { outcome = outcome; table = table })
   pub told : StoriesBy linked outcome table stories
 

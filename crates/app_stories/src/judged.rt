@@ -5,7 +5,8 @@ ghost use Rattle.app_machine.specs.Sound.{SoundApp};
 ghost use Rattle.app_machine.specs.SoundLists.{SoundLists};
 ghost use Rattle.fact_rows.specs.declared.row.Row.{Row as FactRow};
 ghost use Rattle.finding_rows.specs.Arrivals.{AreFirstArrivals};
-ghost use Rattle.flow_rules.specs.Rules.{Follows, Starts};
+ghost use Rattle.flow_analyses.specs.Analyses.{FollowsBy};
+ghost use Rattle.flow_rules.specs.Rules.{Starts};
 ghost use Rattle.outcomes.specs.Findings.{findings_of};
 ghost use Rattle.outcomes.specs.Within.{AreWithin};
 ghost use Rattle.vet_base.specs.Members.{In};
@@ -19,14 +20,14 @@ ghost use Rattle.app_stories.specs.Stories.{AreStories, AreStoriesOf, ComesToSto
 use crate::stories::stories_of;
 use fact_rows::Row;
 use finding_rows::first_arrivals;
-use flow_proof::rules_stay_in_app;
+use flow_analyses::all_derived_rows_are_good;
 use flow_story::Story;
 use std::alloc::Global;
 use std::marker::Sync;
 use std::sync::Wait;
 use std::thread::Threads;
 use verdict::{
-    FlowRows, Halt, Judged, Linked, Outcome, Parts, judge_linked, linked_parts, lower_laws,
+    FlowTable, Halt, Judged, Linked, Outcome, Parts, judge_linked, linked_parts, lower_laws,
 };
 use vet_base::{Memory, Seq, Stop};
 use worker_pool::{Crew, Lookout};
@@ -64,58 +65,58 @@ fn arrivals_in(alloc: Global, linked: &Linked, rows: &[Row]) -> Result<Vec<Row>,
 fn stories_in(
     alloc: Global,
     linked: &Linked,
-    table: &FlowRows,
+    table: &FlowTable,
     goals: &[Row],
 ) -> Result<Vec<Story>, Memory>
     requires app { SoundApp linked.now.app }
     requires lists { SoundLists linked.now.papers.lists }
-    requires derivable { AreDerivable linked.now.app linked.now.papers.lists table.now }
-    requires there { (row : FactRow) → In row goals.now → In row table.now }
-    ensures { IfOk result (λ v. AreStories (Follows linked.now.app linked.now.papers.lists) (Starts linked.now.app)
-        goals.now v.items) }
+    requires derivable { AreDerivable table.now.analysis linked.now.app linked.now.papers.lists table.now.rows }
+    requires there { (row : FactRow) → In row goals.now → In row table.now.rows }
+    ensures { IfOk result (λ v. AreStories (FollowsBy table.now.analysis linked.now.app linked.now.papers.lists)
+        (Starts linked.now.app) goals.now v.items) }
 {
     stories_of(alloc, &linked.app, linked.papers.lists.get(), table, goals)
 }
 
 /// For each finding that the rows tell the first of them that does, in ascending order. It is looked for among those
 /// alone that tell something by themselves.
-fn goals_of(alloc: Global, linked: &Linked, rows: &FlowRows) -> Result<Vec<Row>, Memory>
+fn goals_of(alloc: Global, linked: &Linked, table: &FlowTable) -> Result<Vec<Row>, Memory>
     requires sound { SoundApp linked.now.app }
     requires lists { SoundLists linked.now.papers.lists }
-    requires derivable { AreDerivable linked.now.app linked.now.papers.lists rows.now }
+    requires derivable { AreDerivable table.now.analysis linked.now.app linked.now.papers.lists table.now.rows }
     ensures { IfOk result (λ goals. AreFirstArrivals linked.now.app linked.now.papers.lists
-        linked.now.papers.declaration rows.now (findings_of linked.now.app linked.now.papers.lists
-        linked.now.papers.declaration rows.now) goals.items) }
+        linked.now.papers.declaration table.now.rows (findings_of linked.now.app linked.now.papers.lists
+        linked.now.papers.declaration table.now.rows) goals.items) }
 {
-    rules_stay_in_app();
-    let telling = rows.telling(alloc)?;
+    all_derived_rows_are_good();
+    let telling = table.rows.telling(alloc)?;
     let goals = arrivals_in(alloc, linked, &telling)?;
     Ok(goals)
 }
 
 /// The stories of the findings that the rows tell.
 #[tactic(auto, using(crate::proofs::Gathered::goals_there))]
-fn stories_by_rows(alloc: Global, linked: &Linked, rows: &FlowRows) -> Result<Seq<Story>, Memory>
+fn stories_by_rows(alloc: Global, linked: &Linked, table: &FlowTable) -> Result<Seq<Story>, Memory>
     requires sound { SoundApp linked.now.app }
     requires lists { SoundLists linked.now.papers.lists }
-    requires derivable { AreDerivable linked.now.app linked.now.papers.lists rows.now }
+    requires derivable { AreDerivable table.now.analysis linked.now.app linked.now.papers.lists table.now.rows }
     ensures { IfOk result (λ stories. AreStoriesOf linked.now.app linked.now.papers.lists
-        linked.now.papers.declaration rows.now (findings_of linked.now.app linked.now.papers.lists
-        linked.now.papers.declaration rows.now) stories) }
+        linked.now.papers.declaration table.now (findings_of linked.now.app linked.now.papers.lists
+        linked.now.papers.declaration table.now.rows) stories) }
 {
-    let goals = goals_of(alloc, linked, rows)?;
-    let stories = stories_in(alloc, linked, rows, &goals)?;
+    let goals = goals_of(alloc, linked, table)?;
+    let stories = stories_in(alloc, linked, table, &goals)?;
     Ok(Seq::from_vec(stories))
 }
 
 /// The same by the table, whose memory is given back.
-fn stories_by_table(alloc: Global, linked: &Linked, table: FlowRows) -> Result<Seq<Story>, Memory>
+fn stories_by_table(alloc: Global, linked: &Linked, table: FlowTable) -> Result<Seq<Story>, Memory>
     requires sound { SoundApp linked.now.app }
     requires lists { SoundLists linked.now.papers.lists }
-    requires derivable { AreDerivable linked.now.app linked.now.papers.lists table }
+    requires derivable { AreDerivable table.analysis linked.now.app linked.now.papers.lists table.rows }
     ensures { IfOk result (λ stories. AreStoriesOf linked.now.app linked.now.papers.lists
         linked.now.papers.declaration table (findings_of linked.now.app linked.now.papers.lists
-        linked.now.papers.declaration table) stories) }
+        linked.now.papers.declaration table.rows) stories) }
 {
     stories_by_rows(alloc, linked, &table)
 }
@@ -125,15 +126,15 @@ fn stories_by_table(alloc: Global, linked: &Linked, table: FlowRows) -> Result<S
 fn with_stories(alloc: Global, linked: &Linked, judged: Judged) -> Result<Told, Memory>
     requires sound { SoundApp linked.now.app }
     requires lists { SoundLists linked.now.papers.lists }
-    requires comes { ComesTo linked.now.app linked.now.papers.lists linked.now.papers.declaration
-        (causes_beside linked.now) judged }
+    requires comes { ComesTo linked.now.app linked.now.papers.lists linked.now.papers.large
+        linked.now.papers.declaration (causes_beside linked.now) judged }
     ensures outcome { IfOk result (λ t. t.outcome ≡ judged.outcome) }
     ensures stories { IfOk result (λ t. HasStories linked.now judged t.stories) }
 {
     let Judged { outcome, table } = judged;
     let stories = match table {
         None => None,
-        Some(rows) => Some(stories_by_table(alloc, linked, rows)?),
+        Some(table) => Some(stories_by_table(alloc, linked, table)?),
     };
     Ok(Told { outcome, stories })
 }

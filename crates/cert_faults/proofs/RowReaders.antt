@@ -11,10 +11,12 @@ use Rattle.fact_rows.specs.declared.kind.Kind.{Kind}
 use Rattle.fact_rows.specs.declared.kind.Kind.TheVariants as kind
 use Rattle.fact_rows.specs.declared.row.Row.{Row}
 use Rattle.fact_rows.specs.declared.row.Row.TheVariants as row
-use Rattle.fact_rows.specs.declared.site.Site.TheVariants.{At, Param, Component, Shared}
+use Rattle.fact_rows.specs.declared.site.Site.TheVariants.{At, Param, Component, Shared, Made}
 use Rattle.cert_rows.specs.declared.fault.RowFault.{RowFault}
 use Rattle.cert_rows.specs.declared.fault.RowFault.TheVariants.{Bad}
-use Rattle.cert_rows.specs.Parts.{key, bare, param_from, site_of, site_from, keys_from, path_from}
+use Rattle.cert_rows.specs.declared.sets.Set.{Set}
+use Rattle.cert_rows.specs.Sets.{is_paths, is_cells}
+use Rattle.cert_rows.specs.Parts.{key, bare, param_from, made_from, site_of, site_from, keys_from, path_from}
 use Rattle.cert_rows.specs.Reading.{From, with, byte_from, u4_from, zero_byte_from, zero_from, two_from, lone_from, call2_from, ctx_of, ctx_from, activation_from, node_from}
 use Rattle.cert_rows.specs.Rows.{key_from, exit_from, cause_from, use_of_kind, use_from, labelled_from, one, two, three, row_of, kind_at, kind_from, row_from}
 use Rattle.cert_faults.proofs.Steady.{Completed, Steady, Reader, then_from, value_reader, steady_bad, steady_test, steady_if, reader_then, reader_byte, reader_same, byte, u4}
@@ -118,21 +120,26 @@ unfolding param_from
 param_reader = reader_then ctx_from (λ c. then_from u4_from (λ i bytes. Value (Param c i, bytes))) ctx_reader (λ c.
     reader_then u4_from (λ i bytes. Value (Param c i, bytes)) u4 (λ i. value_reader (Param c i)))
 
-site_steady : (k : ℕ) → Steady (site_of k)
+made_steady : (set : Set) → Steady (made_from set)
+unfolding made_from
+made_steady set = steady_test (is_cells set) (λ bytes. with (λ (p : ℕ × ℕ). Made p.0 p.1) (two_from bytes)) (with_reader (λ (p : ℕ × ℕ). Made p.0 p.1) two_from two_reader).steady
+
+site_steady : (set : Set) (k : ℕ) → Steady (site_of set k)
 unfolding site_of
-site_steady k =
+site_steady set k =
     steady_if (k == 0) _ _ (with_reader At node_from node_reader).steady
     (steady_if (k == 1) _ _ param_reader.steady
     (steady_if (k == 2) _ _ (with_reader Component u4_from u4).steady
-    (steady_if (k == 3) _ _ (with_reader Shared u4_from u4).steady (steady_bad (Component 0, [])))))
+    (steady_if (k == 3) _ _ (with_reader Shared u4_from u4).steady
+    (steady_if (k == 4) _ _ (made_steady set) (steady_bad (Component 0, []))))))
 
-first_component : Completed (then_from byte_from site_of) []
+first_component : (set : Set) → Completed (then_from byte_from (site_of set)) []
 unfolding site_of
-first_component = record { more = 2 ∷ 0 ∷ 0 ∷ 0 ∷ 0 ∷ []; are = (lit< tt, (lit< tt, (lit< tt, (lit< tt, (lit< tt, tt))))); value = Component 0; whole = refl }
+first_component set = record { more = 2 ∷ 0 ∷ 0 ∷ 0 ∷ 0 ∷ []; are = (lit< tt, (lit< tt, (lit< tt, (lit< tt, (lit< tt, tt))))); value = Component 0; whole = refl }
 
-site_reader : Reader site_from
+site_reader : (set : Set) → Reader (site_from set)
 unfolding site_from
-site_reader = reader_byte site_of first_component site_steady
+site_reader set = reader_byte (site_of set) (first_component set) (site_steady set)
 
 keys_reader : (is_open : Bool) (count : ℕ) → Reader (keys_from is_open count)
 unfolding keys_from
@@ -206,52 +213,52 @@ three_steady a b c make ra rb rc =
     reader_then b (λ y. then_from c (λ z bytes. Value (make x y z, bytes))) rb (λ y.
     reader_then c (λ z bytes. Value (make x y z, bytes)) rc (λ z. value_reader (make x y z))))).steady
 
-row_steady : (k : Kind) → Steady (row_of k)
+row_steady : (set : Set) (k : Kind) → Steady (row_of set k)
 unfolding row_of
-row_steady kind.Reached = one_steady node_from row.Reached node_reader
-row_steady kind.Points = three_steady node_from u4_from site_from row.Points node_reader u4 site_reader
-row_steady kind.Taint = three_steady node_from u4_from labelled_from (λ n r t. row.Taint n r t.0 t.1) node_reader u4 labelled_reader
-row_steady kind.Cell = three_steady site_from key_from site_from row.Cell site_reader key_reader site_reader
-row_steady kind.Back = three_steady site_from key_from site_from row.Back site_reader key_reader site_reader
-row_steady kind.StaticPoints = two_steady u4_from site_from row.StaticPoints u4 site_reader
-row_steady kind.StaticTaint = two_steady u4_from labelled_from (λ g t. row.StaticTaint g t.0 t.1) u4 labelled_reader
-row_steady kind.Calls = two_steady node_from activation_from row.Calls node_reader activation_reader
-row_steady kind.CalledBy = two_steady activation_from node_from row.CalledBy activation_reader node_reader
-row_steady kind.Effect = three_steady node_from site_from labelled_from (λ n s t. row.Effect n s t.0 t.1) node_reader site_reader labelled_reader
-row_steady kind.MethodEffect = three_steady activation_from site_from labelled_from (λ a s t. row.MethodEffect a s t.0 t.1) activation_reader site_reader labelled_reader
-row_steady kind.ExitPoints = three_steady activation_from exit_from site_from row.ExitPoints activation_reader exit_reader site_reader
-row_steady kind.ExitTaint = three_steady activation_from exit_from labelled_from (λ a how t. row.ExitTaint a how t.0 t.1) activation_reader exit_reader labelled_reader
-row_steady kind.Live = two_steady u4_from byte_from row.Live u4 byte
-row_steady kind.CompTaint = three_steady u4_from byte_from labelled_from (λ c state t. row.CompTaint c state t.0 t.1) u4 byte labelled_reader
-row_steady kind.Handed = one_steady site_from row.Handed site_reader
-row_steady kind.HandedTaint = two_steady site_from labelled_from (λ s t. row.HandedTaint s t.0 t.1) site_reader labelled_reader
-row_steady kind.Arrive = three_steady byte_from byte_from node_from row.Arrive byte byte node_reader
-row_steady kind.Unknown = two_steady node_from cause_from row.Unknown node_reader cause_reader
-row_steady kind.Uses = two_steady node_from use_from row.Uses node_reader use_reader
-row_steady kind.Label = steady_bad (row.Handed (Component 0), [])
-row_steady kind.StaticLabel = steady_bad (row.Handed (Component 0), [])
-row_steady kind.CellLabel = steady_bad (row.Handed (Component 0), [])
-row_steady kind.Holds = steady_bad (row.Handed (Component 0), [])
-row_steady kind.ExitLabel = steady_bad (row.Handed (Component 0), [])
+row_steady set kind.Reached = one_steady node_from row.Reached node_reader
+row_steady set kind.Points = three_steady node_from u4_from (site_from set) row.Points node_reader u4 (site_reader set)
+row_steady set kind.Taint = steady_test (is_paths set) (three node_from u4_from labelled_from (λ n r t. row.Taint n r t.0 t.1)) (three_steady node_from u4_from labelled_from (λ n r t. row.Taint n r t.0 t.1) node_reader u4 labelled_reader)
+row_steady set kind.Cell = three_steady (site_from set) key_from (site_from set) row.Cell (site_reader set) key_reader (site_reader set)
+row_steady set kind.Back = three_steady (site_from set) key_from (site_from set) row.Back (site_reader set) key_reader (site_reader set)
+row_steady set kind.StaticPoints = two_steady u4_from (site_from set) row.StaticPoints u4 (site_reader set)
+row_steady set kind.StaticTaint = steady_test (is_paths set) (two u4_from labelled_from (λ g t. row.StaticTaint g t.0 t.1)) (two_steady u4_from labelled_from (λ g t. row.StaticTaint g t.0 t.1) u4 labelled_reader)
+row_steady set kind.Calls = two_steady node_from activation_from row.Calls node_reader activation_reader
+row_steady set kind.CalledBy = two_steady activation_from node_from row.CalledBy activation_reader node_reader
+row_steady set kind.Effect = steady_test (is_paths set) (three node_from (site_from set) labelled_from (λ n s t. row.Effect n s t.0 t.1)) (three_steady node_from (site_from set) labelled_from (λ n s t. row.Effect n s t.0 t.1) node_reader (site_reader set) labelled_reader)
+row_steady set kind.MethodEffect = steady_test (is_paths set) (three activation_from (site_from set) labelled_from (λ a s t. row.MethodEffect a s t.0 t.1)) (three_steady activation_from (site_from set) labelled_from (λ a s t. row.MethodEffect a s t.0 t.1) activation_reader (site_reader set) labelled_reader)
+row_steady set kind.ExitPoints = three_steady activation_from exit_from (site_from set) row.ExitPoints activation_reader exit_reader (site_reader set)
+row_steady set kind.ExitTaint = steady_test (is_paths set) (three activation_from exit_from labelled_from (λ a how t. row.ExitTaint a how t.0 t.1)) (three_steady activation_from exit_from labelled_from (λ a how t. row.ExitTaint a how t.0 t.1) activation_reader exit_reader labelled_reader)
+row_steady set kind.Live = two_steady u4_from byte_from row.Live u4 byte
+row_steady set kind.CompTaint = steady_test (is_paths set) (three u4_from byte_from labelled_from (λ c state t. row.CompTaint c state t.0 t.1)) (three_steady u4_from byte_from labelled_from (λ c state t. row.CompTaint c state t.0 t.1) u4 byte labelled_reader)
+row_steady set kind.Handed = one_steady (site_from set) row.Handed (site_reader set)
+row_steady set kind.HandedTaint = steady_test (is_paths set) (two (site_from set) labelled_from (λ s t. row.HandedTaint s t.0 t.1)) (two_steady (site_from set) labelled_from (λ s t. row.HandedTaint s t.0 t.1) (site_reader set) labelled_reader)
+row_steady set kind.Arrive = three_steady byte_from byte_from node_from row.Arrive byte byte node_reader
+row_steady set kind.Unknown = two_steady node_from cause_from row.Unknown node_reader cause_reader
+row_steady set kind.Uses = two_steady node_from use_from row.Uses node_reader use_reader
+row_steady set kind.Label = steady_test (is_cells set) (three node_from u4_from byte_from row.Label) (three_steady node_from u4_from byte_from row.Label node_reader u4 byte)
+row_steady set kind.StaticLabel = steady_test (is_cells set) (two u4_from byte_from row.StaticLabel) (two_steady u4_from byte_from row.StaticLabel u4 byte)
+row_steady set kind.CellLabel = steady_test (is_cells set) (three (site_from set) key_from byte_from row.CellLabel) (three_steady (site_from set) key_from byte_from row.CellLabel (site_reader set) key_reader byte)
+row_steady set kind.Holds = steady_test (is_cells set) (two (site_from set) byte_from row.Holds) (two_steady (site_from set) byte_from row.Holds (site_reader set) byte)
+row_steady set kind.ExitLabel = steady_test (is_cells set) (three activation_from exit_from byte_from row.ExitLabel) (three_steady activation_from exit_from byte_from row.ExitLabel activation_reader exit_reader byte)
 
-abbrev row_behind : ℕ → List ℕ → From Row
-row_behind n bytes = Test (nat_lt 0 n && nat_le n 20) Bad (row_of (kind_at n) bytes)
+abbrev row_behind : Set → ℕ → List ℕ → From Row
+row_behind set n bytes = Test (nat_lt 0 n && nat_le n 25) Bad (row_of set (kind_at n) bytes)
 
-row_same : (bytes : List ℕ) → run (row_from bytes) ≡ run (then_from byte_from row_behind bytes)
+row_same : (set : Set) (bytes : List ℕ) → run (row_from set bytes) ≡ run (then_from byte_from (row_behind set) bytes)
 unfolding row_from kind_from
-row_same [] = refl
-row_same (n ∷ bytes) = refl
+row_same set [] = refl
+row_same set (n ∷ bytes) = refl
 
-first_handed : Completed (then_from byte_from row_behind) []
+first_handed : (set : Set) → Completed (then_from byte_from (row_behind set)) []
 unfolding kind_at row_of site_from site_of
-first_handed = record {
+first_handed set = record {
   more = 16 ∷ 2 ∷ 0 ∷ 0 ∷ 0 ∷ 0 ∷ [];
   are = (lit< tt, (lit< tt, (lit< tt, (lit< tt, (lit< tt, (lit< tt, tt))))));
   value = row.Handed (Component 0);
   whole = refl;
 }
 
-pub row_reader : Reader row_from
-row_reader =
-    reader_same row_from (then_from byte_from row_behind) row_same
-    (reader_byte row_behind first_handed (λ n. steady_test (nat_lt 0 n && nat_le n 20) (row_of (kind_at n)) (row_steady (kind_at n))))
+pub row_reader : (set : Set) → Reader (row_from set)
+row_reader set =
+    reader_same (row_from set) (then_from byte_from (row_behind set)) (row_same set)
+    (reader_byte (row_behind set) (first_handed set) (λ n. steady_test (nat_lt 0 n && nat_le n 25) (row_of set (kind_at n)) (row_steady set (kind_at n))))

@@ -17,9 +17,11 @@ use Rattle.fact_rows.specs.declared.context.Node.{Node}
 use Rattle.fact_rows.specs.declared.site.Site.{Site}
 use Rattle.fact_rows.specs.declared.site.Site.TheVariants.{At, Param, Component, Shared, Made}
 use Rattle.fact_rows.specs.Order.{numbers_of_ctx, numbers_of_activation, numbers_of_node, numbers_of_use}
+use Rattle.cert_rows.specs.declared.sets.Set.{Set}
+use Rattle.cert_rows.specs.declared.sets.Set.TheVariants.{Paths, Cells}
 use Rattle.cert_rows.specs.Fitting.{AreSmall, SiteFits}
 use Rattle.cert_rows.specs.Parts as parts
-use Rattle.cert_rows.specs.Parts.{param_from, site_of, site_from, keys_from, path_from}
+use Rattle.cert_rows.specs.Parts.{param_from, made_from, site_of, site_from, keys_from, path_from}
 use Rattle.cert_rows.specs.Reading.{From, with, byte_from, u4_from, zero_byte_from, zero_from, two_from, lone_from, call2_from, ctx_of, ctx_from, activation_from, node_from}
 use Rattle.cert_rows.specs.Rows.{key_from, exit_from, cause_from, use_of_kind, use_from, labelled_from}
 use Rattle.cert_rows.specs.Spelling.{u4_bytes, ctx_bytes, activation_bytes, node_bytes, site_bytes, path_bytes, use_bytes}
@@ -81,16 +83,21 @@ param_again : (c : Ctx) (k : ℕ) (rest : List ℕ) → AreSmall (numbers_of_ctx
 unfolding param_from
 param_again c k rest h small = rw (append_assoc, run_bind, ctx_again c (u4_bytes k ++ rest) h) (λ i. Ok (Param c (whole k small i), rest))
 
-site_again : (s : Site) (rest : List ℕ) → SiteFits s → run (site_from (site_bytes s ++ rest)) ≡ Ok (s, rest)
-unfolding site_bytes site_from site_of
-site_again (At n) rest h = with_again At (node_from (node_bytes n ++ rest)) n rest (node_again n rest h.1.1)
-site_again (Param c k) rest h = let p = small_parts (numbers_of_ctx c) (k ∷ []) h.1.1 in param_again c k rest p.0 p.1.0
-site_again (Component c) rest h = λ i. Ok (Component (whole c h.1.1.0 i), rest)
-site_again (Shared g) rest h = λ i. Ok (Shared (whole g h.1.1.0 i), rest)
-site_again (Made m pc) rest h = absurd h.0
+made_again : (set : Set) (m pc : ℕ) (rest : List ℕ) → set ≡ Cells → m < 4294967296 → pc < 4294967296 → run (made_from set ((u4_bytes m ++ u4_bytes pc) ++ rest)) ≡ Ok (Made m pc, rest)
+unfolding made_from two_from
+made_again Cells m pc rest is hm hpc = λ i. Ok (Made (whole m hm i) (whole pc hpc i), rest)
+made_again Paths m pc rest is hm hpc = absurd cc
 
-pub site : Again site_bytes SiteFits site_from
-site = record { again = site_again }
+site_again : (set : Set) (s : Site) (rest : List ℕ) → SiteFits set s → run (site_from set (site_bytes s ++ rest)) ≡ Ok (s, rest)
+unfolding site_bytes site_from site_of
+site_again set (At n) rest h = with_again At (node_from (node_bytes n ++ rest)) n rest (node_again n rest h.1.1)
+site_again set (Param c k) rest h = let p = small_parts (numbers_of_ctx c) (k ∷ []) h.1.1 in param_again c k rest p.0 p.1.0
+site_again set (Component c) rest h = λ i. Ok (Component (whole c h.1.1.0 i), rest)
+site_again set (Shared g) rest h = λ i. Ok (Shared (whole g h.1.1.0 i), rest)
+site_again set (Made m pc) rest h = made_again set m pc rest h.0 h.1.1.0 h.1.1.1.0
+
+pub site : (set : Set) → Again site_bytes (SiteFits set) (site_from set)
+site set = record { again = site_again set }
 
 abbrev path_of : Bool → Keys → Path
 path_of is_open keys = record { is_open = is_open; keys = keys }

@@ -104,7 +104,7 @@ with_found make script y rest e =
     let p = ok_parts (make b.0.0) y b.0.1 rest (Ok (make b.0.0, b.0.1)) refl b.2 in
     (b.0.0, b.1 ∙ (λ i. Ok (b.0.0, p.1 i)), p.0)
 
-two_found : (bytes : List ℕ) (p : ℕ × ℕ) (rest : List ℕ) → AreBytes bytes → run (two_from bytes) ≡ Ok (p, rest)
+pub two_found : (bytes : List ℕ) (p : ℕ × ℕ) (rest : List ℕ) → AreBytes bytes → run (two_from bytes) ≡ Ok (p, rest)
     → Begins (λ (q : ℕ × ℕ). u4_bytes q.0 ++ u4_bytes q.1) (λ (q : ℕ × ℕ). IsSmall q.0 × IsSmall q.1) bytes p rest
 unfolding two_from
 two_found bytes p rest h e =

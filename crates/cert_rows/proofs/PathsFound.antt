@@ -15,84 +15,115 @@ use Rattle.access_path.specs.Paths.{cut, keys_of}
 use Rattle.app_machine.specs.declared.lists.SummaryId.{SummaryId}
 use Rattle.app_machine.specs.declared.lists.SummaryId.TheVariants as uses
 use Rattle.fact_rows.specs.declared.site.Site.{Site}
-use Rattle.fact_rows.specs.declared.site.Site.TheVariants.{At, Param, Component, Shared}
+use Rattle.fact_rows.specs.declared.site.Site.TheVariants.{At, Param, Component, Shared, Made}
 use Rattle.fact_rows.specs.Order.{numbers_of_ctx, numbers_of_use}
 use Rattle.cert_rows.specs.declared.fault.RowFault.TheVariants.{Bad}
 use Rattle.cert_rows.specs.Fitting.{IsSmall, AreSmall, SiteFits}
 use Rattle.cert_rows.specs.Laws.{AreBytes, Begins}
-use Rattle.cert_rows.specs.Parts.{key, bare, param_from, site_of, site_from, keys_from, path_from}
-use Rattle.cert_rows.specs.Reading.{byte_from, u4_from, ctx_from, node_from}
+use Rattle.cert_rows.specs.declared.sets.Set.{Set}
+use Rattle.cert_rows.specs.declared.sets.Set.TheVariants.{Paths, Cells}
+use Rattle.cert_rows.specs.Sets.{is_paths, is_cells}
+use Rattle.cert_rows.specs.Parts.{key, bare, param_from, made_from, site_of, site_from, keys_from, path_from}
+use Rattle.cert_rows.specs.Reading.{with, byte_from, u4_from, two_from, ctx_from, node_from}
 use Rattle.cert_rows.specs.Rows.{key_from, exit_from, cause_from, use_of_kind, use_from, labelled_from}
 use Rattle.cert_rows.specs.Spelling.{u4_bytes, ctx_bytes, site_bytes, keys_bytes, path_bytes, use_bytes}
-use Rattle.cert_rows.proofs.PartsFound.{Finds, byte, u4, node, ctx_found, by_test, is_number, with_found, after_found}
+use Rattle.cert_rows.proofs.PartsFound.{Finds, byte, u4, node, ctx_found, two_found, by_test, is_number, with_found, after_found}
 
-abbrev SiteFound : ℕ → List ℕ → List ℕ → Site → Type 0
-SiteFound kind bytes rest s = Begins site_bytes SiteFits (kind ∷ bytes) s rest
+-- of which set rows are that have paths, and of which those that have labels of values
+pub paths_are : (set : Set) → is_paths set ≡ true → set ≡ Paths
+paths_are Paths e = refl
+paths_are Cells e = absurd cc
 
-param_found : (bytes : List ℕ) (s : Site) (rest : List ℕ) → AreBytes bytes → run (param_from bytes) ≡ Ok (s, rest) → SiteFound 1 bytes rest s
-unfolding param_from site_bytes
-param_found bytes s rest h e =
-    let f = after_found ctx_from Param ctx_found bytes s rest h e in
-    let kind : IsSmall 1 = omega arith in
-    let made : SiteFound 1 bytes rest (Param f.0 f.1) = record {
-      is = ap (λ (bs : List ℕ). 1 ∷ bs) (f.3 ∙ sym (append_assoc (ctx_bytes f.0) (u4_bytes f.1) rest));
-      fits = (tt, (kind, each_append IsSmall (numbers_of_ctx f.0) (f.1 ∷ []) f.4 (f.5, tt)));
-      left = f.6;
-    } in
-    subst (SiteFound 1 bytes rest) f.2 made
+pub cells_are : (set : Set) → is_cells set ≡ true → set ≡ Cells
+cells_are Paths e = absurd cc
+cells_are Cells e = refl
 
-at_found : (bytes : List ℕ) (s : Site) (rest : List ℕ) → AreBytes bytes → (n : _) × (run (node_from bytes) ≡ Ok (n, rest)) × (At n ≡ s) → SiteFound 0 bytes rest s
-unfolding site_bytes
-at_found bytes s rest h w =
-    let f = node.found bytes w.0 rest h w.1 in
-    let kind : IsSmall 0 = omega arith in
-    let made : SiteFound 0 bytes rest (At w.0) = record { is = ap (λ (bs : List ℕ). 0 ∷ bs) f.is; fits = (tt, (kind, f.fits)); left = f.left } in
-    subst (SiteFound 0 bytes rest) w.2 made
+module _ (set : Set) where
+  abbrev SiteFound : ℕ → List ℕ → List ℕ → Site → Type 0
+  SiteFound kind bytes rest s = Begins site_bytes (SiteFits set) (kind ∷ bytes) s rest
 
-component_found : (bytes : List ℕ) (s : Site) (rest : List ℕ) → AreBytes bytes → (n : ℕ) × (run (u4_from bytes) ≡ Ok (n, rest)) × (Component n ≡ s) → SiteFound 2 bytes rest s
-unfolding site_bytes
-component_found bytes s rest h w =
-    let f = u4.found bytes w.0 rest h w.1 in
-    let kind : IsSmall 2 = omega arith in
-    let made : SiteFound 2 bytes rest (Component w.0) = record { is = ap (λ (bs : List ℕ). 2 ∷ bs) f.is; fits = (tt, (kind, f.fits)); left = f.left } in
-    subst (SiteFound 2 bytes rest) w.2 made
+  param_found : (bytes : List ℕ) (s : Site) (rest : List ℕ) → AreBytes bytes → run (param_from bytes) ≡ Ok (s, rest) → SiteFound 1 bytes rest s
+  unfolding param_from site_bytes
+  param_found bytes s rest h e =
+      let f = after_found ctx_from Param ctx_found bytes s rest h e in
+      let kind : IsSmall 1 = omega arith in
+      let made : SiteFound 1 bytes rest (Param f.0 f.1) = record {
+        is = ap (λ (bs : List ℕ). 1 ∷ bs) (f.3 ∙ sym (append_assoc (ctx_bytes f.0) (u4_bytes f.1) rest));
+        fits = (tt, (kind, each_append IsSmall (numbers_of_ctx f.0) (f.1 ∷ []) f.4 (f.5, tt)));
+        left = f.6;
+      } in
+      subst (SiteFound 1 bytes rest) f.2 made
 
-shared_found : (bytes : List ℕ) (s : Site) (rest : List ℕ) → AreBytes bytes → (n : ℕ) × (run (u4_from bytes) ≡ Ok (n, rest)) × (Shared n ≡ s) → SiteFound 3 bytes rest s
-unfolding site_bytes
-shared_found bytes s rest h w =
-    let f = u4.found bytes w.0 rest h w.1 in
-    let kind : IsSmall 3 = omega arith in
-    let made : SiteFound 3 bytes rest (Shared w.0) = record { is = ap (λ (bs : List ℕ). 3 ∷ bs) f.is; fits = (tt, (kind, f.fits)); left = f.left } in
-    subst (SiteFound 3 bytes rest) w.2 made
+  at_found : (bytes : List ℕ) (s : Site) (rest : List ℕ) → AreBytes bytes → (n : _) × (run (node_from bytes) ≡ Ok (n, rest)) × (At n ≡ s) → SiteFound 0 bytes rest s
+  unfolding site_bytes
+  at_found bytes s rest h w =
+      let f = node.found bytes w.0 rest h w.1 in
+      let kind : IsSmall 0 = omega arith in
+      let made : SiteFound 0 bytes rest (At w.0) = record { is = ap (λ (bs : List ℕ). 0 ∷ bs) f.is; fits = (tt, (kind, f.fits)); left = f.left } in
+      subst (SiteFound 0 bytes rest) w.2 made
 
-no_site : (s : Site) (rest : List ℕ) → run {A = Site × List ℕ} (Test false Bad (Value (Component 0, []))) ≡ Ok (s, rest) → ⊥
-no_site s rest e = absurd cc
+  component_found : (bytes : List ℕ) (s : Site) (rest : List ℕ) → AreBytes bytes → (n : ℕ) × (run (u4_from bytes) ≡ Ok (n, rest)) × (Component n ≡ s) → SiteFound 2 bytes rest s
+  unfolding site_bytes
+  component_found bytes s rest h w =
+      let f = u4.found bytes w.0 rest h w.1 in
+      let kind : IsSmall 2 = omega arith in
+      let made : SiteFound 2 bytes rest (Component w.0) = record { is = ap (λ (bs : List ℕ). 2 ∷ bs) f.is; fits = (tt, (kind, f.fits)); left = f.left } in
+      subst (SiteFound 2 bytes rest) w.2 made
 
-site_of_found : (kind : ℕ) (bytes : List ℕ) (s : Site) (rest : List ℕ) → AreBytes bytes → run (site_of kind bytes) ≡ Ok (s, rest) → SiteFound kind bytes rest s
-unfolding site_of
-site_of_found kind bytes s rest h e =
-    let P : ℕ → Type 0 = λ k. SiteFound k bytes rest s in
-    elim (by_test (kind == 0) _ _ (s, rest) e) [
-      | inl x ↦ subst P (sym (is_number kind 0 x.0)) (at_found bytes s rest h (with_found At (node_from bytes) s rest x.1))
-      | inr e0 ↦ elim (by_test (kind == 1) _ _ (s, rest) e0.1) [
-        | inl x ↦ subst P (sym (is_number kind 1 x.0)) (param_found bytes s rest h x.1)
-        | inr e1 ↦ elim (by_test (kind == 2) _ _ (s, rest) e1.1) [
-          | inl x ↦ subst P (sym (is_number kind 2 x.0)) (component_found bytes s rest h (with_found Component (u4_from bytes) s rest x.1))
-          | inr e2 ↦ elim (by_test (kind == 3) _ _ (s, rest) e2.1) [
-            | inl x ↦ subst P (sym (is_number kind 3 x.0)) (shared_found bytes s rest h (with_found Shared (u4_from bytes) s rest x.1))
-            | inr e3 ↦ absurd (no_site s rest e3.1)
+  shared_found : (bytes : List ℕ) (s : Site) (rest : List ℕ) → AreBytes bytes → (n : ℕ) × (run (u4_from bytes) ≡ Ok (n, rest)) × (Shared n ≡ s) → SiteFound 3 bytes rest s
+  unfolding site_bytes
+  shared_found bytes s rest h w =
+      let f = u4.found bytes w.0 rest h w.1 in
+      let kind : IsSmall 3 = omega arith in
+      let made : SiteFound 3 bytes rest (Shared w.0) = record { is = ap (λ (bs : List ℕ). 3 ∷ bs) f.is; fits = (tt, (kind, f.fits)); left = f.left } in
+      subst (SiteFound 3 bytes rest) w.2 made
+
+  made_found : (bytes : List ℕ) (s : Site) (rest : List ℕ) → AreBytes bytes → run (made_from set bytes) ≡ Ok (s, rest) → SiteFound 4 bytes rest s
+  unfolding made_from site_bytes
+  made_found bytes s rest h e =
+      let t = test_ok (is_cells set) Bad (with (λ (p : ℕ × ℕ). Made p.0 p.1) (two_from bytes)) (s, rest) e in
+      let w = with_found (λ (p : ℕ × ℕ). Made p.0 p.1) (two_from bytes) s rest t.1 in
+      let f = two_found bytes w.0 rest h w.1 in
+      let kind : IsSmall 4 = omega arith in
+      let spelled : bytes ≡ (u4_bytes w.0.0 ++ u4_bytes w.0.1) ++ rest = f.is in
+      let made : SiteFound 4 bytes rest (Made w.0.0 w.0.1) = record {
+        is = ap (λ (bs : List ℕ). 4 ∷ bs) spelled;
+        fits = (cells_are set t.0, (kind, (f.fits.0, (f.fits.1, tt))));
+        left = f.left;
+      } in
+      subst (SiteFound 4 bytes rest) w.2 made
+
+  no_site : (s : Site) (rest : List ℕ) → run {A = Site × List ℕ} (Test false Bad (Value (Component 0, []))) ≡ Ok (s, rest) → ⊥
+  no_site s rest e = absurd cc
+
+  site_of_found : (kind : ℕ) (bytes : List ℕ) (s : Site) (rest : List ℕ) → AreBytes bytes → run (site_of set kind bytes) ≡ Ok (s, rest) → SiteFound kind bytes rest s
+  unfolding site_of
+  site_of_found kind bytes s rest h e =
+      let P : ℕ → Type 0 = λ k. SiteFound k bytes rest s in
+      elim (by_test (kind == 0) _ _ (s, rest) e) [
+        | inl x ↦ subst P (sym (is_number kind 0 x.0)) (at_found bytes s rest h (with_found At (node_from bytes) s rest x.1))
+        | inr e0 ↦ elim (by_test (kind == 1) _ _ (s, rest) e0.1) [
+          | inl x ↦ subst P (sym (is_number kind 1 x.0)) (param_found bytes s rest h x.1)
+          | inr e1 ↦ elim (by_test (kind == 2) _ _ (s, rest) e1.1) [
+            | inl x ↦ subst P (sym (is_number kind 2 x.0)) (component_found bytes s rest h (with_found Component (u4_from bytes) s rest x.1))
+            | inr e2 ↦ elim (by_test (kind == 3) _ _ (s, rest) e2.1) [
+              | inl x ↦ subst P (sym (is_number kind 3 x.0)) (shared_found bytes s rest h (with_found Shared (u4_from bytes) s rest x.1))
+              | inr e3 ↦ elim (by_test (kind == 4) _ _ (s, rest) e3.1) [
+                | inl x ↦ subst P (sym (is_number kind 4 x.0)) (made_found bytes s rest h x.1)
+                | inr e4 ↦ absurd (no_site s rest e4.1)
+              ]
+            ]
           ]
         ]
       ]
-    ]
 
-site_found : (bytes : List ℕ) (s : Site) (rest : List ℕ) → AreBytes bytes → run (site_from bytes) ≡ Ok (s, rest) → Begins site_bytes SiteFits bytes s rest
-unfolding site_from
-site_found [] s rest h e = absurd cc
-site_found (kind ∷ bytes) s rest h e = site_of_found kind bytes s rest h.1 e
+  site_found : (bytes : List ℕ) (s : Site) (rest : List ℕ) → AreBytes bytes → run (site_from set bytes) ≡ Ok (s, rest) → Begins site_bytes (SiteFits set) bytes s rest
+  unfolding site_from
+  site_found [] s rest h e = absurd cc
+  site_found (kind ∷ bytes) s rest h e = site_of_found kind bytes s rest h.1 e
 
-pub site : Finds site_bytes SiteFits site_from
-site = record { found = site_found }
+  pub site : Finds site_bytes (SiteFits set) (site_from set)
+  site = record { found = site_found }
 
 -- a key in front of at most four others
 put_in_front : (k : KeyId) (is_open : Bool) (keys : Keys) → length (keys_of (record { is_open = is_open; keys = keys })) < 5

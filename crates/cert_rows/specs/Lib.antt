@@ -3,4 +3,5 @@ pub mod Laws
 pub mod Parts
 pub mod Reading
 pub mod Rows
+pub mod Sets
 pub mod Spelling

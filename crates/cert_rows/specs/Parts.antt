@@ -7,9 +7,10 @@ use Rattle.access_path.specs.declared.keys.TheConstants.{MOST_KEYS}
 use Rattle.access_path.specs.declared.path.Path.{Path}
 use Rattle.access_path.specs.Paths.{cut}
 use Rattle.fact_rows.specs.declared.site.Site.{Site}
-use Rattle.fact_rows.specs.declared.site.Site.TheVariants.{At, Param, Component, Shared}
+use Rattle.fact_rows.specs.declared.site.Site.TheVariants.{At, Param, Component, Shared, Made}
 use Rattle.cert_rows.specs.declared.fault.RowFault.TheVariants.{Bad}
-use Rattle.cert_rows.specs.Reading.{From, with, byte_from, u4_from, ctx_from, node_from}
+use Rattle.cert_rows.specs.declared.sets.Set.{Set}
+use Rattle.cert_rows.specs.Reading.{From, with, of_cells, byte_from, u4_from, two_from, ctx_from, node_from}
 
 unfoldable pub param_from : List ℕ → From Site
 param_from bytes = do
@@ -17,18 +18,23 @@ param_from bytes = do
   i ← u4_from c.1
   Value (Param c.0 i.0, i.1)
 
-unfoldable pub site_of : ℕ → List ℕ → From Site
-site_of kind bytes =
+-- a method and an address, in whatever context
+unfoldable pub made_from : Set → List ℕ → From Site
+made_from set bytes = of_cells set (with (λ p. Made p.0 p.1) (two_from bytes))
+
+unfoldable pub site_of : Set → ℕ → List ℕ → From Site
+site_of set kind bytes =
     if kind == 0 then with At (node_from bytes) else
     if kind == 1 then param_from bytes else
     if kind == 2 then with Component (u4_from bytes) else
     if kind == 3 then with Shared (u4_from bytes) else
+    if kind == 4 then made_from set bytes else
     Test false Bad (Value (Component 0, []))
 
-unfoldable pub site_from : List ℕ → From Site
-site_from bytes = do
+unfoldable pub site_from : Set → List ℕ → From Site
+site_from set bytes = do
   kind ← byte_from bytes
-  site_of kind.0 kind.1
+  site_of set kind.0 kind.1
 
 -- a path without keys
 abbrev pub bare : Bool → Path

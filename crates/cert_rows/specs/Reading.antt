@@ -8,6 +8,8 @@ use Rattle.fact_rows.specs.declared.context.Activation.{Activation}
 use Rattle.fact_rows.specs.declared.context.Node.{Node}
 use Rattle.cert_rows.specs.declared.fault.RowFault.{RowFault}
 use Rattle.cert_rows.specs.declared.fault.RowFault.TheVariants.{Cut, Bad}
+use Rattle.cert_rows.specs.declared.sets.Set.{Set}
+use Rattle.cert_rows.specs.Sets.{is_paths, is_cells}
 
 -- what a reader returned, seen by a view of its value, is what running gives
 abbrev pub Reads : {F X Y : Type 0} → (X → Y) → Result X F → Script F Y → Type 0
@@ -17,6 +19,18 @@ Reads view (Err e) script = run script ≡ Err e
 -- something, and the bytes behind it
 abbrev pub From : Type 0 → Type 0
 From A = Script RowFault (A × List ℕ)
+
+-- what rows of the first set alone have
+abbrev pub of_paths : {A : Type 0} → Set → From A → From A
+of_paths set script = do
+  _ ← test (is_paths set) Bad
+  script
+
+-- what rows of the second alone have
+abbrev pub of_cells : {A : Type 0} → Set → From A → From A
+of_cells set script = do
+  _ ← test (is_cells set) Bad
+  script
 
 abbrev pub byte_from : List ℕ → From ℕ
 byte_from [] = Test false Cut (Value (0, []))

@@ -1,4 +1,4 @@
--- The bytes of a row, one that no certificate has among them: a byte for its kind, and then its fields. Numbers have four bytes,
+-- The bytes of a row, one that no certificate has among them, and the same in certificates of either set: a byte for its kind, and then its fields. Numbers have four bytes,
 -- the low one first; kinds, categories and states have one.
 use Rattle.std.specs.Prelude.{ℕ, ◌/◌, ◌%◌, List, [], ◌∷◌, ◌++◌, map}
 use Rattle.std.specs.List.{flat_map}

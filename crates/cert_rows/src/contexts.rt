@@ -12,7 +12,7 @@ use fact_rows::{Activation, Ctx, Node};
 use vet_base::Memory;
 
 #[tactic(auto, unfolding(crate::specs::Reading::two_from), using(vet_base::proofs::Scripts::run_bind))]
-fn two_from(bytes: &[u8]) -> Result<((u32, u32), &[u8]), RowFault>
+pub fn two_from(bytes: &[u8]) -> Result<((u32, u32), &[u8]), RowFault>
     ensures { Reads (λ x. (x.0, x.1.now)) result (two_from bytes.now) }
 {
     let (a, rest) = u4_from(bytes)?;

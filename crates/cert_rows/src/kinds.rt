@@ -8,7 +8,7 @@ use crate::numbers::byte_from;
 use fact_rows::Kind;
 
 /// The kinds in the order of their numbers.
-static KINDS: [Kind; 20] = [
+static KINDS: [Kind; 25] = [
     Kind::Reached,
     Kind::Points,
     Kind::Taint,
@@ -29,12 +29,17 @@ static KINDS: [Kind; 20] = [
     Kind::Arrive,
     Kind::Unknown,
     Kind::Uses,
+    Kind::Label,
+    Kind::StaticLabel,
+    Kind::CellLabel,
+    Kind::Holds,
+    Kind::ExitLabel,
 ];
 
 #[tactic(auto, unfolding(crate::specs::Rows::kind_at))]
 fn kind_at(number: u8) -> Kind
     requires low { 0 < number }
-    requires high { number ≤ 20 }
+    requires high { number ≤ 25 }
     ensures { result ≡ kind_at number }
 {
     KINDS[number as usize - 1]
@@ -45,7 +50,7 @@ pub fn kind_from(bytes: &[u8]) -> Result<(Kind, &[u8]), RowFault>
     ensures { Reads (λ x. (x.0, x.1.now)) result (kind_from bytes.now) }
 {
     let (number, rest) = byte_from(bytes)?;
-    if number == 0 || number > 20 {
+    if number == 0 || number > 25 {
         return Err(RowFault::Bad);
     }
     Ok((kind_at(number), rest))

@@ -1,6 +1,6 @@
 ghost use Rattle.cert_rows.specs.Laws.{RowsAreFound, RowsAreReadAgain};
 
-/// Each row that can be written is read as it was written, whatever stands behind it.
+/// Each row that certificates of a set can have is read as it was written, whatever stands behind it.
 pub fn rows_are_read_again()
     ensures { RowsAreReadAgain }
 {}

@@ -6,12 +6,14 @@ ghost use Rattle.cert_rows.specs.Reading.{Reads};
 ghost use Rattle.cert_rows.specs.Rows.{row_of, row_from};
 ghost use Rattle.cert_rows.specs.Spelling.{field_bytes, row_bytes};
 
-use crate::RowFault;
 use crate::activation_rows::{
     called_by_from, exit_points_from, exit_taint_from, method_effect_from,
 };
 use crate::fields::put_field;
 use crate::kinds::kind_from;
+use crate::label_rows::{
+    cell_label_from, exit_label_from, holds_from, label_from, static_label_from,
+};
 use crate::node_rows::{
     calls_from, effect_from, points_from, reached_from, taint_from, unknown_from, uses_from,
 };
@@ -19,49 +21,50 @@ use crate::other_rows::{
     arrive_from, comp_taint_from, live_from, static_points_from, static_taint_from,
 };
 use crate::site_rows::{back_from, cell_from, handed_from, handed_taint_from};
+use crate::{RowFault, Set};
 use fact_rows::{Field, Kind, Row};
 use vet_base::Memory;
 
-/// A row of the kind.
-fn row_of(kind: Kind, bytes: &[u8]) -> Result<(Row, &[u8]), RowFault>
-    ensures { Reads (λ x. (x.0, x.1.now)) result (row_of kind bytes.now) }
+/// A row of the kind, as the set has it.
+fn row_of(set: Set, kind: Kind, bytes: &[u8]) -> Result<(Row, &[u8]), RowFault>
+    ensures { Reads (λ x. (x.0, x.1.now)) result (row_of set kind bytes.now) }
 {
     match kind {
         Kind::Reached => reached_from(bytes),
-        Kind::Points => points_from(bytes),
-        Kind::Taint => taint_from(bytes),
-        Kind::Cell => cell_from(bytes),
-        Kind::Back => back_from(bytes),
-        Kind::StaticPoints => static_points_from(bytes),
-        Kind::StaticTaint => static_taint_from(bytes),
+        Kind::Points => points_from(set, bytes),
+        Kind::Taint => taint_from(set, bytes),
+        Kind::Cell => cell_from(set, bytes),
+        Kind::Back => back_from(set, bytes),
+        Kind::StaticPoints => static_points_from(set, bytes),
+        Kind::StaticTaint => static_taint_from(set, bytes),
         Kind::Calls => calls_from(bytes),
         Kind::CalledBy => called_by_from(bytes),
-        Kind::Effect => effect_from(bytes),
-        Kind::MethodEffect => method_effect_from(bytes),
-        Kind::ExitPoints => exit_points_from(bytes),
-        Kind::ExitTaint => exit_taint_from(bytes),
+        Kind::Effect => effect_from(set, bytes),
+        Kind::MethodEffect => method_effect_from(set, bytes),
+        Kind::ExitPoints => exit_points_from(set, bytes),
+        Kind::ExitTaint => exit_taint_from(set, bytes),
         Kind::Live => live_from(bytes),
-        Kind::CompTaint => comp_taint_from(bytes),
-        Kind::Handed => handed_from(bytes),
-        Kind::HandedTaint => handed_taint_from(bytes),
+        Kind::CompTaint => comp_taint_from(set, bytes),
+        Kind::Handed => handed_from(set, bytes),
+        Kind::HandedTaint => handed_taint_from(set, bytes),
         Kind::Arrive => arrive_from(bytes),
         Kind::Unknown => unknown_from(bytes),
         Kind::Uses => uses_from(bytes),
-        Kind::Label => Err(RowFault::Bad),
-        Kind::StaticLabel => Err(RowFault::Bad),
-        Kind::CellLabel => Err(RowFault::Bad),
-        Kind::Holds => Err(RowFault::Bad),
-        Kind::ExitLabel => Err(RowFault::Bad),
+        Kind::Label => label_from(set, bytes),
+        Kind::StaticLabel => static_label_from(set, bytes),
+        Kind::CellLabel => cell_label_from(set, bytes),
+        Kind::Holds => holds_from(set, bytes),
+        Kind::ExitLabel => exit_label_from(set, bytes),
     }
 }
 
-/// The row that the bytes begin with, and the bytes behind it.
+/// The row that the bytes begin with, where certificates of the set can have it, and the bytes behind it.
 #[tactic(auto, unfolding(crate::specs::Rows::row_from), using(vet_base::proofs::Scripts::run_bind))]
-pub fn row_from(bytes: &[u8]) -> Result<(Row, &[u8]), RowFault>
-    ensures { Reads (λ x. (x.0, x.1.now)) result (row_from bytes.now) }
+pub fn row_from(set: Set, bytes: &[u8]) -> Result<(Row, &[u8]), RowFault>
+    ensures { Reads (λ x. (x.0, x.1.now)) result (row_from set bytes.now) }
 {
     let (kind, rest) = kind_from(bytes)?;
-    row_of(kind, rest)
+    row_of(set, kind, rest)
 }
 
 fn put_fields(out: &mut Vec<u8>, fields: &[Field]) -> Result<(), Memory>

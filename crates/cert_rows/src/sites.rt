@@ -2,13 +2,13 @@
 ghost use Rattle.std.specs.Prelude.{◌≡◌, ◌++◌, OnOk};
 ghost use Rattle.fact_rows.specs.Order.{numbers_of_site};
 ghost use Rattle.cert_rows.specs.Fitting.{AreSmall};
-ghost use Rattle.cert_rows.specs.Parts.{param_from, site_of, site_from};
+ghost use Rattle.cert_rows.specs.Parts.{param_from, made_from, site_of, site_from};
 ghost use Rattle.cert_rows.specs.Reading.{Reads};
 ghost use Rattle.cert_rows.specs.Spelling.{site_bytes};
 
-use crate::RowFault;
-use crate::contexts::{ctx_from, node_from, put_ctx, put_node};
+use crate::contexts::{ctx_from, node_from, put_ctx, put_node, two_from};
 use crate::numbers::{byte_from, put_u4, u4_from};
+use crate::{RowFault, Set};
 use fact_rows::Site;
 use vet_base::Memory;
 
@@ -21,10 +21,22 @@ fn param_from(bytes: &[u8]) -> Result<(Site, &[u8]), RowFault>
     Ok((Site::Param(ctx, position), rest))
 }
 
+/// A method and an address, in whatever context.
+#[tactic(auto, unfolding(crate::specs::Parts::made_from), using(vet_base::proofs::Scripts::run_bind))]
+fn made_from(set: Set, bytes: &[u8]) -> Result<(Site, &[u8]), RowFault>
+    ensures { Reads (λ x. (x.0, x.1.now)) result (made_from set bytes.now) }
+{
+    if !set.is_cells() {
+        return Err(RowFault::Bad);
+    }
+    let ((method, pc), rest) = two_from(bytes)?;
+    Ok((Site::Made(method, pc), rest))
+}
+
 /// A site of the kind.
 #[tactic(auto, unfolding(crate::specs::Parts::site_of), using(vet_base::proofs::Scripts::run_bind))]
-fn site_of(kind: u8, bytes: &[u8]) -> Result<(Site, &[u8]), RowFault>
-    ensures { Reads (λ x. (x.0, x.1.now)) result (site_of kind bytes.now) }
+fn site_of(set: Set, kind: u8, bytes: &[u8]) -> Result<(Site, &[u8]), RowFault>
+    ensures { Reads (λ x. (x.0, x.1.now)) result (site_of set kind bytes.now) }
 {
     match kind {
         0 => {
@@ -40,16 +52,17 @@ fn site_of(kind: u8, bytes: &[u8]) -> Result<(Site, &[u8]), RowFault>
             let (shared, rest) = u4_from(bytes)?;
             Ok((Site::Shared(shared), rest))
         }
+        4 => made_from(set, bytes),
         _ => Err(RowFault::Bad),
     }
 }
 
 #[tactic(auto, unfolding(crate::specs::Parts::site_from), using(vet_base::proofs::Scripts::run_bind))]
-pub fn site_from(bytes: &[u8]) -> Result<(Site, &[u8]), RowFault>
-    ensures { Reads (λ x. (x.0, x.1.now)) result (site_from bytes.now) }
+pub fn site_from(set: Set, bytes: &[u8]) -> Result<(Site, &[u8]), RowFault>
+    ensures { Reads (λ x. (x.0, x.1.now)) result (site_from set bytes.now) }
 {
     let (kind, rest) = byte_from(bytes)?;
-    site_of(kind, rest)
+    site_of(set, kind, rest)
 }
 
 #[tactic(auto, unfolding(crate::specs::Spelling::site_bytes))]

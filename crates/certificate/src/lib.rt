@@ -1,10 +1,12 @@
-//! Certificates: a table of rows and the digest of the files that it is about, as bytes of one spelling.
+//! Certificates: a table of rows, by which set of rules it is made, and the digest of the files that it is about, as
+//! bytes of one spelling.
 #![tactic(auto)]
 
 mod cert;
 mod digest;
 mod fault;
 mod law;
+mod magic_bytes;
 mod read;
 mod write;
 

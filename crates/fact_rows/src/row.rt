@@ -57,7 +57,7 @@ pub enum Row {
     /// At the node the summary may be used.
     Uses(Node, SummaryId),
     /// At the node the register's value may have the label itself. This kind and the next four say labels
-    /// of values and not of paths; no rule of the first set concludes them, and no certificate has them.
+    /// of values and not of paths: rules and certificates of the second set have them, of the first none.
     Label(Node, u32, u8),
     /// The static's value may have the label itself.
     StaticLabel(u32, u8),

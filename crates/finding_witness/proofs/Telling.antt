@@ -1,6 +1,7 @@
 -- What does not tell a finding first, and what are no stories.
 use Rattle.std.proofs.Common.{◌≡◌, ℕ, zero, suc, ◌<◌, true, false, List, [], ◌∷◌, Some, slice_get, refl, sym, ap, ◌∙◌, arith}
 use Rattle.std.proofs.lemmas.Option.{same_Some}
+use Rattle.app_flow.specs.declared.flow_rows.FlowTable.{FlowTable}
 use Rattle.app_machine.specs.declared.papers.Declaration.{Declaration}
 use Rattle.app_machine.specs.State.{Arrival}
 use Rattle.fact_rows.specs.declared.context.Ctx.{Ctx}
@@ -11,7 +12,8 @@ use Rattle.flow_story.specs.declared.line.StoryLine.{StoryLine}
 use Rattle.outcomes.specs.declared.outcome.Finding.{Finding}
 use Rattle.outcomes.specs.Findings.{category, declares, names_pair, finding_of, is_undeclared}
 use Rattle.outcomes.specs.Places.{place_in}
-use Rattle.flow_rules.specs.Rules.{Follows, Starts}
+use Rattle.flow_analyses.specs.Analyses.{FollowsBy}
+use Rattle.flow_rules.specs.Rules.{Starts}
 use Rattle.vet_base.specs.Members.{IsAt}
 use Rattle.finding_rows.specs.Arrivals.{IsFirstArrival, AreFirstArrivals, Tells}
 use Rattle.app_stories.specs.Stories.{AreStories, AreStoriesOf}
@@ -67,18 +69,18 @@ later_context first = by_place first.place first.there.there first.before
     by_place zero is before = let e : arrives 1 4 ≡ arrives 2 4 = same_Some (arrives 1 4) (arrives 2 4) is in let n : 1 ≡ 2 = ap event_in e in absurd (omega (arith, n))
     by_place (suc place) is before = before 0 (arrives 1 4) (omega arith) (record { there = refl }) (tells_itself 1 4 (free 4))
 
-left_out : (rows : List Row) (story : List StoryLine) → AreStoriesOf no_app two_categories undeclared rows (sent_at 0 ∷ sent_at 4 ∷ []) (story ∷ []) → ⊥
-left_out rows story are = by_goals are.goals are.first are.told
+left_out : (table : FlowTable) (story : List StoryLine) → AreStoriesOf no_app two_categories undeclared table (sent_at 0 ∷ sent_at 4 ∷ []) (story ∷ []) → ⊥
+left_out table story are = by_goals are.goals are.first are.told
   where
-    by_goals : (goals : List Row) → AreFirstArrivals no_app two_categories undeclared rows (sent_at 0 ∷ sent_at 4 ∷ []) goals → AreStories (Follows no_app two_categories) (Starts no_app) goals (story ∷ []) → ⊥
+    by_goals : (goals : List Row) → AreFirstArrivals no_app two_categories undeclared table.rows (sent_at 0 ∷ sent_at 4 ∷ []) goals → AreStories (FollowsBy table.analysis no_app two_categories) (Starts no_app) goals (story ∷ []) → ⊥
     by_goals [] first told = first
     by_goals (a ∷ []) first told = first.1
     by_goals (a ∷ b ∷ goals) first told = told.1
 
-one_more : (rows : List Row) (story : List StoryLine) → AreStoriesOf no_app two_categories undeclared rows [] (story ∷ []) → ⊥
-one_more rows story are = by_goals are.goals are.first are.told
+one_more : (table : FlowTable) (story : List StoryLine) → AreStoriesOf no_app two_categories undeclared table [] (story ∷ []) → ⊥
+one_more table story are = by_goals are.goals are.first are.told
   where
-    by_goals : (goals : List Row) → AreFirstArrivals no_app two_categories undeclared rows [] goals → AreStories (Follows no_app two_categories) (Starts no_app) goals (story ∷ []) → ⊥
+    by_goals : (goals : List Row) → AreFirstArrivals no_app two_categories undeclared table.rows [] goals → AreStories (FollowsBy table.analysis no_app two_categories) (Starts no_app) goals (story ∷ []) → ⊥
     by_goals [] first told = told
     by_goals (a ∷ goals) first told = first
 

@@ -1,6 +1,7 @@
 -- Arrivals in an app without methods: of category 0 at a sink of category 1, at the addresses 0 and 4. Behind each fact
 -- stands what a slip would answer.
 use Rattle.std.specs.Prelude.{ℕ, List, [], ◌∷◌, codes}
+use Rattle.app_flow.specs.declared.flow_rows.FlowTable.{FlowTable}
 use Rattle.app_machine.specs.declared.app.App.{App}
 use Rattle.app_machine.specs.declared.lists.Lists.{Lists}
 use Rattle.app_machine.specs.declared.papers.Declaration.{Declaration}
@@ -65,10 +66,10 @@ pub record FindingsAreTold : Type 0 where
   -- nor one of a declared pair
   pub of_declared : Tells no_app two_categories declared (sent_at 4) (arrives 1 4) → ⊥
   -- two findings have two stories (else one is left out where they share a row)
-  pub left_out : (rows : List Row) (story : List StoryLine) →
-      AreStoriesOf no_app two_categories undeclared rows (sent_at 0 ∷ sent_at 4 ∷ []) (story ∷ []) →
+  pub left_out : (table : FlowTable) (story : List StoryLine) →
+      AreStoriesOf no_app two_categories undeclared table (sent_at 0 ∷ sent_at 4 ∷ []) (story ∷ []) →
       ⊥
   -- and none of no finding (else one too many is told)
-  pub one_more : (rows : List Row) (story : List StoryLine) →
-      AreStoriesOf no_app two_categories undeclared rows [] (story ∷ []) →
+  pub one_more : (table : FlowTable) (story : List StoryLine) →
+      AreStoriesOf no_app two_categories undeclared table [] (story ∷ []) →
       ⊥

@@ -4,12 +4,12 @@
 ghost use Rattle.std.specs.Prelude.{◌≡◌, IfNone, IfOk, IfSome, IsFalse, IsTrue};
 ghost use Rattle.app_machine.specs.Sound.{SoundApp};
 ghost use Rattle.app_machine.specs.SoundLists.{SoundLists};
-ghost use Rattle.flow_rules.specs.Rules.{GoodTable};
+ghost use Rattle.flow_analyses.specs.Analyses.{GoodTableBy};
 ghost use Rattle.outcomes.specs.Within.{AreWithin};
 ghost use Rattle.flow_telling.specs.Told.{told_of, TellsNothing};
 
 use crate::told::{Told, told_by_rows};
-use app_flow::{FlowRows, is_good};
+use app_flow::{FlowRows, FlowTable, is_good};
 use app_model::{App, Declaration, Lists};
 use outcomes::Cause;
 use std::alloc::Global;
@@ -42,23 +42,25 @@ fn may_be_said<T: Threads + Sync, L>(
     alloc: Global,
     app: &App,
     lists: &Lists,
-    rows: &FlowRows,
+    table: &FlowTable,
     told: &Told,
     crew: &Crew<'_, T, L>,
 ) -> Result<bool, Memory>
     requires sound { SoundApp app.now }
     requires lists { SoundLists lists.now }
-    ensures nothing { IfOk result (λ may. IsTrue may → TellsNothing told.now → GoodTable app.now lists.now rows.now) }
-    ensures refused { IfOk result (λ may. IsFalse may → GoodTable app.now lists.now rows.now → ⊥) }
+    ensures nothing { IfOk result (λ may. IsTrue may → TellsNothing told.now → GoodTableBy table.now.analysis app.now
+        lists.now table.now.rows) }
+    ensures refused { IfOk result (λ may. IsFalse may → GoodTableBy table.now.analysis app.now lists.now table.now.rows
+        → ⊥) }
 {
     if told.causes.is_empty() && told.findings.is_empty() {
-        is_good(alloc, app, lists, rows, crew)
+        is_good(alloc, app, lists, table, crew)
     } else {
         Ok(true)
     }
 }
 
-/// What the rows of a flow tell of an app, with the causes that stand beside them behind theirs. None only where the
+/// What the table of a flow tells of an app, with the causes that stand beside them behind theirs. None only where the
 /// checker refuses the rows.
 pub fn told_by_flow<T: Threads + Sync, L>(
     alloc: Global,
@@ -66,18 +68,20 @@ pub fn told_by_flow<T: Threads + Sync, L>(
     lists: &Lists,
     declaration: &Declaration,
     beside: Vec<Cause>,
-    rows: &FlowRows,
+    table: &FlowTable,
     crew: &Crew<'_, T, L>,
 ) -> Result<Option<Told>, Memory>
     requires sound { SoundApp app.now }
     requires lists { SoundLists lists.now }
-    requires within { AreWithin app.now rows.now }
+    requires within { AreWithin app.now table.now.rows }
     ensures some { IfOk result (λ found. IfSome found (λ t. t ≡ told_of app.now lists.now declaration.now beside.items
-        rows.now)) }
-    ensures nothing { IfOk result (λ found. IfSome found (λ t. TellsNothing t → GoodTable app.now lists.now rows.now)) }
-    ensures none { IfOk result (λ found. IfNone found (GoodTable app.now lists.now rows.now → ⊥)) }
+        table.now.rows)) }
+    ensures nothing { IfOk result (λ found. IfSome found (λ t. TellsNothing t → GoodTableBy table.now.analysis app.now
+        lists.now table.now.rows)) }
+    ensures none { IfOk result (λ found. IfNone found (GoodTableBy table.now.analysis app.now lists.now table.now.rows
+        → ⊥)) }
 {
-    let told = told_by_telling(alloc, app, lists, declaration, beside, rows)?;
-    let may = may_be_said(alloc, app, lists, rows, &told, crew)?;
+    let told = told_by_telling(alloc, app, lists, declaration, beside, &table.rows)?;
+    let may = may_be_said(alloc, app, lists, table, &told, crew)?;
     if may { Ok(Some(told)) } else { Ok(None) }
 }

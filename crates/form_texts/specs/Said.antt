@@ -15,7 +15,7 @@ abbrev pub manifest_of : SaidManifest → AppManifest
 manifest_of said = record { manifest = said.manifest; named = said.named }
 
 abbrev pub lists_of : SaidLists → StoreLists
-lists_of said = record { lists = said.lists; device = said.device }
+lists_of said = record { lists = said.lists; device = said.device; large = said.large }
 
 -- the text is a manifest that says this
 pub record SaysManifest (text : List ℕ) (said : SaidManifest) : Type 0 where

@@ -10,7 +10,7 @@ ghost use Rattle.form_texts.specs.Said.{manifest_of, lists_of};
 use crate::Kept;
 use app_machine::{Lists, Manifest};
 use device_lists::DeviceLists;
-use office_forms::{AppManifest, FormFault, StoreLists, read_lists, read_manifest};
+use office_forms::{AppManifest, FormFault, Large, StoreLists, read_lists, read_manifest};
 use std::alloc::Global;
 use vet_base::{Memory, Name, Seq};
 
@@ -30,6 +30,8 @@ pub struct SaidLists {
     pub lists: Kept<Lists>,
     /// Of a device.
     pub device: Kept<DeviceLists>,
+    /// How an app is judged of which more rows follow than the lists allow.
+    pub large: Option<Large>,
 }
 
 fn kept_manifest(alloc: Global, read: AppManifest) -> Result<SaidManifest, Memory>
@@ -44,10 +46,18 @@ fn kept_manifest(alloc: Global, read: AppManifest) -> Result<SaidManifest, Memor
 fn kept_lists(alloc: Global, read: StoreLists) -> Result<SaidLists, Memory>
     ensures { IfOk result (λ said. lists_of said ≡ read) }
 {
-    let StoreLists { lists, device } = read;
+    let StoreLists {
+        lists,
+        device,
+        large,
+    } = read;
     let lists = Kept::new(alloc, lists)?;
     let device = Kept::new(alloc, device)?;
-    Ok(SaidLists { lists, device })
+    Ok(SaidLists {
+        lists,
+        device,
+        large,
+    })
 }
 
 /// What the text of a manifest says, which is read for that.
@@ -101,6 +111,10 @@ impl SaidLists {
     {
         let lists = self.lists.copy()?;
         let device = self.device.copy()?;
-        Ok(SaidLists { lists, device })
+        Ok(SaidLists {
+            lists,
+            device,
+            large: self.large,
+        })
     }
 }

@@ -1,3 +1,4 @@
 pub mod Reading
 pub mod ReadingDevice
+pub mod ReadingLarge
 pub mod ReadingClient

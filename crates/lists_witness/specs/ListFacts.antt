@@ -1,5 +1,5 @@
 -- How the lists are read from small trees. Behind each fact stands what code would answer that does otherwise.
-use Rattle.std.specs.Prelude.{◌≡◌, false, pos, [], ◌∷◌, Some, codes, Ok, Err}
+use Rattle.std.specs.Prelude.{◌≡◌, false, pos, [], ◌∷◌, Some, None, codes, Ok, Err}
 use Rattle.toml.specs.Data.{Data, string, integer, Members}
 use Rattle.vet_base.specs.Script.{run}
 use Rattle.app_machine.specs.Names.{Name}
@@ -80,6 +80,7 @@ pub record ReadsLists : Type 0 where
       statics = [];
     };
     device = record { strict = false; platform = []; bundled = [] };
+    large = None;
   })
   -- positions that are no list are wrong; where the type is tested at another key, they are out of range, as there is no sink
   pub positions_type : run (lists_form of_strange_positions) ≡ Err (Wrong section.Method key.Positions)

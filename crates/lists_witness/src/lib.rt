@@ -5,6 +5,7 @@
 
 ghost use Rattle.lists_witness.specs.ClientFacts.{ClientIsRead};
 ghost use Rattle.lists_witness.specs.DeviceFacts.{DeviceIsRead};
+ghost use Rattle.lists_witness.specs.LargeFacts.{LargeIsRead};
 ghost use Rattle.lists_witness.specs.ListFacts.{ListsAreRead};
 ghost use Rattle.lists_witness.specs.OfficeFacts.{OfficeIsRead};
 
@@ -18,6 +19,12 @@ pub fn the_lists_are_read()
 /// say so, and a static field stands once and has a type.
 pub fn the_device_is_read()
     ensures { DeviceIsRead }
+{}
+
+/// For large apps there is one word, or none: any other text, and what is no text, is wrong. It is tested behind the
+/// static fields and before the tables of the arrays.
+pub fn the_large_word_is_read()
+    ensures { LargeIsRead }
 {}
 
 /// No port is 0, a role is the one that its word says, and a token that stands twice is told by the

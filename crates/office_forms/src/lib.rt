@@ -14,4 +14,4 @@ pub use law::one_form_or_fault;
 pub use layouts::read_layouts;
 pub use manifest::{AppManifest, read_manifest};
 pub use office::read_office;
-pub use store_lists::{StoreLists, read_lists};
+pub use store_lists::{Large, StoreLists, read_lists};

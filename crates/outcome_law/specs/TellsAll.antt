@@ -3,6 +3,7 @@ use Rattle.std.specs.Prelude.{List}
 use Rattle.app_machine.specs.Sound.{SoundApp}
 use Rattle.app_machine.specs.SoundLists.{SoundLists}
 use Rattle.fact_rows.specs.declared.row.Row.{Row}
+use Rattle.flow_analyses.specs.declared.Analysis.{Analysis}
 use Rattle.verdict.specs.declared.linking.Linked.{Linked}
 use Rattle.verdict.specs.declared.outcome.Outcome.{Outcome}
 use Rattle.verdict.specs.declared.outcome.Rechecked.{Rechecked}
@@ -19,4 +20,4 @@ pub record EachOutcomeTellsAll : Type 0 where
       → (outcome : Outcome) → Verdict parts outcome → IsFollowed outcome → TellsOfApp parts outcome
   pub recheck :
       (parts : Parts) (linked : Linked) → IsLinked parts linked → SoundApp linked.app → SoundLists linked.papers.lists
-      → (rows : List Row) (r : Rechecked) → Rejudgement parts rows r → TellsBy parts r
+      → (analysis : Analysis) (rows : List Row) (r : Rechecked) → Rejudgement parts analysis rows r → TellsBy parts r

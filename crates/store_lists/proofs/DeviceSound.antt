@@ -16,6 +16,7 @@ use Rattle.method_fields.specs.Positions.{flag_at}
 use Rattle.store_lists.specs.declared.device.DeviceKeys.{DeviceKeys}
 use Rattle.store_lists.specs.declared.lists.StoreLists.{StoreLists}
 use Rattle.store_lists.specs.Device.{are_counted, prefixes_at, device_at}
+use Rattle.store_lists.specs.Large.{large_at}
 use Rattle.store_lists.specs.Lists.{categories_at, all_rows, arrays_at, lists_form}
 use Rattle.store_lists.specs.Spelled.{SoundDevice}
 use Rattle.form_fields.proofs.Yields.{Yields, yields_value, yields_tested, yields_then, yields_past, yields_both}
@@ -64,13 +65,14 @@ device_sound t =
     (λ most. yields_past _ (categories_at t) _
     (λ categories. yields_past _ (arrays_at t) _
     (λ arrays. yields_then SoundKeys _ (device_at t) _ (keys_sound t)
-    (λ device sound. yields_past _ (all_rows categories arrays device.1) _
+    (λ device sound. yields_past _ (large_at t) _
+    (λ large. yields_past _ (all_rows categories arrays device.1) _
     (λ all. yields_value _ _ (record {
       few_platform = sound.platform.0;
       few_bundled = sound.bundled.0;
       platform = sound.platform.1;
       bundled = sound.bundled.1;
-    })))))))
+    }))))))))
 
 pub sound_device : (t : Members) (d : StoreLists) → run (lists_form t) ≡ Ok d → SoundDevice d.device
 sound_device t d e = (device_sound t).at d e

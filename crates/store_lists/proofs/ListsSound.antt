@@ -32,6 +32,7 @@ use Rattle.method_fields.specs.Signature.{type_at}
 use Rattle.store_lists.specs.Methods.{sink_at, signature_at, summary_of, method_row, methods_of}
 use Rattle.store_lists.specs.Callbacks.{called_at, callback_of, callback_at, callback_row, callbacks_of}
 use Rattle.store_lists.specs.Device.{device_at, static_at, static_row, statics_of}
+use Rattle.store_lists.specs.Large.{large_at}
 use Rattle.store_lists.specs.Lists.{are_categories, categories_at, shared_object, shared_row, shared_of, rows_of, rows_once, all_rows, arrays_at, lists_form}
 use Rattle.app_machine.specs.SoundLists.{SoundGives, TwoPositions, NamedPosition, SoundSink, SoundClass, SoundSummary, SoundCallback, SoundStatic, SoundLists}
 use Rattle.form_fields.proofs.Yields.{Yields, yields_value, yields_tested, yields_then, yields_past, yields_each}
@@ -300,7 +301,8 @@ lists_sound t =
     (λ most within. yields_then _ _ (categories_at t) _ (categories_few t)
     (λ categories named. yields_then _ _ (arrays_at t) _ (arrays_few t)
     (λ arrays few. yields_then (λ x. length x.1 ≤ 65536) _ (device_at t) _ (static_tables_few t)
-    (λ device few_statics. yields_then _ _ (all_rows categories arrays device.1) _
+    (λ device few_statics. yields_past _ (large_at t) _
+    (λ large. yields_then _ _ (all_rows categories arrays device.1) _
     (all_yields _ categories arrays device.1 (rows_counted categories arrays.0.0 arrays.0.1 arrays.1.0 arrays.1.1))
     (λ all counted. yields_value _ _ (record {
       one_row = within.0;
@@ -316,7 +318,7 @@ lists_sound t =
       methods = subst (λ (n : ℕ). All (SoundSummary n (length all.rows.shared)) all.rows.methods.rows) (sym (ap length counted.0.same)) counted.0.sound_methods;
       callbacks = subst (λ (n : ℕ). All (SoundCallback n) all.rows.callbacks.rows) (sym (ap length counted.0.same)) counted.0.sound_callbacks;
       statics = counted.1.sound;
-    })))))))
+    }))))))))
 
 pub sound_lists : (t : Members) (d : StoreLists) → run (lists_form t) ≡ Ok d → SoundLists d.lists
 sound_lists t d e = (lists_sound t).at d e

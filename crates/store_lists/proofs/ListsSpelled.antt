@@ -32,6 +32,7 @@ use Rattle.method_fields.specs.Signature.{proto_at}
 use Rattle.store_lists.specs.Methods.{sink_at, is_listed, listed_class, signature_at, summary_of, method_row, methods_of}
 use Rattle.store_lists.specs.Callbacks.{called_at, callback_of, callback_at, callback_row, callbacks_of}
 use Rattle.store_lists.specs.Device.{device_at, statics_of}
+use Rattle.store_lists.specs.Large.{large_at}
 use Rattle.store_lists.specs.Lists.{are_categories, categories_at, shared_object, shared_row, shared_of, rows_of, rows_once, all_rows, arrays_at, lists_form}
 use Rattle.method_fields.specs.Spelled.{SpelledProto}
 use Rattle.store_lists.specs.Spelled.{SpelledClass, SpelledShared, SpelledMethod, SpelledLists}
@@ -232,7 +233,8 @@ lists_spelled t =
     (λ most. yields_then (All (Fits spelling.Category)) _ (categories_at t) _ (categories_spelled t)
     (λ categories named. yields_past _ (arrays_at t) _
     (λ arrays. yields_past _ (device_at t) _
-    (λ device. yields_then (λ x. SpelledRows categories x.rows × StaticsCounted (length x.rows.listed.categories) (0 + length device.1) x.statics) _ (all_rows categories arrays device.1) _
+    (λ device. yields_past _ (large_at t) _
+    (λ large. yields_then (λ x. SpelledRows categories x.rows × StaticsCounted (length x.rows.listed.categories) (0 + length device.1) x.statics) _ (all_rows categories arrays device.1) _
     (all_yields (SpelledRows categories) categories arrays device.1 (rows_spelled categories arrays.0.0 arrays.0.1 arrays.1.0 arrays.1.1))
     (λ all spelled. yields_value _ _ (record {
       categories = subst (λ (names : List Name). All (Fits spelling.Category) names) (sym spelled.0.same) named;
@@ -240,7 +242,7 @@ lists_spelled t =
       shared = spelled.0.shared;
       methods = spelled.0.methods;
       callbacks = spelled.0.callbacks;
-    })))))))
+    }))))))))
 
 pub spelled_lists : (t : Members) (d : StoreLists) → run (lists_form t) ≡ Ok d → SpelledLists d.lists
 spelled_lists t d e = (lists_spelled t).at d e

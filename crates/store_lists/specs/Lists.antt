@@ -1,4 +1,4 @@
--- The lists of the office: the limit of rows, the categories, what is said of the library, and what of a device.
+-- The lists of the office: the limit of rows, the categories, what is said of the library, what of a device, and what of large apps.
 use Rattle.std.specs.Prelude.{◌==◌, ◌&&◌, nat_le, Bool, List, [], ◌∷◌, ◌++◌, length, map}
 use Rattle.toml.specs.Data.{Data, Members}
 use Rattle.vet_base.specs.Script.{Script, Value, ◌>>=◌, test, each}
@@ -21,6 +21,7 @@ use Rattle.method_fields.specs.Signature.{keys_once}
 use Rattle.store_lists.specs.Methods.{methods_of}
 use Rattle.store_lists.specs.Callbacks.{callbacks_of}
 use Rattle.store_lists.specs.Device.{device_at, statics_of}
+use Rattle.store_lists.specs.Large.{large_at}
 
 -- one category at least, and none of them twice
 unfoldable pub are_categories : List Name → List Name → Bool
@@ -100,8 +101,10 @@ lists_form t = do
   categories ← categories_at t
   arrays ← arrays_at t
   device ← device_at t
+  large ← large_at t
   all ← all_rows categories arrays device.1
   Value (record {
     lists = record { rows = most; categories = all.rows.listed.categories; classes = all.rows.classes; shared = all.rows.shared; methods = all.rows.methods.rows; callbacks = all.rows.callbacks.rows; statics = all.statics.rows };
     device = record { strict = device.0.strict; platform = device.0.platform; bundled = device.0.bundled };
+    large = large;
   })

@@ -1,4 +1,5 @@
-//! The lists of the office: categories, classes, shared objects, methods and callbacks; and what is said of a device.
+//! The lists of the office: categories, classes, shared objects, methods and callbacks; what is said of a device, and
+//! how large apps are judged.
 ghost use Rattle.std.specs.Prelude.{◌≡◌, ◌≢◌, ◌≤◌, ◌+◌, ◌++◌, ◌∷◌, [], IsTrue, IfOk, IfErr, length, map};
 ghost use Rattle.form_fields.specs.Form.{IsForm, FirstFormFault};
 ghost use Rattle.store_lists.specs.Lists.{are_categories, categories_at, shared_object, shared_row};
@@ -11,6 +12,7 @@ ghost use Rattle.vet_base.specs.Script.{Gives};
 use crate::callbacks::{CallbackRows, callbacks_of};
 use crate::classes::{classes_of, with_name};
 use crate::device::{DeviceKeys, StaticRows, device_at, statics_of};
+use crate::large::{Large, large_at};
 use crate::methods::{Listed, MethodRows, methods_of};
 use app_machine::{LibClass, Lists};
 use device_lists::DeviceLists;
@@ -30,6 +32,8 @@ pub struct StoreLists {
     pub lists: Lists,
     /// Of a device.
     pub device: DeviceLists,
+    /// How an app is judged of which more rows follow than the lists allow; as too large, where nothing is said.
+    pub large: Option<Large>,
 }
 
 /// Reads the lists of the office: the number `rows` from 1 to 4,000,000, the list `categories` of
@@ -46,7 +50,8 @@ pub struct StoreLists {
 /// may have a `source`.
 ///
 /// Of a device they say by `strict`, `false` where it is missing, and by the lists `platform` and
-/// `bundled` of at most 4,096 beginnings of class descriptors, none twice and none in both.
+/// `bundled` of at most 4,096 beginnings of class descriptors, none twice and none in both. Of large apps they may say
+/// `large`, whose one word is `cells`.
 #[tactic(auto, using(form_fields::proofs::Forms::is_form, form_fields::proofs::Forms::is_fault, form_fields::proofs::Forms::is_unread))]
 pub fn read_lists(alloc: Global, text: &[u8]) -> Result<StoreLists, FormFault>
     ensures ok { IfOk result (λ d. IsForm lists_form text.now d) }
@@ -74,6 +79,7 @@ fn lists_in(alloc: Global, tree: &Table) -> Result<StoreLists, Stop<Fault>>
     let categories = categories_at(alloc, tree)?;
     let ((classes, shared), (methods, callbacks)) = arrays_at(tree)?;
     let (keys, static_tables) = device_at(alloc, tree)?;
+    let large = large_at(tree)?;
     let AllRows { rows, statics } = all_rows(
         alloc,
         categories,
@@ -86,6 +92,7 @@ fn lists_in(alloc: Global, tree: &Table) -> Result<StoreLists, Stop<Fault>>
     Ok(StoreLists {
         lists: lists_of(most, rows, statics),
         device: device_of(keys),
+        large,
     })
 }
 

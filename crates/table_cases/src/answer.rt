@@ -17,10 +17,10 @@ pub fn answer_to(alloc: Global, bytes: &[u8]) -> Result<String, AllocError> {
 }
 
 fn written(alloc: Global, cert: &Cert, bytes: &[u8]) -> Result<String, AllocError>
-    requires is { IsCert bytes.now cert.now.digest cert.now.rows }
-    requires known { All IsKnown cert.now.rows }
+    requires is { IsCert bytes.now cert.now.set cert.now.digest cert.now.rows }
+    requires known { All (IsKnown cert.now.set) cert.now.rows }
 {
-    match write_cert(alloc, &cert.digest, cert.rows.as_slice()) {
+    match write_cert(alloc, cert.set, &cert.digest, cert.rows.as_slice()) {
         Ok(again) if again.as_slice() == bytes => format!(in alloc; "ok"),
         Ok(_) => format!(in alloc; "written otherwise"),
         Err(_) => format!(in alloc; "memory"),

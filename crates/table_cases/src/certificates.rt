@@ -41,5 +41,7 @@ fn cases<R: Files + Print + AllocGlobal>(rt: &R, certificate: &str, name: &str) 
 pub fn all<R: Files + Print + AllocGlobal>(rt: &R) -> io::Result<()> {
     cases(rt, "unlisted_call.cert", "unlisted_call.txt")?;
     cases(rt, "each_kind.cert", "each_kind.txt")?;
-    cases(rt, "each_kind.cert", "spelled.txt")
+    cases(rt, "each_cell_kind.cert", "each_cell_kind.txt")?;
+    cases(rt, "each_kind.cert", "spelled.txt")?;
+    cases(rt, "each_cell_kind.cert", "cells.txt")
 }

@@ -1,20 +1,13 @@
 -- Parts of which the verdict is clear make a safe app.
-use Rattle.std.proofs.Common.{◌≡◌, List, refl, sym, ap, subst}
+use Rattle.std.proofs.Common.{◌≡◌, refl, sym, ap, subst}
 use Rattle.app_machine.specs.declared.app.App.{App}
 use Rattle.app_machine.specs.declared.lists.Lists.{Lists}
 use Rattle.app_machine.specs.Sound.{SoundApp}
 use Rattle.app_machine.specs.SoundLists.{SoundLists}
-use Rattle.app_flow.specs.declared.flow.Flow.{Flow}
-use Rattle.app_flow.specs.declared.flow.Flow.TheVariants.{Rows, TooLarge}
-use Rattle.app_flow.specs.Flow.{AreDerivable, IsFlow, all_rows, too_large, IsGoodFlow}
-use Rattle.app_flow.proofs.Accepting.{each_there}
-use Rattle.fact_rows.specs.declared.row.Row.{Row}
-use Rattle.flow_proof.specs.Covering.{EveryGoodTableCoversEveryRun}
-use Rattle.flow_proof.specs.Staying.{RulesStayInApp}
-use Rattle.flow_rules.specs.Rules.{Derivable, GoodTable}
+use Rattle.app_flow.specs.Flow.{IsGoodFlow}
+use Rattle.app_flow.proofs.Found.{flow_is_good}
+use Rattle.flow_analyses.specs.Laws.{AllDerivedRowsAreGood, EachGoodTableCovers}
 use Rattle.outcomes.specs.NothingLeftOut.{EachIsFound, EachIsNamed}
-use Rattle.rule_sets.specs.OfApp.{StartsAreDerivable, DerivableRowsAreClosed}
-use Rattle.vet_base.specs.Members.{In}
 use Rattle.verdict.specs.declared.linking.Linked.{Linked}
 use Rattle.verdict.specs.declared.outcome.Judged.{Judged}
 use Rattle.verdict.specs.declared.outcome.Outcome.TheVariants.{Clear, Refused}
@@ -29,21 +22,7 @@ use Rattle.verdict.specs.Verdict.{Judgement, refused, linked, told_beside, IsSaf
 use Rattle.verdict.proofs.OneVerdict.{as_read}
 use Rattle.verdict.proofs.Outcomes.{flow_tells, clear_is_safe}
 
-module _ (starting : StartsAreDerivable) (closing : DerivableRowsAreClosed) (stay : RulesStayInApp) (app : App) (lists : Lists) (sound : SoundApp app) (sound_lists : SoundLists lists) where
-  -- the derivable rows are a good table
-  derivable_is_good : (rows : List Row) → AreDerivable app lists rows → GoodTable app lists rows
-  derivable_is_good rows are = record {
-    in_app = λ row there. (stay app lists sound sound_lists).derivable row ((are.exact row).0 there);
-    starts = λ row start. (are.exact row).1 (starting app lists row start);
-    closed = λ rule premises row follows known. (are.exact row).1 (closing app lists rule premises row follows
-        (each_there (λ x. In x rows) (Derivable app lists) (λ x. (are.exact x).0) premises known));
-  }
-
-  flow_is_good : (flow : Flow) → IsFlow app lists flow → IsGoodFlow app lists flow
-  flow_is_good (Rows rows) (all_rows are few) = derivable_is_good rows are
-  flow_is_good (TooLarge limit) (too_large same more) = tt
-
-module _ (laws : LowerLaws) (found : EachIsFound) (named : EachIsNamed) (covers : EveryGoodTableCoversEveryRun) (starting : StartsAreDerivable) (closing : DerivableRowsAreClosed) (stay : RulesStayInApp) where
+module _ (laws : LowerLaws) (found : EachIsFound) (named : EachIsNamed) (covers : EachGoodTableCovers) (whole : AllDerivedRowsAreGood) where
   safe_of : (parts : Parts) (l : Linked) (j : Judged) → IsLinked parts l → SoundApp l.app → SoundLists l.papers.lists → Judgement parts j → j.outcome ≡ Clear → IsSafeApp parts
   safe_of parts l _ is sound sound_lists (refused part why refuses) clear = let bad : Refused part why ≡ Clear = clear in absurd cc
   safe_of parts l j is sound sound_lists (linked papers dexes app reads is_app comes) clear =
@@ -52,7 +31,7 @@ module _ (laws : LowerLaws) (found : EachIsFound) (named : EachIsNamed) (covers 
       ap (λ (ls : StoreLists). ls.lists) ((laws.forms.lists parts.lists).one_form (lists_of papers) (lists_of l.papers) reads.forms.lists is.reads.forms.lists) in
       let app_sound : SoundApp app = subst SoundApp (sym same) sound in
       let lists_sound : SoundLists papers.lists = subst SoundLists (sym same_lists) sound_lists in
-      let good : IsGoodFlow app papers.lists comes.flow = flow_is_good starting closing stay app papers.lists app_sound lists_sound comes.flow comes.is_flow in
+      let good : IsGoodFlow app papers.lists comes.flow = flow_is_good whole app papers.lists papers.large app_sound lists_sound comes.flow comes.is_flow in
       let told : IsFollowed j.outcome → TellsOfApp parts j.outcome = λ followed. record {
         papers = papers;
         dexes = dexes;

@@ -68,11 +68,11 @@ abbrev OneApp : Parts → Type 0
 OneApp parts = (papers : Papers) (dexes : List Dex) (a b : App) → Reads parts papers dexes → IsApp dexes papers.manifest papers.layouts a → IsApp dexes papers.manifest papers.layouts b → a ≡ b
 
 abbrev papers_of : AppManifest → Layouts → Declaration → StoreLists → Papers
-papers_of m layouts declaration ls = record { manifest = m.manifest; named = m.named; layouts = layouts; declaration = declaration; lists = ls.lists; device = ls.device }
+papers_of m layouts declaration ls = record { manifest = m.manifest; named = m.named; layouts = layouts; declaration = declaration; lists = ls.lists; device = ls.device; large = ls.large }
 
 -- the steps of a judgement, the last first
 abbrev AtFlow : Papers → List Dex → App → Judged → Type 0
-AtFlow papers dexes app o = ComesTo app papers.lists papers.declaration (told_beside papers dexes app) o
+AtFlow papers dexes app o = ComesTo app papers.lists papers.large papers.declaration (told_beside papers dexes app) o
 
 abbrev BadLink : Papers → List Dex → Judged → Type 0
 BadLink papers dexes o = (fault : LinkFault) × FirstLinkFault dexes papers.manifest papers.layouts fault × (o ≡ refusal part.App (reason.Link fault))
@@ -133,7 +133,7 @@ module _ (laws : LowerLaws) (parts : Parts) where
 
   -- each step has one judgement
   one_flow : (papers : Papers) (dexes : List Dex) (app : App) (o p : Judged) → AtFlow papers dexes app o → AtFlow papers dexes app p → o ≡ p
-  one_flow papers dexes app o p a b = a.same ∙ (ap (judged_by app papers.lists papers.declaration (told_beside papers dexes app)) (laws.flows app papers.lists a.flow b.flow a.is_flow b.is_flow) ∙ sym b.same)
+  one_flow papers dexes app o p a b = a.same ∙ (ap (judged_by app papers.lists papers.declaration (told_beside papers dexes app)) (laws.flows app papers.lists papers.large a.flow b.flow a.is_flow b.is_flow) ∙ sym b.same)
 
   module _ (one_app : OneApp parts) where
     one_link : (papers : Papers) (dexes : List Dex) → Reads parts papers dexes → (o p : Judged) → AtLink papers dexes o → AtLink papers dexes p → o ≡ p

@@ -10,12 +10,17 @@ use Rattle.app_machine.specs.Sound.{SoundApp}
 use Rattle.app_machine.specs.State.{Arrival}
 use Rattle.app_flow.specs.declared.flow.Flow.{Flow}
 use Rattle.app_flow.specs.declared.flow.Flow.TheVariants.{Rows, TooLarge}
+use Rattle.app_flow.specs.declared.flow_rows.FlowTable.{FlowTable}
 use Rattle.app_flow.specs.Flow.{IsGoodFlow}
+use Rattle.fact_rows.specs.declared.context.Node.{Node}
 use Rattle.fact_rows.specs.declared.row.Row.{Row}
 use Rattle.fact_rows.specs.declared.row.Row.TheVariants.{Arrive, Unknown}
-use Rattle.fact_rows.specs.InApp.{InApp}
-use Rattle.flow_proof.specs.Covering.{CoversEveryRun, EveryGoodTableCoversEveryRun, InSomeContext}
-use Rattle.flow_rules.specs.Rules.{GoodTable}
+use Rattle.fact_rows.specs.InApp.{CauseIn}
+use Rattle.flow_analyses.specs.declared.Analysis.{Analysis}
+use Rattle.flow_analyses.specs.declared.Analysis.TheVariants.{Paths, Cells}
+use Rattle.flow_analyses.specs.Analyses.{GoodTableBy, InAppBy}
+use Rattle.flow_analyses.specs.Laws.{EachGoodTableCovers}
+use Rattle.flow_proof.specs.Covering.{CoversEveryRun, InSomeContext}
 use Rattle.flow_telling.specs.declared.told.Told.{Told}
 use Rattle.flow_telling.specs.Told.{told_of, TellsNothing}
 use Rattle.outcomes.specs.declared.outcome.Cause.{Cause}
@@ -44,16 +49,25 @@ use Rattle.verdict.specs.Tells.{IsFollowed, TellsAll, TellsOfApp}
 use Rattle.verdict.specs.Verdict.{ComesTo, Judgement, refused, linked, refusal, IsSafeApp, judged_by, told_beside}
 
 -- a row in the app names methods of the app
-is_within : (app : App) (lists : Lists) (row : Row) → InApp app lists row → IsWithin app row
-is_within app lists (Arrive label sink n) fields = fields.1.1.0.activation.method
-is_within app lists (Unknown n cause) fields = fields.0.activation.method
-is_within app lists _ fields = tt
+is_within : (analysis : Analysis) (app : App) (lists : Lists) (row : Row) → InAppBy analysis app lists row → IsWithin app row
+is_within Paths app lists (Arrive label sink n) fields = fields.1.1.0.activation.method
+is_within Cells app lists (Arrive label sink n) fields = fields.1.1.0.activation.method
+is_within Paths app lists (Unknown n cause) fields = fields.0.activation.method
+is_within Cells app lists (Unknown n cause) fields = fields.0.activation.method
+is_within analysis app lists _ fields = tt
 
-pub good_is_within : (app : App) (lists : Lists) (rows : List Row) → IsGoodFlow app lists (Rows rows) → AreWithin app rows
-good_is_within app lists rows good row there = is_within app lists row (good.in_app row there)
+-- and its cause is one of those that there are
+cause_in : (analysis : Analysis) (app : App) (lists : Lists) (n : Node) (cause : ℕ) → InAppBy analysis app lists (Unknown n cause) → CauseIn cause
+cause_in Paths app lists n cause fields = fields.1.0
+cause_in Cells app lists n cause fields = fields.1.0
 
-pub flow_is_within : (app : App) (lists : Lists) (flow : Flow) → IsGoodFlow app lists flow → (rows : List Row) → flow ≡ Rows rows → AreWithin app rows
-flow_is_within app lists flow good rows is = good_is_within app lists rows (subst (IsGoodFlow app lists) is good)
+pub good_is_within : (analysis : Analysis) (app : App) (lists : Lists) (rows : List Row) → GoodTableBy analysis app lists rows → AreWithin app rows
+good_is_within analysis app lists rows good row there = is_within analysis app lists row (good.in_app row there)
+
+pub flow_is_within : (app : App) (lists : Lists) (flow : Flow) → IsGoodFlow app lists flow → (table : FlowTable) → flow ≡ Rows table → AreWithin app table.rows
+flow_is_within app lists flow good table is =
+    let of_table : IsGoodFlow app lists (Rows table) = subst (IsGoodFlow app lists) is good in
+    good_is_within table.analysis app lists table.rows of_table
 
 -- what is not there is refused, so it is not good
 pub never_refused : {T : Type 0} (found : Option T) (Good : Type 0) → IfNone found (Good → ⊥) → found ≡ None → Good → ⊥
@@ -65,10 +79,10 @@ pub judged_there : (app : App) (lists : Lists) (declaration : Declaration) (besi
 judged_there app lists declaration beside flow found j same is = subst (λ (o : Option Judged). IfSome o (λ k. k ≡ judged_by app lists declaration beside flow)) is same
 
 -- an outcome by what rows tell is that of the rows, and where it is clear they tell nothing
-pub judged_as_told : (app : App) (lists : Lists) (declaration : Declaration) (beside : List Cause) (rows : List Row) (told : Told) (outcome : Outcome) → told ≡ told_of app lists declaration beside rows →
-    outcome ≡ outcome_of told.causes told.findings → record { outcome = outcome; table = Some rows } ≡ judged_by app lists declaration beside (Rows rows)
-judged_as_told app lists declaration beside rows told outcome is same =
-    ap (λ (o : Outcome). record { outcome = o; table = Some rows }) (same ∙ ap (λ (t : Told). outcome_of t.causes t.findings) is)
+pub judged_as_told : (app : App) (lists : Lists) (declaration : Declaration) (beside : List Cause) (table : FlowTable) (told : Told) (outcome : Outcome) → told ≡ told_of app lists declaration beside table.rows →
+    outcome ≡ outcome_of told.causes told.findings → record { outcome = outcome; table = Some table } ≡ judged_by app lists declaration beside (Rows table)
+judged_as_told app lists declaration beside table told outcome is same =
+    ap (λ (o : Outcome). record { outcome = o; table = Some table }) (same ∙ ap (λ (t : Told). outcome_of t.causes t.findings) is)
 
 nothing_of : (causes : List Cause) (items : List Finding) → outcome_of causes items ≡ Clear → (causes ≡ []) × (items ≡ [])
 nothing_of [] [] clear = (refl, refl)
@@ -109,30 +123,31 @@ stands_at app rows method pc cause there =
     in_filter_map (place_of app cause) rows (Unknown there.node cause) (place_in app method pc) there.holds (gives ∙ ap (λ (p : Place). Some p) same)
 
 -- the outcome of a good table tells of every run
-pub rows_tell : EachIsFound → EachIsNamed → (app : App) (lists : Lists) (declaration : Declaration) (beside : List Cause) (rows : List Row) → SoundApp app → GoodTable app lists rows → CoversEveryRun app lists (λ row. In row rows)
+pub rows_tell : EachIsFound → EachIsNamed → (analysis : Analysis) (app : App) (lists : Lists) (declaration : Declaration) (beside : List Cause) (rows : List Row) → SoundApp app → GoodTableBy analysis app lists rows → CoversEveryRun app lists (λ row. In row rows)
     → TellsAll app lists declaration (outcome_of (causes_of app rows ++ beside) (findings_of app lists declaration rows))
-rows_tell found named app lists declaration beside rows sound good covers = record {
+rows_tell found named analysis app lists declaration beside rows sound good covers = record {
   arrivals = λ w fs run a is_in.
       let told = found app lists declaration rows sound within a (arrives rows a (covers.arrivals w fs run a is_in)) in
       elim told [ inl declared ↦ inl declared | inr there ↦ inr (subst (In (finding_of app lists a)) (sym (findings_told (causes_of app rows ++ beside) (findings_of app lists declaration rows))) there) ];
   stands = λ w fs run method pc cause stands.
       let there = covers.stands w fs run method pc cause stands in
-      let bounds = (good.in_app (Unknown there.node cause) there.holds).1.0 in
+      let bounds = cause_in analysis app lists there.node cause (good.in_app (Unknown there.node cause) there.holds) in
       subst (In _) (sym (causes_told (causes_of app rows ++ beside) (findings_of app lists declaration rows)))
       (in_front _ (causes_of app rows) beside (named app rows sound within cause bounds.0 bounds.1 (place_in app method pc) (stands_at app rows method pc cause there)));
 }
   where
     within : AreWithin app rows
-    within = good_is_within app lists rows good
+    within = good_is_within analysis app lists rows good
 
-by_flow : EachIsFound → EachIsNamed → EveryGoodTableCoversEveryRun → (app : App) (lists : Lists) (declaration : Declaration) (beside : List Cause) (flow : Flow) → SoundApp app → IsGoodFlow app lists flow
+by_flow : EachIsFound → EachIsNamed → EachGoodTableCovers → (app : App) (lists : Lists) (declaration : Declaration) (beside : List Cause) (flow : Flow) → SoundApp app → IsGoodFlow app lists flow
     → IsFollowed (judged_by app lists declaration beside flow).outcome → TellsAll app lists declaration (judged_by app lists declaration beside flow).outcome
 unfolding causes_too_large
-by_flow found named covers app lists declaration beside (Rows rows) sound good followed = rows_tell found named app lists declaration beside rows sound good (covers app lists rows sound good)
+by_flow found named covers app lists declaration beside (Rows table) sound good followed =
+    rows_tell found named table.analysis app lists declaration beside table.rows sound good (covers table.analysis app lists table.rows sound good)
 by_flow found named covers app lists declaration beside (TooLarge limit) sound good followed =
     absurd (followed.not_too_large limit (in_front (causes.TooLarge limit) (causes_too_large app limit) beside (in_back (causes.TooLarge limit) (providers app ++ layout_classes app) (causes.TooLarge limit ∷ []) (inl refl))))
 
-pub flow_tells : EachIsFound → EachIsNamed → EveryGoodTableCoversEveryRun → (app : App) (lists : Lists) (declaration : Declaration) (beside : List Cause) (flow : Flow) (j : Judged) → SoundApp app → IsGoodFlow app lists flow
+pub flow_tells : EachIsFound → EachIsNamed → EachGoodTableCovers → (app : App) (lists : Lists) (declaration : Declaration) (beside : List Cause) (flow : Flow) (j : Judged) → SoundApp app → IsGoodFlow app lists flow
     → j ≡ judged_by app lists declaration beside flow → IsFollowed j.outcome → TellsAll app lists declaration j.outcome
 flow_tells found named covers app lists declaration beside flow j sound good same followed =
     let told = by_flow found named covers app lists declaration beside flow sound good (subst (λ (k : Judged). IsFollowed k.outcome) same followed) in
@@ -143,9 +158,9 @@ pub as_told : (parts : Parts) (l : Linked) (is : IsLinked parts l) → causes_be
 as_told parts l is = ap (λ (access : Accesses). device_causes l.app access l.papers.lists l.papers.device l.papers.named) is.access
 
 -- what is said of the app is said of the parts
-pub judgement_on : (parts : Parts) (l : Linked) (j : Judged) → IsLinked parts l → ComesTo l.app l.papers.lists l.papers.declaration (causes_beside l) j → Judgement parts j
+pub judgement_on : (parts : Parts) (l : Linked) (j : Judged) → IsLinked parts l → ComesTo l.app l.papers.lists l.papers.large l.papers.declaration (causes_beside l) j → Judgement parts j
 judgement_on parts l j is comes =
-    linked l.papers is.dexes l.app is.reads is.is_app (subst (λ (beside : List Cause). ComesTo l.app l.papers.lists l.papers.declaration beside j) (as_told parts l is) comes)
+    linked l.papers is.dexes l.app is.reads is.is_app (subst (λ (beside : List Cause). ComesTo l.app l.papers.lists l.papers.large l.papers.declaration beside j) (as_told parts l is) comes)
 
 pub tells_of_parts : (parts : Parts) (l : Linked) (outcome : Outcome) → IsLinked parts l → (IsFollowed outcome → TellsAll l.app l.papers.lists l.papers.declaration outcome) → IsFollowed outcome → TellsOfApp parts outcome
 tells_of_parts parts l outcome is tells followed = record { papers = l.papers; dexes = is.dexes; reads = is.reads; app = l.app; is_app = is.is_app; tells = tells followed }

@@ -36,7 +36,7 @@ abbrev pub manifest_of : Papers → AppManifest
 manifest_of papers = record { manifest = papers.manifest; named = papers.named }
 
 abbrev pub lists_of : Papers → StoreLists
-lists_of papers = record { lists = papers.lists; device = papers.device }
+lists_of papers = record { lists = papers.lists; device = papers.device; large = papers.large }
 
 -- what the four forms say
 pub record HasPapers (parts : Parts) (papers : Papers) : Type 0 where

@@ -4,8 +4,8 @@ ghost use Rattle.std.specs.Prelude.{◌≡◌, ◌⊎◌, ◌++◌, IfOk, IfErr,
 ghost use Rattle.app_machine.specs.SoundLists.{SoundLists};
 ghost use Rattle.app_machine.specs.Sound.{SoundApp};
 ghost use Rattle.app_flow.specs.Flow.{IsFlow, IsGoodFlow};
-ghost use Rattle.fact_rows.specs.declared.row.Row.{Row as FactRow};
-ghost use Rattle.flow_rules.specs.Rules.{GoodTable};
+ghost use Rattle.app_flow.specs.declared.flow_rows.FlowTable.{FlowTable as TableOf};
+ghost use Rattle.flow_analyses.specs.Analyses.{GoodTableBy};
 ghost use Rattle.flow_telling.specs.Told.{told_of, TellsNothing};
 ghost use Rattle.outcomes.specs.Causes.{causes_of};
 ghost use Rattle.outcomes.specs.Findings.{findings_of};
@@ -22,10 +22,10 @@ use crate::laws::lower_laws;
 use crate::linking::{Linked, give_back, linked_parts};
 use crate::papers::Halt;
 use crate::{Cause, Judged, Outcome, Parts};
-use app_flow::{Flow, FlowRows, flow_of};
+use app_flow::{Flow, FlowTable, flow_of};
 use device_causes::device_causes;
 use fact_rows::Row;
-use flow_proof::every_good_table_covers_every_run;
+use flow_analyses::each_good_table_covers_every_run;
 use flow_telling::{Told, told_by_flow, told_by_rows};
 use outcomes::{causes_too_large, nothing_is_left_out};
 use std::alloc::Global;
@@ -84,21 +84,22 @@ pub fn outcome_of_rows(alloc: Global, linked: &Linked, rows: &[Row]) -> Result<O
     Ok(outcome_with(told))
 }
 
-/// What the rows of a flow tell of an app. None only where the checker refuses the rows.
+/// What the table of a flow tells of an app. None only where the checker refuses the rows.
 fn told_in<T: Threads + Sync, L>(
     alloc: Global,
     linked: &Linked,
-    rows: &FlowRows,
+    table: &FlowTable,
     crew: &Crew<'_, T, L>,
 ) -> Result<Option<Told>, Memory>
     requires sound { SoundApp linked.now.app }
     requires lists { SoundLists linked.now.papers.lists }
-    requires within { AreWithin linked.now.app rows.now }
+    requires within { AreWithin linked.now.app table.now.rows }
     ensures some { IfOk result (λ found. IfSome found (λ t. t ≡ told_of linked.now.app linked.now.papers.lists
-        linked.now.papers.declaration (causes_beside linked.now) rows.now)) }
-    ensures nothing { IfOk result (λ found. IfSome found (λ t. TellsNothing t → GoodTable linked.now.app
-        linked.now.papers.lists rows.now)) }
-    ensures none { IfOk result (λ found. IfNone found (GoodTable linked.now.app linked.now.papers.lists rows.now → ⊥)) }
+        linked.now.papers.declaration (causes_beside linked.now) table.now.rows)) }
+    ensures nothing { IfOk result (λ found. IfSome found (λ t. TellsNothing t → GoodTableBy table.now.analysis
+        linked.now.app linked.now.papers.lists table.now.rows)) }
+    ensures none { IfOk result (λ found. IfNone found (GoodTableBy table.now.analysis linked.now.app
+        linked.now.papers.lists table.now.rows → ⊥)) }
 {
     let papers = &linked.papers;
     let beside = causes_beside(alloc, linked)?;
@@ -108,33 +109,34 @@ fn told_in<T: Threads + Sync, L>(
         papers.lists.get(),
         &papers.declaration,
         beside,
-        rows,
+        table,
         crew,
     )
 }
 
-/// What an app comes to by the rows of its flow, which are its table; so where that is clear, it is so by the checker's
-/// word. None only where the checker refuses the rows.
+/// What an app comes to by the table of its flow; so where that is clear, it is so by the checker's word. None only where
+/// the checker refuses the rows.
 #[tactic(auto, using(crate::proofs::Outcomes::judged_as_told, crate::proofs::Outcomes::nothing_where_clear))]
-fn judged_by_rows<T: Threads + Sync, L>(
+fn judged_by_table<T: Threads + Sync, L>(
     alloc: Global,
     linked: &Linked,
-    rows: FlowRows,
+    table: FlowTable,
     crew: &Crew<'_, T, L>,
 ) -> Result<Option<Judged>, Memory>
     requires sound { SoundApp linked.now.app }
     requires lists { SoundLists linked.now.papers.lists }
-    requires within { AreWithin linked.now.app rows }
+    requires within { AreWithin linked.now.app table.rows }
     ensures some { IfOk result (λ found. IfSome found (λ j. j ≡ judged_by linked.now.app linked.now.papers.lists
-        linked.now.papers.declaration (causes_beside linked.now) (Flow.Rows rows))) }
-    ensures clear { IfOk result (λ found. IfSome found (λ j. j.outcome ≡ Outcome.Clear → GoodTable linked.now.app
-        linked.now.papers.lists rows)) }
-    ensures none { IfOk result (λ found. IfNone found (GoodTable linked.now.app linked.now.papers.lists rows → ⊥)) }
+        linked.now.papers.declaration (causes_beside linked.now) (Flow.Rows table))) }
+    ensures clear { IfOk result (λ found. IfSome found (λ j. j.outcome ≡ Outcome.Clear → GoodTableBy table.analysis
+        linked.now.app linked.now.papers.lists table.rows)) }
+    ensures none { IfOk result (λ found. IfNone found (GoodTableBy table.analysis linked.now.app
+        linked.now.papers.lists table.rows → ⊥)) }
 {
-    match told_in(alloc, linked, &rows, crew)? {
+    match told_in(alloc, linked, &table, crew)? {
         Some(told) => Ok(Some(Judged {
             outcome: outcome_with(told),
-            table: Some(rows),
+            table: Some(table),
         })),
         None => Ok(None),
     }
@@ -167,7 +169,7 @@ fn judged_by<T: Threads + Sync, L>(
 ) -> Result<Option<Judged>, Memory>
     requires sound { SoundApp linked.now.app }
     requires lists { SoundLists linked.now.papers.lists }
-    requires within { (rows : List FactRow) → flow ≡ Flow.Rows rows → AreWithin linked.now.app rows }
+    requires within { (table : TableOf) → flow ≡ Flow.Rows table → AreWithin linked.now.app table.rows }
     ensures some { IfOk result (λ found. IfSome found (λ j. j ≡ judged_by linked.now.app linked.now.papers.lists
         linked.now.papers.declaration (causes_beside linked.now) flow)) }
     ensures clear { IfOk result (λ found. IfSome found (λ j. j.outcome ≡ Outcome.Clear → IsGoodFlow linked.now.app
@@ -175,7 +177,7 @@ fn judged_by<T: Threads + Sync, L>(
     ensures none { IfOk result (λ found. IfNone found (IsGoodFlow linked.now.app linked.now.papers.lists flow → ⊥)) }
 {
     match flow {
-        Flow::Rows(rows) => judged_by_rows(alloc, linked, rows, crew),
+        Flow::Rows(table) => judged_by_table(alloc, linked, table, crew),
         Flow::TooLarge(limit) => {
             let judged = judged_too_large(alloc, linked, limit)?;
             Ok(Some(judged))
@@ -191,10 +193,11 @@ fn flow_in<T: Threads + Wait + Sync, L: Lookout>(
 ) -> Result<Flow, Memory>
     requires sound { SoundApp linked.now.app }
     requires lists { SoundLists linked.now.papers.lists }
-    ensures flow { IfOk result (λ flow. IsFlow linked.now.app linked.now.papers.lists flow) }
+    ensures flow { IfOk result (λ flow. IsFlow linked.now.app linked.now.papers.lists linked.now.papers.large flow) }
     ensures good { IfOk result (λ flow. IsGoodFlow linked.now.app linked.now.papers.lists flow) }
 {
-    flow_of(alloc, &linked.app, linked.papers.lists.get(), crew)
+    let papers = &linked.papers;
+    flow_of(alloc, &linked.app, papers.lists.get(), papers.large, crew)
 }
 
 /// What a linked app comes to, as `judge` says of its parts: the app, the lists and the declaration are those that
@@ -206,7 +209,7 @@ pub fn judge_linked<T: Threads + Wait + Sync, L: Lookout>(
 ) -> Result<Judged, Memory>
     requires sound { SoundApp linked.now.app }
     requires lists { SoundLists linked.now.papers.lists }
-    ensures value { IfOk result (λ j. ComesTo linked.now.app linked.now.papers.lists
+    ensures value { IfOk result (λ j. ComesTo linked.now.app linked.now.papers.lists linked.now.papers.large
         linked.now.papers.declaration (causes_beside linked.now) j) }
 
     // Unless the app is too large, the outcome leaves out nothing that a run does.
@@ -215,7 +218,7 @@ pub fn judge_linked<T: Threads + Wait + Sync, L: Lookout>(
     ensures table { IfOk result (λ j. IfSome j.table IsTable) }
 {
     nothing_is_left_out();
-    every_good_table_covers_every_run();
+    each_good_table_covers_every_run();
     let flow = flow_in(alloc, linked, crew)?;
     match judged_by(alloc, linked, flow, crew)? {
         Some(judged) => Ok(judged),
@@ -232,8 +235,8 @@ fn judged_once<T: Threads + Wait + Sync, L: Lookout>(
 ) -> Result<Judged, Memory>
     requires sound { SoundApp linked.app }
     requires lists { SoundLists linked.papers.lists }
-    ensures value { IfOk result (λ j. ComesTo linked.app linked.papers.lists linked.papers.declaration
-        (causes_beside linked) j) }
+    ensures value { IfOk result (λ j. ComesTo linked.app linked.papers.lists linked.papers.large
+        linked.papers.declaration (causes_beside linked) j) }
     ensures told { IfOk result (λ j. IsFollowed j.outcome → TellsAll linked.app linked.papers.lists
         linked.papers.declaration j.outcome) }
     ensures table { IfOk result (λ j. IfSome j.table IsTable) }
@@ -272,6 +275,9 @@ fn judged_parts<T: Threads + Wait + Sync, L: Lookout>(
 /// follow than the lists allow, where the manifest says that a class of the app is named elsewhere, or where strict
 /// lists ask about what a device may do besides (`device_causes`); else flagged where a value of a source may come to
 /// a sink and the declaration does not name the pair; else clear, and then no run of the app brings one there.
+///
+/// Rows follow by the first analysis, where they are not more than the lists allow; else by the second, where the lists
+/// ask for that and these are not more; and else there are more. So which of the two an outcome is by is certain.
 ///
 /// Causes and findings stand in ascending order and each once: places by cause, providers and classes by name; findings
 /// by the names of source and sink and then by place. A place goes by class, name and descriptor of the method, and

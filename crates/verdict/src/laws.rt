@@ -4,10 +4,9 @@ ghost use Rattle.verdict.specs.OneVerdict.{LowerLaws};
 use app_flow::one_flow;
 use app_link::one_app_or_fault;
 use dex_reader::one_dex_or_fault;
-use flow_proof::{every_good_table_covers_every_run, rules_stay_in_app};
+use flow_analyses::{all_derived_rows_are_good, each_good_table_covers_every_run};
 use office_forms::one_form_or_fault;
 use outcomes::nothing_is_left_out;
-use rule_sets::app_rules_are_a_rule_set;
 
 /// A form, a DEX file and the files of an app each have one value, or one first fault, and not both;
 /// and an app has one flow.
@@ -27,7 +26,6 @@ pub fn a_clear_verdict_is_of_a_safe_app()
 {
     lower_laws();
     nothing_is_left_out();
-    every_good_table_covers_every_run();
-    rules_stay_in_app();
-    app_rules_are_a_rule_set();
+    each_good_table_covers_every_run();
+    all_derived_rows_are_good();
 }

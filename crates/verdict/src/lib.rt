@@ -10,7 +10,7 @@ mod papers;
 mod parts;
 mod rejudging;
 
-pub use app_flow::{FlowRows, RowDefect, TableDefect};
+pub use app_flow::{Analysis, FlowRows, FlowTable, RowDefect, TableDefect};
 pub use judging::{judge, judge_linked};
 pub use laws::{a_clear_verdict_is_of_a_safe_app, lower_laws};
 pub use linking::{Linked, linked_parts};

@@ -4,7 +4,7 @@ ghost use Rattle.std.specs.Prelude.{◌≡◌};
 ghost use Rattle.verdict.specs.Outcome.{status_of};
 
 use crate::{Cause, Finding};
-use app_flow::{FlowRows, TableDefect};
+use app_flow::{FlowTable, TableDefect};
 use app_link::LinkFault;
 use dex_reader::DexFault;
 use fact_rows::Row;
@@ -52,8 +52,9 @@ pub enum Outcome {
 #[derive(Drop)]
 pub struct Judged {
     pub outcome: Outcome,
-    /// The derivable rows, in ascending order: there just where the parts make an app and it is not too large.
-    pub table: Option<FlowRows>,
+    /// The rows that are derivable by an analysis, in ascending order: there just where the parts make an app and it is
+    /// not too large.
+    pub table: Option<FlowTable>,
 }
 
 /// What the parts of an app come to by rows that anyone made.
@@ -61,7 +62,9 @@ pub struct Judged {
 pub enum Rechecked {
     /// The parts are refused, whatever the rows are.
     Refused(Part, Reason),
-    /// The rows are no good table of the app.
+    /// The rows are those of an analysis for which the lists do not ask.
+    Unasked,
+    /// The rows are no good table of the app by their analysis.
     Defect(TableDefect),
     /// They are one, and say this of the app.
     By(Outcome),

@@ -18,7 +18,7 @@ use crate::{Part, Parts, Reason};
 use app_model::{Declaration, Layouts, Lists, Manifest};
 use device_lists::DeviceLists;
 use form_texts::{Kept, SaidLists, SaidManifest};
-use office_forms::{FormFault, read_declaration, read_layouts};
+use office_forms::{FormFault, Large, read_declaration, read_layouts};
 use std::alloc::Global;
 use vet_base::{Name, Seq, Stop};
 
@@ -31,6 +31,8 @@ pub struct Papers {
     pub lists: Kept<Lists>,
     /// What the lists say of a device.
     pub device: Kept<DeviceLists>,
+    /// How an app is judged of which more rows follow than the lists allow.
+    pub large: Option<Large>,
     /// The classes that the manifest says are named elsewhere.
     pub named: Kept<Seq<Name>>,
 }
@@ -206,19 +208,25 @@ fn joined(app: AppForms, flow: FlowForms) -> Papers
       declaration = flow.declaration;
       lists = flow.lists.lists;
       device = flow.lists.device;
+      large = flow.lists.large;
       named = app.manifest.named;
     } }
 {
     let AppForms { manifest, layouts } = app;
     let FlowForms { declaration, lists } = flow;
     let SaidManifest { manifest, named } = manifest;
-    let SaidLists { lists, device } = lists;
+    let SaidLists {
+        lists,
+        device,
+        large,
+    } = lists;
     Papers {
         manifest,
         layouts,
         declaration,
         lists,
         device,
+        large,
         named,
     }
 }

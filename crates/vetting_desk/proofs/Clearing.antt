@@ -79,14 +79,15 @@ clear_checked parts _ (Checks.report outcome verdict) same = clear_outcome outco
 
 clear_certified : (path : List ℕ) (parts : Parts) (due : Due) → Certifies path parts due → third due.text ≡ 101 → due.status ≡ 0
 clear_certified path parts _ (Certifies.no_table outcome judgement) same = clear_outcome outcome same
-clear_certified path parts _ (Certifies.table outcome rows bytes judgement cert) same = clear_outcome outcome same
+clear_certified path parts _ (Certifies.table outcome table bytes judgement cert) same = clear_outcome outcome same
 
 clear_by : (bytes : List ℕ) (parts : Parts) (due : Due) → RechecksBy bytes parts due → third due.text ≡ 101 → due.status ≡ 0
 clear_by bytes parts _ (RechecksBy.unread fault first_fault) same = absurd (no_refusal _ same)
-clear_by bytes parts _ (RechecksBy.other_digest digest rows cert other) same = absurd (no_refusal _ same)
-clear_by bytes parts _ (RechecksBy.judged rows (rechecks.Refused part reason) cert judged) same = clear_outcome (Refused part reason) same
-clear_by bytes parts _ (RechecksBy.judged rows (rechecks.Defect defect) cert judged) same = absurd (no_refusal _ same)
-clear_by bytes parts _ (RechecksBy.judged rows (rechecks.By outcome) cert judged) same = clear_outcome outcome same
+clear_by bytes parts _ (RechecksBy.other_digest set digest rows cert other) same = absurd (no_refusal _ same)
+clear_by bytes parts _ (RechecksBy.judged set rows (rechecks.Refused part reason) cert judged) same = clear_outcome (Refused part reason) same
+clear_by bytes parts _ (RechecksBy.judged set rows rechecks.Unasked cert judged) same = absurd (no_refusal _ same)
+clear_by bytes parts _ (RechecksBy.judged set rows (rechecks.Defect defect) cert judged) same = absurd (no_refusal _ same)
+clear_by bytes parts _ (RechecksBy.judged set rows (rechecks.By outcome) cert judged) same = clear_outcome outcome same
 
 clear_rechecked : (path : List ℕ) (Gives : Result (List ℕ) FileFault → Type 0) (parts : Parts) (due : Due) → Rechecks path Gives parts due → third due.text ≡ 101 → due.status ≡ 0
 clear_rechecked path Gives parts _ (Rechecks.absent holds) same = absurd (no_absence path same)

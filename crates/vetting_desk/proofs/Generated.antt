@@ -4,7 +4,7 @@ use Rattle.std.specs.Option.{option_map}
 use Rattle.std.specs.Prelude.{IsErr}
 use Rattle.vet_base.specs.Outside.{Told}
 use Rattle.heard_files.specs.Outside.{Entry}
-use Rattle.fact_rows.specs.declared.row.Row.{Row}
+use Rattle.app_flow.specs.declared.flow_rows.FlowTable.{FlowTable}
 use Rattle.verdict.specs.declared.outcome.Judged.{Judged}
 use Rattle.verdict.specs.declared.outcome.Outcome.{Outcome}
 use Rattle.verdict.specs.declared.outcome.Outcome.TheVariants.{Clear, Flagged, Undecided, Refused}
@@ -18,7 +18,7 @@ use Rattle.vetting_desk.specs.Made.{made_parts}
 use Rattle.app_folder.specs.Outside.{Tells}
 
 abbrev rows_in : Judged → Option ℕ
-rows_in judged = option_map (λ (rows : List Row). length rows) judged.table
+rows_in judged = option_map (λ (table : FlowTable). length table.rows) judged.table
 
 abbrev due_to : ℕ → Judged → Due
 due_to size judged = due_to_made size (rows_in judged) judged.outcome

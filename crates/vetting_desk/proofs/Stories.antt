@@ -4,6 +4,7 @@ use Rattle.std.specs.Option.{option_map}
 use Rattle.app_machine.specs.declared.app.App.{App}
 use Rattle.app_machine.specs.declared.lists.Lists.{Lists}
 use Rattle.app_machine.specs.declared.papers.Declaration.{Declaration}
+use Rattle.app_flow.specs.declared.flow_rows.FlowTable.{FlowTable}
 use Rattle.fact_rows.specs.declared.row.Row.{Row}
 use Rattle.finding_rows.specs.Arrivals.{AreFirstArrivals}
 use Rattle.outcomes.specs.declared.outcome.Finding.{Finding}
@@ -42,8 +43,8 @@ as_many_stories Rule Start [] (story ∷ stories) are = absurd are
 as_many_stories Rule Start (goal ∷ goals) [] are = absurd are
 as_many_stories Rule Start (goal ∷ goals) (story ∷ stories) are = ap suc (as_many_stories Rule Start goals stories are.1)
 
-as_many : (app : App) (lists : Lists) (declaration : Declaration) (rows : List Row) (findings : List Finding) (stories : List Story) → AreStoriesOf app lists declaration rows findings stories → length stories ≡ length findings
-as_many app lists declaration rows findings stories are = as_many_stories _ _ are.goals stories are.told ∙ as_many_goals app lists declaration rows findings are.goals are.first
+as_many : (app : App) (lists : Lists) (declaration : Declaration) (table : FlowTable) (findings : List Finding) (stories : List Story) → AreStoriesOf app lists declaration table findings stories → length stories ≡ length findings
+as_many app lists declaration table findings stories are = as_many_stories _ _ are.goals stories are.told ∙ as_many_goals app lists declaration table.rows findings are.goals are.first
 
 -- what is told twice of parts is of one outcome, and as many stories
 record SameTelling (outcome other : Outcome) (stories others : Option (List Story)) : Type 0 where
@@ -53,16 +54,16 @@ record SameTelling (outcome other : Outcome) (stories others : Option (List Stor
 same_telling : (parts : Parts) (outcome other : Outcome) (stories others : Option (List Story)) → OneJudgement parts → Tells parts outcome stories → Tells parts other others → SameTelling outcome other stories others
 same_telling parts _ _ _ _ one (alone outcome is) (alone other too) =
     record { outcomes = ap (λ (j : Judged). j.outcome) (one (record { outcome = other; table = None }) (record { outcome = outcome; table = None }) too is); counts = refl }
-same_telling parts _ _ _ _ one (alone outcome is) (told other rows linked stories too of are) =
-    let e : None ≡ Some rows = ap (λ (j : Judged). j.table) (one (record { outcome = outcome; table = None }) (record { outcome = other; table = Some rows }) is too) in
+same_telling parts _ _ _ _ one (alone outcome is) (told other table linked stories too of are) =
+    let e : None ≡ Some table = ap (λ (j : Judged). j.table) (one (record { outcome = outcome; table = None }) (record { outcome = other; table = Some table }) is too) in
     absurd cc
-same_telling parts _ _ _ _ one (told outcome rows linked stories is of are) (alone other too) =
-    let e : None ≡ Some rows = ap (λ (j : Judged). j.table) (one (record { outcome = other; table = None }) (record { outcome = outcome; table = Some rows }) too is) in
+same_telling parts _ _ _ _ one (told outcome table linked stories is of are) (alone other too) =
+    let e : None ≡ Some table = ap (λ (j : Judged). j.table) (one (record { outcome = other; table = None }) (record { outcome = outcome; table = Some table }) too is) in
     absurd cc
-same_telling parts _ _ _ _ one (told outcome rows linked stories is of are) (told other rows2 linked2 others too of2 are2) =
-    let e : other ≡ outcome = ap (λ (j : Judged). j.outcome) (one (record { outcome = other; table = Some rows2 }) (record { outcome = outcome; table = Some rows }) too is) in
-    let n : length stories ≡ length (findings_in outcome) = as_many linked.app linked.papers.lists linked.papers.declaration rows (findings_in outcome) stories are in
-    let m : length others ≡ length (findings_in other) = as_many linked2.app linked2.papers.lists linked2.papers.declaration rows2 (findings_in other) others are2 in
+same_telling parts _ _ _ _ one (told outcome table linked stories is of are) (told other table2 linked2 others too of2 are2) =
+    let e : other ≡ outcome = ap (λ (j : Judged). j.outcome) (one (record { outcome = other; table = Some table2 }) (record { outcome = outcome; table = Some table }) too is) in
+    let n : length stories ≡ length (findings_in outcome) = as_many linked.app linked.papers.lists linked.papers.declaration table (findings_in outcome) stories are in
+    let m : length others ≡ length (findings_in other) = as_many linked2.app linked2.papers.lists linked2.papers.declaration table2 (findings_in other) others are2 in
     let f : length (findings_in other) ≡ length (findings_in outcome) = ap (λ (o : Outcome). length (findings_in o)) e in
     let same : length stories ≡ length others = n ∙ sym f ∙ sym m in
     record { outcomes = e; counts = ap (λ (k : ℕ). Some k) same }

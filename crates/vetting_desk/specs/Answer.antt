@@ -15,7 +15,9 @@ use Rattle.verdict.specs.Tells.{IsFollowed, TellsOfApp}
 use Rattle.verdict.specs.Verdict.{Judgement, IsSafeApp, Verdict}
 use Rattle.verdict.specs.Recheck.{Rejudgement}
 use Rattle.verdict.specs.declared.outcome.Rechecked.TheVariants.{By}
+use Rattle.app_flow.specs.declared.flow_rows.FlowTable.{FlowTable}
 use Rattle.fact_rows.specs.declared.row.Row.{Row}
+use Rattle.flow_analyses.specs.declared.Analysis.{Analysis}
 use Rattle.desk_words.specs.Words.{Words, Check, Certify, Recheck, Story, Make}
 use Rattle.app_folder.specs.Due.{Due, reported}
 use Rattle.app_stories.specs.Stories.{Story as StoryOfFinding, Tells as TellsStories}
@@ -58,7 +60,7 @@ pub data Answers (words : Option Words) (tells : Tells) : Due → Type 0 where
   make : (seed size n : ℕ) (judged : Judged) →
       words ≡ Some (Make seed size n) →
       Judgement (made_parts seed size) judged →
-      Answers words tells (due_to_made size (option_map (λ rows. length rows) judged.table) judged.outcome)
+      Answers words tells (due_to_made size (option_map (λ (table : FlowTable). length table.rows) judged.table) judged.outcome)
 
 -- What is due to the words by what the reads in between gave, of any files: those of the folder, in their order, up to
 -- the first file for which the app is refused, or those of all its files; behind them for `recheck` that of the
@@ -73,7 +75,7 @@ DueByReads (Some (Recheck dir cert)) old new due =
 DueByReads (Some (Story dir)) old new due = FolderDue Retells (Gave old new dir []) due
 DueByReads (Some (Make seed size n)) old new due =
     (judged : Judged) × Judgement (made_parts seed size) judged
-    × (due ≡ due_to_made size (option_map (λ rows. length rows) judged.table) judged.outcome) × (new ≡ old)
+    × (due ≡ due_to_made size (option_map (λ (table : FlowTable). length table.rows) judged.table) judged.outcome) × (new ≡ old)
 
 -- Of two that are due to the words the one is the other; where stories are asked for, the one has right stories, and
 -- but for them is the other.
@@ -124,9 +126,9 @@ IsSafe (Some (Recheck dir cert)) tells old new = HasSafeApp dir tells.files old 
 IsSafe (Some (Story dir)) tells old new = HasSafeApp dir tells.files old new
 IsSafe (Some (Make seed size n)) tells old new = IsSafeApp (made_parts seed size)
 
--- what parts come to by rows that someone gave
+-- what parts come to by rows of an analysis that someone gave
 abbrev pub ComesByRows : Parts → Outcome → Type 0
-ComesByRows parts outcome = (rows : List Row) × Rejudgement parts rows (By outcome)
+ComesByRows parts outcome = (analysis : Analysis) × (rows : List Row) × Rejudgement parts analysis rows (By outcome)
 
 -- The text is the report of what these parts come to, which leaves out nothing that a run of their app does, unless the
 -- app is too large. The first reads of this call gave these parts; and where the files of the folder are told, they

@@ -5,7 +5,7 @@ use Rattle.vet_base.specs.Outside.{HasRisen, Told}
 use Rattle.heard_files.specs.Outside.{Entry}
 use Rattle.vet_base.specs.declared.outside.FileFault.{FileFault}
 use Rattle.vet_base.specs.declared.outside.FileFault.TheVariants as faults
-use Rattle.fact_rows.specs.declared.row.Row.{Row}
+use Rattle.app_flow.specs.declared.flow_rows.FlowTable.{FlowTable}
 use Rattle.certificate.specs.Cert.{IsCert}
 use Rattle.verdict.specs.declared.outcome.Outcome.{Outcome}
 use Rattle.verdict.specs.declared.outcome.Outcome.TheVariants as outcomes
@@ -30,6 +30,7 @@ use Rattle.vetting_desk.specs.Answer.{ComesByRows, Answers, DueByReads, Alike, S
 use Rattle.app_folder.specs.Due.{Due, NewFile, reported}
 use Rattle.app_stories.specs.Stories.{Story, Tells as TellsStories}
 use Rattle.vetting_desk.specs.Due.{SameButStories, certified, due_of, read_fault_text, storied_text}
+use Rattle.vetting_desk.specs.Sets.{set_of}
 use Rattle.vetting_desk.specs.PartsDue.{digest_of, GivesTold, Rechecks, Retells}
 use Rattle.app_folder.specs.Outside.{Tells, TellsInput}
 use Rattle.app_folder.specs.Reading.{TellsRead, SameFiles}
@@ -70,10 +71,10 @@ pub record FindsStories (parts : Parts) (due : Due) : Type 0 where
   pub full : (due.status ≡ 1) ⊎ (due.status ≡ 2) → ReportsStories parts due
 
 -- the report, with the certificate of the table where there is one
-abbrev pub CertifiedAs : List ℕ → Parts → Outcome → Option (List Row) → Due → Type 0
+abbrev pub CertifiedAs : List ℕ → Parts → Outcome → Option FlowTable → Due → Type 0
 CertifiedAs path parts outcome None due = due ≡ reported outcome
-CertifiedAs path parts outcome (Some rows) due =
-    (bytes : List ℕ) × IsCert bytes (digest_of parts) rows × (due ≡ certified outcome path bytes)
+CertifiedAs path parts outcome (Some table) due =
+    (bytes : List ℕ) × IsCert bytes (set_of table.analysis) (digest_of parts) table.rows × (due ≡ certified outcome path bytes)
 
 -- the due to the words, also by what the reads gave, with that each is alike, and with what it says of the app, where so
 -- much was heard of the files before and after

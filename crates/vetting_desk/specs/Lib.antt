@@ -3,4 +3,5 @@ pub mod Due
 pub mod Found
 pub mod Made
 pub mod PartsDue
+pub mod Sets
 pub mod Top

@@ -6,7 +6,10 @@ use Rattle.vet_base.specs.Outside.{Told, held_by}
 use Rattle.vet_base.specs.declared.outside.FileFault.{FileFault}
 use Rattle.vet_base.specs.declared.outside.FileFault.TheVariants as faults
 use Rattle.fact_rows.specs.declared.row.Row.{Row}
+use Rattle.app_flow.specs.declared.flow_rows.FlowTable.{FlowTable}
+use Rattle.cert_rows.specs.declared.sets.Set.{Set}
 use Rattle.certificate.specs.declared.fault.CertFault.{CertFault}
+use Rattle.certificate.specs.declared.fault.CertFault.TheVariants.{Magic}
 use Rattle.certificate.specs.Cert.{IsCert}
 use Rattle.certificate.specs.Digests.{parts_bytes}
 use Rattle.certificate.specs.Reading.{FirstCertFault}
@@ -23,6 +26,7 @@ use Rattle.verdict.specs.declared.parts.Parts.{Parts}
 use Rattle.verdict.specs.Recheck.{Rejudgement}
 use Rattle.verdict.specs.Verdict.{Judgement}
 use Rattle.app_folder.specs.Due.{Due, reported}
+use Rattle.vetting_desk.specs.Sets.{set_of, analysis_of}
 use Rattle.vetting_desk.specs.Due.{certified, no_certificate, long_certificate, storied, uncertified}
 use Rattle.app_stories.specs.Stories.{Story, Tells}
 
@@ -35,9 +39,9 @@ pub data Certifies (path : List ℕ) (parts : Parts) : Due → Type 0 where
   no_table : (outcome : Outcome) →
       Judgement parts (record { outcome = outcome; table = None }) →
       Certifies path parts (reported outcome)
-  table : (outcome : Outcome) (rows : List Row) (bytes : List ℕ) →
-      Judgement parts (record { outcome = outcome; table = Some rows }) →
-      IsCert bytes (digest_of parts) rows →
+  table : (outcome : Outcome) (derived : FlowTable) (bytes : List ℕ) →
+      Judgement parts (record { outcome = outcome; table = Some derived }) →
+      IsCert bytes (set_of derived.analysis) (digest_of parts) derived.rows →
       Certifies path parts (certified outcome path bytes)
 
 -- a certificate is refused with the defect of its table
@@ -46,9 +50,10 @@ refusal_of (At Stranger row) = refusals.Stranger row
 refusal_of (At NoStart row) = refusals.NoStart row
 refusal_of (NotClosed row) = refusals.NotClosed row
 
--- due to parts that were judged by a table
+-- due to parts that were judged by a table; lists that do not ask for the second analysis know of no certificate of it
 abbrev pub rechecked : Rechecked → Due
 rechecked (rechecks.Refused part reason) = reported (outcomes.Refused part reason)
+rechecked rechecks.Unasked = uncertified (refusals.Fault Magic)
 rechecked (rechecks.Defect defect) = uncertified (refusal_of defect)
 rechecked (rechecks.By outcome) = reported outcome
 
@@ -58,13 +63,13 @@ pub data RechecksBy (bytes : List ℕ) (parts : Parts) : Due → Type 0 where
   unread : (fault : CertFault) →
       FirstCertFault bytes fault →
       RechecksBy bytes parts (uncertified (refusals.Fault fault))
-  other_digest : (digest : List ℕ) (rows : List Row) →
-      IsCert bytes digest rows →
+  other_digest : (set : Set) (digest : List ℕ) (rows : List Row) →
+      IsCert bytes set digest rows →
       digest ≢ digest_of parts →
       RechecksBy bytes parts (uncertified (refusals.Digest digest (digest_of parts)))
-  judged : (rows : List Row) (r : Rechecked) →
-      IsCert bytes (digest_of parts) rows →
-      Rejudgement parts rows r →
+  judged : (set : Set) (rows : List Row) (r : Rechecked) →
+      IsCert bytes set (digest_of parts) rows →
+      Rejudgement parts (analysis_of set) rows r →
       RechecksBy bytes parts (rechecked r)
 
 -- where the files are told, the file of this name is so

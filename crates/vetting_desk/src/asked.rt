@@ -6,23 +6,23 @@ ghost use Rattle.verdict.specs.Table.{IsTable};
 ghost use Rattle.verdict.specs.Verdict.{Verdict};
 ghost use Rattle.vetting_desk.specs.Answer.{ComesByRows};
 ghost use Rattle.vetting_desk.specs.Due.{due_of};
+ghost use Rattle.vetting_desk.specs.Sets.{set_of};
 ghost use Rattle.app_folder.specs.FolderDue.{Checks};
 ghost use Rattle.vetting_desk.specs.PartsDue.{Certifies, RechecksBy, digest_of, refusal_of, rechecked};
 ghost use Rattle.vetting_desk.specs.Found.{FindsOfParts, FindsStories, CertifiedAs, IsUnreadable};
 ghost use Rattle.app_folder.specs.Reading.{AreShort};
 
 use crate::answer::Answer;
-use crate::certificates::{certificate_of, digest_of, same_digest};
+use crate::certificates::{analysis_of, certificate_of, digest_of, same_digest};
 use app_stories::judge_with_stories;
 use cert_report::CertRefusal;
 use certificate::{Cert, CertFault, certificates_keep_their_laws, read_cert};
-use fact_rows::Row;
 use std::alloc::Global;
 use std::marker::Sync;
 use std::sync::Wait;
 use std::thread::Threads;
 use verdict::{
-    FlowRows, Judged, Outcome, Parts, Rechecked, RowDefect, TableDefect, judge, judge_table,
+    FlowTable, Judged, Outcome, Parts, Rechecked, RowDefect, TableDefect, judge, judge_table,
 };
 use vet_base::{Memory, Seq, Stop};
 use worker_pool::{Crew, Lookout};
@@ -63,15 +63,16 @@ fn cert_file_of(
     alloc: Global,
     parts: &Parts,
     path: &str,
-    rows: FlowRows,
+    table: FlowTable,
 ) -> Result<CertFile, Memory>
     requires short { AreShort parts.now }
-    requires table { IsTable rows }
+    requires table { IsTable table }
     ensures path { IfOk result (λ file. string_bytes file.path ≡ path.now) }
-    ensures bytes { IfOk result (λ file. IsCert file.bytes (digest_of parts.now) rows) }
+    ensures bytes { IfOk result (λ file. IsCert file.bytes (set_of table.analysis) (digest_of parts.now) table.rows) }
 {
+    let FlowTable { analysis, rows } = table;
     let rows = rows.into_ascending(alloc)?;
-    let bytes = certificate_of(alloc, parts, rows.as_slice())?;
+    let bytes = certificate_of(alloc, parts, analysis, rows.as_slice())?;
     let path = String::from_str(alloc, path)?;
     Ok(CertFile {
         path,
@@ -93,8 +94,8 @@ fn with_certificate(
     let Judged { outcome, table } = judged;
     match table {
         None => Ok(Answer::Vetted(outcome)),
-        Some(rows) => {
-            let CertFile { path, bytes } = cert_file_of(alloc, parts, path, rows)?;
+        Some(table) => {
+            let CertFile { path, bytes } = cert_file_of(alloc, parts, path, table)?;
             Ok(Answer::Certified(outcome, path, bytes))
         }
     }
@@ -131,6 +132,7 @@ fn answer_by(by: Rechecked) -> Answer
 {
     match by {
         Rechecked::Refused(part, reason) => Answer::Vetted(Outcome::Refused(part, reason)),
+        Rechecked::Unasked => Answer::Uncertified(CertRefusal::Fault(CertFault::Magic)),
         Rechecked::Defect(defect) => Answer::Uncertified(refusal_for(defect)),
         Rechecked::By(outcome) => Answer::Vetted(outcome),
     }
@@ -148,7 +150,7 @@ fn unreadable(stop: Stop<CertFault>) -> Result<Answer, Memory>
 /// What parts come to by a certificate.
 fn rechecked_by(alloc: Global, parts: &Parts, cert: &Cert, seed: u64) -> Result<Answer, Memory>
     requires { AreShort parts.now }
-    ensures { (bytes : List ℕ) → IsCert bytes cert.now.digest cert.now.rows
+    ensures { (bytes : List ℕ) → IsCert bytes cert.now.set cert.now.digest cert.now.rows
         → IfOk result (λ a. FindsOfParts (Unit {0}) (RechecksBy bytes) ComesByRows parts.now (due_of a)) }
 {
     certificates_keep_their_laws();
@@ -156,7 +158,13 @@ fn rechecked_by(alloc: Global, parts: &Parts, cert: &Cert, seed: u64) -> Result<
     if !same_digest(&cert.digest, &digest) {
         return Ok(Answer::Uncertified(CertRefusal::Digest(cert.digest, digest)));
     }
-    let by = judge_table(alloc, parts, cert.rows.as_slice(), seed)?;
+    let by = judge_table(
+        alloc,
+        parts,
+        analysis_of(cert.set),
+        cert.rows.as_slice(),
+        seed,
+    )?;
     Ok(answer_by(by))
 }
 

@@ -2,6 +2,7 @@
 
 ghost use Rattle.std.specs.Prelude.{◌≡◌, ◌<◌, ◌≤◌, List, Option, IfOk, length, Some};
 ghost use Rattle.std.specs.Option.{option_map};
+ghost use Rattle.app_flow.specs.declared.flow_rows.FlowTable.{FlowTable as TableOf};
 ghost use Rattle.vet_base.specs.Outside.{Told};
 ghost use Rattle.heard_files.specs.Outside.{Entry};
 ghost use Rattle.desk_words.specs.Words.{Make};
@@ -17,7 +18,7 @@ use std::alloc::Global;
 use std::marker::Sync;
 use std::sync::Wait;
 use std::thread::Threads;
-use verdict::{FlowRows, Judged, Outcome, Parts, judge};
+use verdict::{FlowTable, Judged, Outcome, Parts, judge};
 use vet_base::{Memory, Seq, Shared};
 use worker_pool::{Crew, Lookout};
 
@@ -48,11 +49,11 @@ fn made_parts(alloc: Global, seed: u32, size: u32) -> Result<Parts, Memory>
 }
 
 /// How many rows a table has, where there is one. Its memory is given back.
-fn count_of(table: Option<FlowRows>) -> Option<usize>
-    ensures { result ≡ option_map (λ rows. length rows) table }
+fn count_of(table: Option<FlowTable>) -> Option<usize>
+    ensures { result ≡ option_map (λ (table : TableOf). length table.rows) table }
 {
     match &table {
-        Some(rows) => Some(rows.len()),
+        Some(table) => Some(table.rows.len()),
         None => None,
     }
 }
@@ -72,7 +73,8 @@ fn counted(size: u32, rows: Option<usize>, outcome: Outcome) -> Answer
 
 /// The answer to a generated app that was judged so.
 fn made_as(size: u32, judged: Judged) -> Answer
-    ensures { due_of result ≡ due_to_made size (option_map (λ rows. length rows) judged.table) judged.outcome }
+    ensures { due_of result ≡ due_to_made size
+        (option_map (λ (table : TableOf). length table.rows) judged.table) judged.outcome }
 {
     let Judged { outcome, table } = judged;
     counted(size, count_of(table), outcome)

@@ -5,4 +5,4 @@ use Rattle.app_stories.proofs.judged.with_stories.Goals as goal
 pub stories_by_table-requires-clause-derivable : goal.stories_by_table-requires-clause-derivable
 stories_by_table-requires-clause-derivable c =
     let linked = c.args.linked.now in
-    (of_table linked.app linked.papers.lists linked.papers.declaration (causes_beside linked) c.args.judged c.in-Some.rows c.requires.comes c.in-Some.is).derivable
+    (of_table linked.app linked.papers.lists linked.papers.large linked.papers.declaration (causes_beside linked) c.args.judged c.in-Some.table c.requires.comes c.in-Some.is).derivable

@@ -14,7 +14,7 @@ returns-in-Ok-clause-found c =
 
 pub returns-in-Ok-clause-known : goal.returns-in-Ok-clause-known
 returns-in-Ok-clause-known c =
-    rows_known c.in-Ok.cert.rows
+    rows_known c.in-Ok.cert.set c.in-Ok.cert.rows
     (cert_found c.rows_are_found.ensures c.args.bytes.now c.in-Ok.cert (bytes_are c.args.bytes.now (λ i. omega (arith, c.type_inv.bytes i))) c.in-Ok.ensures).fit
 
 pub returns-in-Err-Fault-clause-fault : goal.returns-in-Err-Fault-clause-fault
@@ -23,6 +23,6 @@ returns-in-Err-Fault-clause-fault c =
     is_first (cert_from c.args.bytes.now) c.in-Err-Fault.fault failed
 
 pub returns-in-Err-Fault-clause-only : goal.returns-in-Err-Fault-clause-only
-returns-in-Err-Fault-clause-only c digest rows is =
+returns-in-Err-Fault-clause-only c set digest rows is =
     let failed : run (cert_from c.args.bytes.now) ≡ Err c.in-Err-Fault.fault = (rw c.in-Err-Fault.field-0-is at c.in-Err-Fault.ensures) in
-    absurd (ok_or_err _ _ _ (cert_again c.rows_are_read_again.ensures c.args.bytes.now digest rows is) failed)
+    absurd (ok_or_err _ _ _ (cert_again c.rows_are_read_again.ensures c.args.bytes.now set digest rows is) failed)

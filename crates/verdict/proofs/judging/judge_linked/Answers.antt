@@ -16,7 +16,7 @@ returns-clause-told g c =
     let declaration = c.args.linked.now.papers.declaration in
     let beside = causes_beside c.args.linked.now in
     let laws = c.nothing_is_left_out.ensures in
-    flow_tells laws.findings laws.causes c.every_good_table_covers_every_run.ensures app lists declaration beside c.in_ok-flow.flow c.in-Some.judged c.requires.sound c.in_ok-flow.ensures.good
+    flow_tells laws.findings laws.causes c.each_good_table_covers_every_run.ensures app lists declaration beside c.in_ok-flow.flow c.in-Some.judged c.requires.sound c.in_ok-flow.ensures.good
     (judged_there app lists declaration beside c.in_ok-flow.flow c.in_ok-judged.field-0 c.in-Some.judged c.in_ok-judged.ensures.some c.in-Some.is)
 
 pub returns-clause-table : goal.returns-clause-table
@@ -25,5 +25,5 @@ returns-clause-table g c =
     let lists = c.args.linked.now.papers.lists in
     let declaration = c.args.linked.now.papers.declaration in
     let beside = causes_beside c.args.linked.now in
-    judged_table app lists declaration beside c.in_ok-flow.flow c.in-Some.judged c.in_ok-flow.ensures.flow c.in_ok-flow.ensures.good c.requires.lists
+    judged_table app lists c.args.linked.now.papers.large declaration beside c.in_ok-flow.flow c.in-Some.judged c.in_ok-flow.ensures.flow c.in_ok-flow.ensures.good c.requires.lists
     (judged_there app lists declaration beside c.in_ok-flow.flow c.in_ok-judged.field-0 c.in-Some.judged c.in_ok-judged.ensures.some c.in-Some.is)

@@ -3,5 +3,5 @@ use Rattle.verdict.proofs.laws.a_clear_verdict_is_of_a_safe_app.Goals as goal
 
 pub returns : goal.returns
 returns c =
-    clear_is_of_safe c.lower_laws.ensures c.nothing_is_left_out.ensures.findings c.nothing_is_left_out.ensures.causes c.every_good_table_covers_every_run.ensures
-    c.app_rules_are_a_rule_set.ensures.starts c.app_rules_are_a_rule_set.ensures.closed c.rules_stay_in_app.ensures
+    clear_is_of_safe c.lower_laws.ensures c.nothing_is_left_out.ensures.findings c.nothing_is_left_out.ensures.causes c.each_good_table_covers_every_run.ensures
+    c.all_derived_rows_are_good.ensures

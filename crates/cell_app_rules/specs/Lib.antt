@@ -1,0 +1,5 @@
+pub mod CellAllGiven
+pub mod CellReady
+pub mod Families
+pub mod FirstGiven
+pub mod exact

@@ -1,0 +1,2 @@
+pub mod CellAllExact
+pub mod FirstExact
