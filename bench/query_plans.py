@@ -5,8 +5,8 @@ usage: query_plans.py (needs the program sqlite3)
 Takes the statements out of the sources of crates/case_tables, makes its tables in a new file, puts 2,000 cases into
 them, and asks `EXPLAIN QUERY PLAN` of every look-up and change, before and after `ANALYZE`. Prints each with its plan,
 and ends with status 1 where a look-up is not a search by an index or a primary key in each of its steps, as where it goes
-through a whole table or sorts. What raises a database of version 1, and the one row of `version`, is left out: that is gone
-through once.
+through a whole table or sorts. What raises a database of version 1, the one row of `version`, and what is noted of all
+cases as a database is opened, is left out: that is gone through once.
 
 The plans are those of SQLite. The keeper runs its statements by the crate `sqlite`, which chooses its own and does not
 tell them.
@@ -25,11 +25,9 @@ CASES = """
 WITH RECURSIVE many(n) AS (SELECT 1 UNION ALL SELECT n + 1 FROM many WHERE n < 2000)
 INSERT INTO cases SELECT n, 'd' || (n / 100), 'r' || n, zeroblob(500), x'', zeroblob(100) FROM many;
 INSERT INTO dex SELECT number, 0, zeroblob(4000) FROM cases;
-INSERT INTO states SELECT number, party, reference,
-    CASE WHEN number > 1990 THEN 'queued' WHEN number % 50 = 0 THEN 'appealed' ELSE 'decided' END FROM cases;
-INSERT INTO entries SELECT number, 0, 'flagged', zeroblob(200), zeroblob(32), 'rex', 100 FROM states
-    WHERE state <> 'queued';
-INSERT INTO entry_appeals SELECT number, 0, 101, zeroblob(30) FROM states WHERE state = 'appealed';
+INSERT INTO entries SELECT number, 0, 'flagged', zeroblob(200), zeroblob(32), 'rex', 100 FROM cases
+    WHERE number <= 1990;
+INSERT INTO entry_appeals SELECT number, 0, 101, zeroblob(30) FROM entries WHERE number % 50 = 0;
 """
 
 

@@ -20,6 +20,8 @@ from functools import cache
 from http.server import BaseHTTPRequestHandler, HTTPServer
 from pathlib import Path
 
+from vet_tools.desk_cases import STATES
+
 TOP = Path(__file__).resolve().parents[2]
 NAME = re.compile(r"[A-Za-z0-9._-]{1,64}")
 FORMS = ("manifest", "layouts", "declaration")
@@ -54,6 +56,7 @@ class Desk:
         self.base.execute("PRAGMA journal_mode = WAL")
         self.base.executescript(TABLES)
         self.base.execute("INSERT OR IGNORE INTO version VALUES (1, 2)")
+        self.base.execute(STATES)
 
     def today(self) -> int:
         file = self.office / "day"
@@ -93,7 +96,6 @@ class Desk:
             (who, reference, *content[:3])).lastrowid
         for place, data in enumerate(content[3:]):
             self.base.execute("INSERT INTO dex VALUES (?, ?, ?)", (number, place, data))
-        self.base.execute("INSERT INTO states VALUES (?, ?, ?, 'queued')", (number, who, reference))
         return 201, {"reference": reference, "state": "queued"}
 
     def judge(self, who: str, number: int, developer: str, reference: str) -> tuple[int, object]:
@@ -103,7 +105,6 @@ class Desk:
         place = self.one("SELECT count(*) FROM entries WHERE number = ?", number)[0]
         self.base.execute("INSERT INTO entries VALUES (?, ?, ?, ?, ?, ?, ?)",
                           (number, place, outcome, report.encode(), self.edition, who, self.today()))
-        self.base.execute("UPDATE states SET state = 'decided' WHERE number = ?", (number,))
         return 200, {"developer": developer, "outcome": outcome, "reference": reference}
 
     def decide(self, who: str) -> tuple[int, object]:
@@ -136,7 +137,6 @@ class Desk:
             raise No(409, f"too late, last day {last_day}")
         row = (number, entry[0], self.today(), text.encode())
         self.base.execute("INSERT INTO entry_appeals VALUES (?, ?, ?, ?)", row)
-        self.base.execute("UPDATE states SET state = 'appealed' WHERE number = ?", (number,))
         return 200, {"reference": reference, "state": "appealed"}
 
     def rule(self, who: str, developer: str, reference: str, ruling: str) -> tuple[int, object]:
@@ -150,7 +150,6 @@ class Desk:
             raise No(403, "same reviewer")
         row = (number, entry[0], who, self.today(), ruling)
         self.base.execute("INSERT INTO entry_rulings VALUES (?, ?, ?, ?, ?)", row)
-        self.base.execute("UPDATE states SET state = 'ruled' WHERE number = ?", (number,))
         return 200, {"developer": developer, "reference": reference, "ruling": ruling}
 
     def show(self, who: str, reference: str) -> tuple[int, object]:

@@ -239,7 +239,6 @@ class Hostile(unittest.TestCase):
         base.execute("INSERT INTO version VALUES (1, 2)")
         base.execute("INSERT INTO cases VALUES (1, ?, ?, ?, ?, ?)", (name, name, evil, evil, evil))
         base.execute("INSERT INTO dex VALUES (1, 0, ?)", (evil,))
-        base.execute("INSERT INTO states VALUES (1, ?, ?, 'appealed')", (name, name))
         report = b"flagged 1\n<script>document.title='taken'</script> -> \x1b]0;x\x07\n"
         base.execute("INSERT INTO entries VALUES (1, 0, 'flagged', ?, ?, ?, ?)", (report, evil, name, 1 << 40))
         base.execute("INSERT INTO entry_appeals VALUES (1, 0, 4294967295, ?)", (b"</pre><script>x</script>" + evil,))
@@ -460,7 +459,7 @@ class Waiting(unittest.TestCase):
         base = sqlite3.connect(self.office / "desk.sqlite", isolation_level=None)
         base.executescript(TABLES)
         base.execute("INSERT INTO version VALUES (1, 2)")
-        base.execute("INSERT INTO states VALUES (1, 'ann', 'r1', 'queued')")
+        base.execute("INSERT INTO cases VALUES (1, 'ann', 'r1', x'', x'', x'')")
         base.close()
         reply = rex.send(*rex.look().form("Decide the first case"))
         waiting = rex.ask("GET", reply.head["Location"])

@@ -96,6 +96,18 @@ class Case:
         return f"{len(self.entries)}.{self.state.value}"
 
 
+# How far each case is, by its last entry. An earlier desk kept a table of this name, which this stands before.
+STATES = """
+CREATE TEMP VIEW IF NOT EXISTS states AS
+SELECT cases.number, cases.party, cases.reference,
+    CASE WHEN entries.number IS NULL THEN 'queued' WHEN entry_appeals.number IS NULL THEN 'decided'
+        WHEN entry_rulings.number IS NULL THEN 'appealed' ELSE 'ruled' END AS state
+FROM cases
+LEFT JOIN entries ON entries.number = cases.number
+    AND entries.place = (SELECT max(place) FROM entries WHERE entries.number = cases.number)
+LEFT JOIN entry_appeals ON entry_appeals.number = entries.number AND entry_appeals.place = entries.place
+LEFT JOIN entry_rulings ON entry_rulings.number = entries.number AND entry_rulings.place = entries.place
+"""
 _LINES = """
 SELECT states.number, states.party, states.reference, states.state,
     entries.outcome, entries.reviewer, entries.day, entry_appeals.day
@@ -142,6 +154,7 @@ class Cases:
             raise CasesError("desk.sqlite has no tables of a desk: let the desk take a request once.") from None
         if rows != [(VERSION,)]:
             raise CasesError("desk.sqlite is of another version: let this version's desk take a request once.")
+        list(self._ask(STATES))
 
     @staticmethod
     def are_in(connection: sqlite3.Connection) -> bool:

@@ -1,4 +1,5 @@
 pub mod Appealed
+pub mod Bare
 pub mod Counting
 pub mod Ends
 pub mod Held

@@ -1,2 +1,3 @@
 pub mod Keeper
 pub mod MemoryKeeper
+pub mod Viewing

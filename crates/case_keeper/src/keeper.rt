@@ -3,9 +3,9 @@ ghost use Rattle.case_rules.specs.Cases.{is_named, is_queued, queued_of, own_lin
 ghost use Rattle.case_rules.specs.declared.case.Case.{Case};
 ghost use Rattle.case_rules.specs.Docket.{Fits};
 ghost use Rattle.case_keeper.specs.declared.keeper.KeepFault.TheVariants.{Memory as OutOfMemory};
-ghost use Rattle.case_keeper.specs.Keeper.{Tells, told_after, KeepCause};
+ghost use Rattle.case_keeper.specs.Keeper.{Tells, history_of, told_after, KeepCause};
 
-use case_rules::{Case, Change, Line};
+use case_rules::{Case, Change, Entry, Line};
 use std::alloc::{AllocError, AllocFailed, Global};
 use vet_base::{Memory, Name, Shared};
 
@@ -33,6 +33,17 @@ pub trait Keeper {
         reference: &Name,
     ) -> Result<Option<Case>, KeepFault>
         ensures answer { Tells (find (is_named party.now reference.now)) (told self.old) result }
+        ensures told { told self.new ≡ told self.old }
+        ensures cause { KeepCause (fault_count self.old) (fault_count self.new) result };
+
+    /// The entries of the case of this developer and reference: all that a keeper has to tell of it but its content.
+    fn history(
+        &mut self,
+        alloc: Global,
+        party: &Name,
+        reference: &Name,
+    ) -> Result<Option<Shared<Entry>>, KeepFault>
+        ensures answer { Tells (history_of party.now reference.now) (told self.old) result }
         ensures told { told self.new ≡ told self.old }
         ensures cause { KeepCause (fault_count self.old) (fault_count self.new) result };
 

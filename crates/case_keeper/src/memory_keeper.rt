@@ -1,14 +1,14 @@
 ghost use Rattle.std.specs.Prelude.{◌≡◌, [], Some, true, find, IfOk, IfSome};
 ghost use Rattle.case_rules.specs.Cases.{is_named, is_queued, queued_of, own_lines, open_lines};
 ghost use Rattle.case_rules.specs.Docket.{Fits};
-ghost use Rattle.case_keeper.specs.Keeper.{Tells, told_after, KeepCause};
+ghost use Rattle.case_keeper.specs.Keeper.{Tells, history_of, told_after, KeepCause};
 ghost use Rattle.case_keeper.specs.MemoryKeeper.{fails_next, FailsAsNumbered, CountsCall};
 
 use crate::holding::{add, case_at, case_named, first_queued_from, replace};
 use crate::listing::{lines_at, lines_of_set};
 use crate::placing::{CaseIndex, places_of, waiting_of};
 use crate::{KeepFault, Keeper};
-use case_rules::{Case, Change, Line};
+use case_rules::{Case, Change, Entry, Line};
 use std::alloc::Global;
 use std::collections::{BTreeMap, BTreeSet};
 use std::marker::Model;
@@ -107,6 +107,25 @@ impl Keeper for MemKeeper {
             return Ok(None);
         };
         Ok(Some(case.copy()?))
+    }
+
+    fn history(
+        &mut self,
+        _alloc: Global,
+        party: &Name,
+        reference: &Name,
+    ) -> Result<Option<Shared<Entry>>, KeepFault>
+        ensures answer { Tells (history_of party.now reference.now) (Some self.old.cases) result }
+        ensures told { Some self.new.cases ≡ Some self.old.cases }
+        ensures cause { KeepCause self.old.faults self.new.faults result }
+        ensures numbered { FailsAsNumbered (fails_next self.old) result }
+        ensures counted { CountsCall self.old self.new }
+    {
+        self.begin()?;
+        let Some(case) = case_named(&self.cases, &self.index.places, party, reference)? else {
+            return Ok(None);
+        };
+        Ok(Some(case.entries.copy()?))
     }
 
     fn first_queued(&mut self, _alloc: Global) -> Result<Option<Case>, KeepFault>

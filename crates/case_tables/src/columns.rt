@@ -1,8 +1,8 @@
 //! What stands in the columns of a row.
 
 use crate::refusal::Refusal;
-use crate::words::{outcome_of, ruling_of, state_of};
-use case_rules::{Appeal, Decision, Entry, Line, Ruling};
+use crate::words::{outcome_of, ruling_of};
+use case_rules::{Appeal, Decision, Entry, Ruling};
 use sqlite::Row;
 use sqlite::types::ValueRef;
 use std::alloc::Global;
@@ -16,7 +16,7 @@ pub trait InRow: Sized + Drop {
 fn text_at(row: &Row, at: usize) -> Result<&[u8], Refusal> {
     match row.get_ref(at)? {
         ValueRef::Text(bytes) => Ok(bytes),
-        _ => Err(Refusal::Database),
+        _ => Err(Refusal::Inconsistent),
     }
 }
 
@@ -36,14 +36,25 @@ fn is_null(row: &Row, at: usize) -> Result<bool, Refusal> {
 /// The 32 bytes of an edition.
 fn lists_at(row: &Row, at: usize) -> Result<[u8; 32], Refusal> {
     let ValueRef::Blob(bytes) = row.get_ref(at)? else {
-        return Err(Refusal::Database);
+        return Err(Refusal::Inconsistent);
     };
     if bytes.len() != 32 {
-        return Err(Refusal::Database);
+        return Err(Refusal::Inconsistent);
     }
     let mut lists = [0; 32];
     lists.copy_from_slice(bytes);
     Ok(lists)
+}
+
+/// What a row holds, and nothing of one that holds what no statement of this crate writes.
+impl<T: InRow> InRow for Option<T> {
+    fn in_row(alloc: Global, row: &Row) -> Result<Option<T>, Refusal> {
+        match T::in_row(alloc, row) {
+            Ok(held) => Ok(Some(held)),
+            Err(Refusal::Inconsistent) => Ok(None),
+            Err(refusal) => Err(refusal),
+        }
+    }
 }
 
 /// The row of a case itself.
@@ -80,17 +91,40 @@ impl InRow for Heading {
     }
 }
 
-/// The developer, the reference and the state in columns 0 to 2.
-impl InRow for Line {
-    fn in_row(alloc: Global, row: &Row) -> Result<Line, Refusal> {
-        let Some(state) = state_of(text_at(row, 2)?) else {
-            return Err(Refusal::Database);
-        };
+/// A case by its names and its number.
+#[derive(Drop)]
+pub struct Label {
+    pub party: Name,
+    pub reference: Name,
+    pub number: i64,
+}
+
+/// The names in columns 0 and 1, and the number in column 2.
+impl InRow for Label {
+    fn in_row(alloc: Global, row: &Row) -> Result<Label, Refusal> {
+        let number = row.get(2)?;
         let (party, reference) = names_in(alloc, row)?;
-        Ok(Line {
+        Ok(Label {
             party,
             reference,
-            state,
+            number,
+        })
+    }
+}
+
+/// The place of something among the entries of a case.
+#[derive(Clone, Copy)]
+pub struct Spot {
+    pub number: i64,
+    pub place: i64,
+}
+
+/// The number of the case in column 0, and the place in column 1.
+impl InRow for Spot {
+    fn in_row(_alloc: Global, row: &Row) -> Result<Spot, Refusal> {
+        Ok(Spot {
+            number: row.get(0)?,
+            place: row.get(1)?,
         })
     }
 }
@@ -105,7 +139,7 @@ impl InRow for Shared<u8> {
 /// The decision in columns 0 to 4.
 fn decision_in(alloc: Global, row: &Row) -> Result<Decision, Refusal> {
     let Some(outcome) = outcome_of(text_at(row, 0)?) else {
-        return Err(Refusal::Database);
+        return Err(Refusal::Inconsistent);
     };
     let lists = lists_at(row, 2)?;
     let day = row.get(4)?;
@@ -136,7 +170,7 @@ fn ruling_in(alloc: Global, row: &Row) -> Result<Option<Ruling>, Refusal> {
         return Ok(None);
     }
     let Some(word) = ruling_of(text_at(row, 9)?) else {
-        return Err(Refusal::Database);
+        return Err(Refusal::Inconsistent);
     };
     let day = row.get(8)?;
     let reviewer = name_at(alloc, row, 7)?;

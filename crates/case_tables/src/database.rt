@@ -1,21 +1,23 @@
 ghost use Rattle.std.specs.Prelude.{◌≡◌, true, false, IsOk};
 
 use crate::changing::make_change;
-use crate::reading::{
-    case_numbered, count_queued, lines_of, number_named, number_queued, open_lines,
-};
+use crate::index::Index;
+use crate::opening::known;
+use crate::reading::{case_numbered, entries_of, first_queued};
 use crate::refusal::Refusal;
 use crate::tables::make_tables;
-use case_rules::{Case, Change, Line};
+use case_rules::{Case, Change, Entry, Line};
 use sqlite::{Alter, Connection, Error, ErrorCode};
 use std::alloc::Global;
 use vet_base::{Name, Shared};
 
-/// A connection whose first call makes the tables; where that is refused, the next call tries again.
+/// A connection whose first call makes the tables, and asks them what is known of the cases without their contents;
+/// where that is refused, the next call tries again.
 #[derive(Drop)]
 pub struct Database<S: Alter + Drop> {
     connection: Connection<S>,
     has_tables: bool,
+    index: Option<Index>,
 }
 
 impl<S: Alter + Drop> Database<S> {
@@ -27,6 +29,7 @@ impl<S: Alter + Drop> Database<S> {
         Database {
             connection,
             has_tables: false,
+            index: None,
         }
     }
 
@@ -72,30 +75,47 @@ impl<S: Alter + Drop> Database<S> {
         ensures { IsOk result → self.new.has_tables ≡ true }
     {
         self.ready()?;
-        match number_named(&mut self.connection, party, reference)? {
+        let index = known(alloc, &mut self.connection, &mut self.index)?;
+        match index.standing(party, reference) {
             None => Ok(None),
-            Some(number) => Ok(Some(case_numbered(alloc, &mut self.connection, number)?)),
+            Some(found) => Ok(Some(case_numbered(alloc, &mut self.connection, found.number)?)),
         }
     }
 
-    /// The case of the least number of those that the database tells to be without an entry. Whether it has none is for
-    /// the caller to ask.
+    /// The entries of the case that the database has of this developer and reference, oldest first. No content is read.
+    pub fn history(
+        &mut self,
+        alloc: Global,
+        party: &Name,
+        reference: &Name,
+    ) -> Result<Option<Shared<Entry>>, Refusal>
+        ensures { IsOk result → self.new.has_tables ≡ true }
+    {
+        self.ready()?;
+        let index = known(alloc, &mut self.connection, &mut self.index)?;
+        match index.standing(party, reference) {
+            None => Ok(None),
+            Some(found) => Ok(Some(entries_of(alloc, &mut self.connection, found.number)?)),
+        }
+    }
+
+    /// The case of the least number of those that the database tells to be without an entry, and that can be read.
+    /// Whether it has none is for the caller to ask.
     pub fn first_queued(&mut self, alloc: Global) -> Result<Option<Case>, Refusal>
         ensures { IsOk result → self.new.has_tables ≡ true }
     {
         self.ready()?;
-        match number_queued(&mut self.connection)? {
-            None => Ok(None),
-            Some(number) => Ok(Some(case_numbered(alloc, &mut self.connection, number)?)),
-        }
+        let index = known(alloc, &mut self.connection, &mut self.index)?;
+        first_queued(alloc, &mut self.connection, index.queue())
     }
 
     /// How many cases of the developer have no entry.
-    pub fn queued(&mut self, party: &Name) -> Result<u64, Refusal>
+    pub fn queued(&mut self, alloc: Global, party: &Name) -> Result<u64, Refusal>
         ensures { IsOk result → self.new.has_tables ≡ true }
     {
         self.ready()?;
-        count_queued(&mut self.connection, party)
+        let index = known(alloc, &mut self.connection, &mut self.index)?;
+        Ok(index.queued(party))
     }
 
     /// The cases of the developer, by reference.
@@ -103,7 +123,8 @@ impl<S: Alter + Drop> Database<S> {
         ensures { IsOk result → self.new.has_tables ≡ true }
     {
         self.ready()?;
-        lines_of(alloc, &mut self.connection, party)
+        let index = known(alloc, &mut self.connection, &mut self.index)?;
+        Ok(index.lines_of(alloc, party)?)
     }
 
     /// The cases with an open appeal, by developer and reference.
@@ -111,14 +132,15 @@ impl<S: Alter + Drop> Database<S> {
         ensures { IsOk result → self.new.has_tables ≡ true }
     {
         self.ready()?;
-        open_lines(alloc, &mut self.connection)
+        let index = known(alloc, &mut self.connection, &mut self.index)?;
+        Ok(index.open_lines(alloc)?)
     }
 
     /// Makes a change in one transaction.
-    pub fn apply(&mut self, change: &Change) -> Result<(), Refusal>
+    pub fn apply(&mut self, alloc: Global, change: &Change) -> Result<(), Refusal>
         ensures { IsOk result → self.new.has_tables ≡ true }
     {
         self.ready()?;
-        make_change(&mut self.connection, change)
+        make_change(alloc, &mut self.connection, &mut self.index, change)
     }
 }

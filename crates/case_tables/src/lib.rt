@@ -4,6 +4,8 @@
 mod changing;
 mod columns;
 mod database;
+mod index;
+mod opening;
 mod reading;
 mod refusal;
 mod tables;

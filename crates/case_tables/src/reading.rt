@@ -1,58 +1,11 @@
-use crate::changing::text;
 use crate::columns::{Heading, InRow};
 use crate::refusal::Refusal;
-use case_rules::{Case, Content, Entry, Line};
+use case_rules::{Case, Content, Entry};
 use sqlite::types::ValueRef;
 use sqlite::{Alter, Connection, Rows};
 use std::alloc::Global;
-use vet_base::{Name, Shared};
-
-/// The number of the case of this developer and reference, where there is one.
-pub fn number_named<S: Alter>(
-    connection: &mut Connection<S>,
-    party: &Name,
-    reference: &Name,
-) -> Result<Option<i64>, Refusal> {
-    number_in(
-        connection,
-        "SELECT number FROM states WHERE party = ?1 AND reference = ?2",
-        &[text(party), text(reference)],
-    )
-}
-
-/// The least number of a case without an entry, where there is one.
-pub fn number_queued<S: Alter>(connection: &mut Connection<S>) -> Result<Option<i64>, Refusal> {
-    number_in(
-        connection,
-        "SELECT number FROM states WHERE state = 'queued' ORDER BY number LIMIT 1",
-        &[],
-    )
-}
-
-/// The number in the first row of an answer, where there is a row.
-fn number_in<S: Alter>(
-    connection: &mut Connection<S>,
-    query: &str,
-    values: &[ValueRef<'_>],
-) -> Result<Option<i64>, Refusal> {
-    let rows = connection.query_all(query, values)?;
-    match rows.first() {
-        None => Ok(None),
-        Some(row) => Ok(Some(row.get(0)?)),
-    }
-}
-
-/// How many cases of the developer have no entry.
-pub fn count_queued<S: Alter>(
-    connection: &mut Connection<S>,
-    party: &Name,
-) -> Result<u64, Refusal> {
-    let row = connection.query_row(
-        "SELECT count(*) FROM states WHERE state = 'queued' AND party = ?1",
-        &[text(party)],
-    )?;
-    Ok(row.get(0)?)
-}
+use std::collections::BTreeSet;
+use vet_base::Shared;
 
 /// Puts what the next row holds behind the others; whether there was one.
 fn push_next<S: Alter, T: InRow>(
@@ -95,7 +48,7 @@ fn push_answer<S: Alter, T: InRow>(
 }
 
 /// What the rows of an answer hold, in their order.
-fn all_in<S: Alter, T: InRow>(
+pub fn all_in<S: Alter, T: InRow>(
     alloc: Global,
     connection: &mut Connection<S>,
     query: &str,
@@ -104,33 +57,6 @@ fn all_in<S: Alter, T: InRow>(
     let mut all = Vec::new(alloc);
     push_answer(alloc, connection, query, values, &mut all)?;
     Ok(Shared::from_vec(alloc, all)?)
-}
-
-/// The cases of the developer, by reference.
-pub fn lines_of<S: Alter>(
-    alloc: Global,
-    connection: &mut Connection<S>,
-    party: &Name,
-) -> Result<Shared<Line>, Refusal> {
-    all_in(
-        alloc,
-        connection,
-        "SELECT party, reference, state FROM states WHERE party = ?1 ORDER BY reference",
-        &[text(party)],
-    )
-}
-
-/// The cases with an open appeal, by developer and reference.
-pub fn open_lines<S: Alter>(
-    alloc: Global,
-    connection: &mut Connection<S>,
-) -> Result<Shared<Line>, Refusal> {
-    all_in(
-        alloc,
-        connection,
-        "SELECT party, reference, state FROM states WHERE state = 'appealed' ORDER BY party, reference",
-        &[],
-    )
 }
 
 /// The files of a case, in their order.
@@ -148,7 +74,7 @@ fn files_of<S: Alter>(
 }
 
 /// The entries of a case, oldest first.
-fn entries_of<S: Alter>(
+pub fn entries_of<S: Alter>(
     alloc: Global,
     connection: &mut Connection<S>,
     number: i64,
@@ -194,7 +120,7 @@ fn case_of(heading: Heading, dex: Shared<Shared<u8>>, entries: Shared<Entry>) ->
     }
 }
 
-/// The case of a number that `states` has.
+/// The case of a number.
 pub fn case_numbered<S: Alter>(
     alloc: Global,
     connection: &mut Connection<S>,
@@ -204,4 +130,41 @@ pub fn case_numbered<S: Alter>(
     let entries = entries_of(alloc, connection, number)?;
     let heading = heading_of(alloc, connection, number)?;
     Ok(case_of(heading, dex, entries))
+}
+
+fn if_queued(case: Case) -> Option<Case> {
+    if case.is_queued() { Some(case) } else { None }
+}
+
+/// The case of a number, where it can be read and has no entry.
+fn queued_numbered<S: Alter>(
+    alloc: Global,
+    connection: &mut Connection<S>,
+    number: i64,
+) -> Result<Option<Case>, Refusal> {
+    match case_numbered(alloc, connection, number) {
+        Ok(case) => Ok(if_queued(case)),
+        Err(Refusal::Inconsistent) => Ok(None),
+        Err(refusal) => Err(refusal),
+    }
+}
+
+/// The first case of these numbers, which are told to be without an entry. One that holds what no statement of this
+/// crate writes is passed over; where there is no other, it is refused.
+pub fn first_queued<S: Alter>(
+    alloc: Global,
+    connection: &mut Connection<S>,
+    numbers: &BTreeSet<i64>,
+) -> Result<Option<Case>, Refusal> {
+    for number in numbers {
+        let found = queued_numbered(alloc, connection, *number)?;
+        if found.is_some() {
+            return Ok(found);
+        }
+    }
+    if numbers.is_empty() {
+        Ok(None)
+    } else {
+        Err(Refusal::Inconsistent)
+    }
 }

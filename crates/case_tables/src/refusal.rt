@@ -5,17 +5,22 @@ use vet_base::Memory;
 /// Why the database gave nothing.
 #[derive(Clone, Copy, Debug, PartialEq, Eq)]
 pub enum Refusal {
-    /// It refused a statement, or held what no statement of this crate writes.
+    /// It refused a statement.
     Database,
+    /// It held what no statement of this crate writes.
+    Inconsistent,
     Memory,
 }
 
 impl From<Error> for Refusal {
     fn from(error: Error) -> Refusal {
-        if error == Error::SqliteFailure(ErrorCode::OutOfMemory) {
-            Refusal::Memory
-        } else {
-            Refusal::Database
+        match error {
+            Error::SqliteFailure(ErrorCode::OutOfMemory) => Refusal::Memory,
+            Error::QueryReturnedNoRows
+            | Error::InvalidColumnType(..)
+            | Error::IntegralValueOutOfRange(_)
+            | Error::Utf8Error(_) => Refusal::Inconsistent,
+            _ => Refusal::Database,
         }
     }
 }

@@ -5,8 +5,7 @@ use sqlite::{Alter, Connection, Transaction};
 const VERSION: i64 = 2;
 
 /// All tables. `decisions`, `appeals` and `rulings` are those of version 1, in which a case had at most one of
-/// each; in version 2 they are empty. `states` has a small row for each case, so that no look-up but that of one
-/// case reads the bytes of an app.
+/// each; in version 2 they are empty.
 const TABLES: &str = "
 CREATE TABLE IF NOT EXISTS version (one INTEGER PRIMARY KEY, number INTEGER NOT NULL);
 CREATE TABLE IF NOT EXISTS cases (number INTEGER PRIMARY KEY AUTOINCREMENT, party TEXT NOT NULL,
@@ -25,11 +24,7 @@ CREATE TABLE IF NOT EXISTS entries (number INTEGER NOT NULL, place INTEGER NOT N
 CREATE TABLE IF NOT EXISTS entry_appeals (number INTEGER NOT NULL, place INTEGER NOT NULL, day INTEGER NOT NULL,
     body BLOB NOT NULL, PRIMARY KEY (number, place));
 CREATE TABLE IF NOT EXISTS entry_rulings (number INTEGER NOT NULL, place INTEGER NOT NULL, reviewer TEXT NOT NULL,
-    day INTEGER NOT NULL, word TEXT NOT NULL, PRIMARY KEY (number, place));
-CREATE TABLE IF NOT EXISTS states (number INTEGER PRIMARY KEY, party TEXT NOT NULL, reference TEXT NOT NULL,
-    state TEXT NOT NULL, UNIQUE (party, reference));
-CREATE INDEX IF NOT EXISTS states_by_number ON states (state, number);
-CREATE INDEX IF NOT EXISTS states_by_name ON states (state, party, reference)";
+    day INTEGER NOT NULL, word TEXT NOT NULL, PRIMARY KEY (number, place))";
 
 /// Makes version 2 of version 1: the one decision of a case becomes its entry 0.
 const RAISE: &str = "
@@ -38,14 +33,13 @@ INSERT INTO entries (number, place, outcome, report, lists, reviewer, day)
 INSERT INTO entry_appeals (number, place, day, body) SELECT number, 0, day, body FROM appeals;
 INSERT INTO entry_rulings (number, place, reviewer, day, word)
     SELECT number, 0, reviewer, day, word FROM rulings;
-INSERT INTO states (number, party, reference, state) SELECT number, party, reference, 'queued' FROM cases;
-UPDATE states SET state = 'decided' WHERE number IN (SELECT number FROM decisions);
-UPDATE states SET state = 'appealed' WHERE number IN (SELECT number FROM appeals);
-UPDATE states SET state = 'ruled' WHERE number IN (SELECT number FROM rulings);
 DELETE FROM decisions;
 DELETE FROM appeals;
 DELETE FROM rulings;
 INSERT INTO version (one, number) VALUES (1, 2)";
+
+/// Lets go what an earlier program kept beside the tables: the state of each case, which the others tell.
+const LET_GO: &str = "DROP TABLE IF EXISTS states";
 
 /// The version that the database says, where it says one.
 fn version_of<S: Alter>(transaction: &mut Transaction<'_, S>) -> Result<Option<i64>, Refusal> {
@@ -61,7 +55,7 @@ fn make_or_raise<S: Alter>(transaction: &mut Transaction<'_, S>) -> Result<(), R
     transaction.execute_batch(TABLES)?;
     match version_of(transaction)? {
         None => Ok(transaction.execute_batch(RAISE)?),
-        Some(VERSION) => Ok(()),
+        Some(VERSION) => Ok(transaction.execute_batch(LET_GO)?),
         Some(_) => Err(Refusal::Database),
     }
 }

@@ -1,4 +1,4 @@
-use case_rules::{OutcomeWord, RulingWord, State};
+use case_rules::{OutcomeWord, RulingWord};
 
 const OUTCOMES: [OutcomeWord; 4] = [
     OutcomeWord::Clear,
@@ -8,8 +8,6 @@ const OUTCOMES: [OutcomeWord; 4] = [
 ];
 
 const RULINGS: [RulingWord; 2] = [RulingWord::Uphold, RulingWord::Overturn];
-
-const STATES: [State; 4] = [State::Queued, State::Decided, State::Appealed, State::Ruled];
 
 /// An outcome as the tables have it.
 pub fn outcome_word(outcome: OutcomeWord) -> &'static str {
@@ -29,16 +27,6 @@ pub fn ruling_word(ruling: RulingWord) -> &'static str {
     }
 }
 
-/// A state as the tables have it.
-fn state_word(state: State) -> &'static str {
-    match state {
-        State::Queued => "queued",
-        State::Decided => "decided",
-        State::Appealed => "appealed",
-        State::Ruled => "ruled",
-    }
-}
-
 /// The outcome of this word.
 pub fn outcome_of(word: &[u8]) -> Option<OutcomeWord> {
     OUTCOMES
@@ -51,11 +39,4 @@ pub fn ruling_of(word: &[u8]) -> Option<RulingWord> {
     RULINGS
         .into_iter()
         .find(|ruling| ruling_word(*ruling).as_bytes() == word)
-}
-
-/// The state of this word.
-pub fn state_of(word: &[u8]) -> Option<State> {
-    STATES
-        .into_iter()
-        .find(|state| state_word(*state).as_bytes() == word)
 }

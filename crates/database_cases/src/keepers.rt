@@ -19,6 +19,10 @@ pub trait FileKeeper: Keeper + Drop + Sized {
     fn blank(alloc: Global, faults: Faults) -> io::Result<Self>
         ensures { IfOk result (λ keeper. TellsDocket (Self.told keeper)) };
 
+    /// A keeper over a database whose file has these bytes.
+    fn of_bytes(alloc: Global, bytes: &[u8]) -> io::Result<Self>
+        ensures { IfOk result (λ keeper. TellsDocket (Self.told keeper)) };
+
     /// The keeper over the same files, which are closed and opened again. Where they may have failed, the machine
     /// comes back in between, by which what was not synced is lost.
     fn reopened(self, alloc: Global, may_have_failed: bool) -> io::Result<Self>
@@ -74,6 +78,10 @@ fn size_of<S: Alter + Drop>(connection: Connection<S>) -> Option<i64> {
 impl<S: Filed> FileKeeper for OpenKeeper<S> {
     fn blank(alloc: Global, faults: Faults) -> io::Result<OpenKeeper<S>> {
         Ok(OpenKeeper::adopt(S::blank(alloc, faults)?))
+    }
+
+    fn of_bytes(alloc: Global, bytes: &[u8]) -> io::Result<OpenKeeper<S>> {
+        Ok(OpenKeeper::adopt(S::of_bytes(alloc, bytes)?))
     }
 
     fn reopened(self, alloc: Global, may_have_failed: bool) -> io::Result<OpenKeeper<S>> {

@@ -65,6 +65,10 @@ fn all_replies<R: Files + Print + AllocGlobal, K: FileKeeper>(rt: &R) -> io::Res
     replies::<R, K>(rt, "limits.txt", false)?;
     replies::<R, K>(rt, "version_1.txt", false)?;
     replies::<R, K>(rt, "version_1.txt", true)?;
+    replies::<R, K>(rt, "version_2.txt", false)?;
+    replies::<R, K>(rt, "version_2.txt", true)?;
+    replies::<R, K>(rt, "inconsistent.txt", false)?;
+    replies::<R, K>(rt, "unread.txt", false)?;
     replies::<R, K>(rt, "other_versions.txt", false)?;
     replies::<R, K>(rt, "changes.txt", false)?;
     replies::<R, K>(rt, "like_version_1.txt", false)?;
@@ -202,26 +206,24 @@ fn both_stumbles<R: Print + AllocGlobal, K: FileKeeper, L: LateOne>(
     )
 }
 
-/// Prints whether a database that these statements of version 1 make has the cases that these commands make.
+/// Prints whether a database that these statements make has the cases that these commands make.
 fn has_cases<R: Files + Print + AllocGlobal, K: FileKeeper>(
     rt: &R,
+    version: u8,
     statements: &str,
     like_these: &str,
     questions: &str,
 ) -> io::Result<()> {
     let is_alike = answers_as_memory::<K>(rt.alloc(), like_these, questions)?;
-    let holds = has_after::<K>(rt.alloc(), statements, like_these, questions)?;
-    say(
-        rt,
-        "has the cases of version 1 byte for byte",
-        is_alike && holds,
-    )
+    let holds = is_alike && has_after::<K>(rt.alloc(), statements, like_these, questions)?;
+    println!(rt; "has the cases of version {version} byte for byte: {holds}")
 }
 
-/// Prints whether a database that these statements of version 1 make has its cases where the log stops while they are
-/// raised. That is at least one write and one sync, so it is to stop at two places at least.
+/// Prints whether a database that these statements make has its cases where the log stops while its tables are made
+/// those of today. That is at least one write and one sync, so it is to stop at two places at least.
 fn has_raised<R: Files + Print + AllocGlobal, K: FileKeeper>(
     rt: &R,
+    version: u8,
     statements: &str,
     like_these: &str,
     questions: &str,
@@ -233,22 +235,45 @@ fn has_raised<R: Files + Print + AllocGlobal, K: FileKeeper>(
         questions,
     };
     let stops = stops_of::<K>(rt.alloc(), run, true, 10_000)?;
-    say(
-        rt,
-        "has the cases of version 1 where the log stops while they are raised",
-        has_stops(stops, 2),
+    let holds = has_stops(stops, 2);
+    println!(rt;
+        "has the cases of version {version} where the log stops while they are taken over: {holds}"
     )
 }
 
-/// Prints whether a database of version 1 has its cases, also where the log stops while they are raised.
+/// Prints whether a database of version 1 has its cases, also where the log stops while they are taken over.
 fn all_raised<R: Files + Print + AllocGlobal, K: FileKeeper>(
     rt: &R,
     questions: &str,
 ) -> io::Result<()> {
     let statements = text(rt, "version_1.sql")?;
     let like = text(rt, "like_version_1.txt")?;
-    has_cases::<R, K>(rt, statements.as_str(), like.as_str(), questions)?;
-    has_raised::<R, K>(rt, statements.as_str(), like.as_str(), questions)
+    has_cases::<R, K>(rt, 1, statements.as_str(), like.as_str(), questions)?;
+    has_raised::<R, K>(rt, 1, statements.as_str(), like.as_str(), questions)
+}
+
+/// Prints whether a database of another program has its cases, and with the states of an earlier program beside them,
+/// also where the log stops while these are let go.
+fn all_taken_over<R: Files + Print + AllocGlobal, K: FileKeeper>(rt: &R) -> io::Result<()> {
+    let mut statements = text(rt, "version_2.sql")?;
+    let like = text(rt, "like_version_2.txt")?;
+    let questions = text(rt, "version_2_questions.txt")?;
+    has_cases::<R, K>(
+        rt,
+        2,
+        statements.as_str(),
+        like.as_str(),
+        questions.as_str(),
+    )?;
+    let states = text(rt, "states.sql")?;
+    statements.push_str(states.as_str())?;
+    has_raised::<R, K>(
+        rt,
+        2,
+        statements.as_str(),
+        like.as_str(),
+        questions.as_str(),
+    )
 }
 
 /// Prints what holds of databases once these commands were put to them.
@@ -260,7 +285,8 @@ fn all_behind<R: Files + Print + AllocGlobal, K: FileKeeper, L: LateOne>(
     all_alike::<R, K, L>(rt, commands, questions)?;
     all_crashes::<R, K>(rt, commands, questions)?;
     both_stumbles::<R, K, L>(rt, commands, questions)?;
-    all_raised::<R, K>(rt, questions)
+    all_raised::<R, K>(rt, questions)?;
+    all_taken_over::<R, K>(rt)
 }
 
 /// Over keepers of whatever kind, of which the second opens its database late.

@@ -23,18 +23,29 @@ fn after_file<R: Files + AllocGlobal, K: FileKeeper>(rt: &R, keeper: K, name: &s
     keeper.after(statements.as_str())
 }
 
-/// Whether a line is a command.
-fn is_command(line: &str) -> bool {
-    line != "keeper" && line != "again" && !line.starts_with("sql ")
+/// A keeper over a database of which there is the file.
+fn over_file<R: Files + AllocGlobal, K: FileKeeper>(rt: &R, name: &str) -> io::Result<K>
+    ensures { IfOk result (λ next. TellsDocket (K.told next)) }
+{
+    let bytes = fs::read(rt, name)?;
+    K::of_bytes(rt.alloc(), bytes.as_slice())
 }
 
-/// The keeper once it is as a line says that is no command: a new one, one behind the statements of a file, or the same
-/// over its files opened anew.
+/// Whether a line is a command.
+fn is_command(line: &str) -> bool {
+    line != "keeper" && line != "again" && !line.starts_with("sql ") && !line.starts_with("file ")
+}
+
+/// The keeper once it is as a line says that is no command: a new one, one over a file, one behind the statements of a
+/// file, or the same over its files opened anew.
 fn set<R: Files + AllocGlobal, K: FileKeeper>(rt: &R, keeper: K, line: &str) -> io::Result<K>
     ensures { IfOk result (λ next. TellsDocket (K.told next)) }
 {
     if line == "keeper" {
         return K::blank(rt.alloc(), LASTING);
+    }
+    if let Some(name) = line.strip_prefix("file ") {
+        return over_file(rt, name);
     }
     match line.strip_prefix("sql ") {
         Some(name) => after_file(rt, keeper, name),
@@ -91,9 +102,10 @@ fn take_line<R: Files + Print + AllocGlobal, K: FileKeeper>(
     Ok((keeper, 0))
 }
 
-/// How many commands of a text get the reply that is due. A line `## TITLE` begins a case, and `keeper` a new
-/// database; `sql FILE` runs the statements of a file, and `again` closes the files and opens them again, which is
-/// also done before each command where `reopens`. Each other line is a command and behind ` > ` the reply that is due.
+/// How many commands of a text get the reply that is due. A line `## TITLE` begins a case, `keeper` a new database,
+/// and `file FILE` one that is there; `sql FILE` runs the statements of a file, and `again` closes the files and opens
+/// them again, which is also done before each command where `reopens`. Each other line is a command and behind ` > `
+/// the reply that is due.
 pub fn due_in_text<R: Files + Print + AllocGlobal, K: FileKeeper>(
     rt: &R,
     text: &str,

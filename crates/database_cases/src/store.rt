@@ -4,7 +4,7 @@
 
 use failing_disk::{Stumble, Stumbling};
 use sqlite::{Alter, Connection, FileStore, Files, Options};
-use sqlite_disk::{Crash, Fuse, Memory};
+use sqlite_disk::{Crash, Disk, Fuse, Memory};
 use std::alloc::Global;
 use std::io;
 
@@ -78,6 +78,9 @@ pub trait Filed: Alter + Drop {
     /// again; and where the database can't be made at first, it comes back then.
     fn blank(alloc: Global, faults: Faults) -> io::Result<Connection<Self>>;
 
+    /// The database of a file that has these bytes.
+    fn of_bytes(alloc: Global, bytes: &[u8]) -> io::Result<Connection<Self>>;
+
     /// The database over the same files, which are closed and opened again. Where they may have failed, the machine
     /// comes back in between, by which what was not synced is lost.
     fn reopened(self, alloc: Global, may_have_failed: bool) -> io::Result<Connection<Self>>;
@@ -150,6 +153,22 @@ impl Faulty for Stumbling<Fuse<Memory>> {
     }
 }
 
+/// Writes a file that is empty.
+fn write<D: Disk>(disk: &mut D, bytes: &[u8]) -> io::Result<()> {
+    if !disk.may_be_used() {
+        return Err(io::Error::other("the file is not written"));
+    }
+    disk.write_at(0, bytes)?;
+    disk.sync()
+}
+
+/// A disk that has these bytes, and does not fail.
+fn written<D: Faulty>(alloc: Global, bytes: &[u8]) -> io::Result<D> {
+    let mut disk = D::blank(alloc, NEVER);
+    write(&mut disk, bytes)?;
+    Ok(disk)
+}
+
 impl<D: Faulty> Filed for FileStore<D> {
     fn blank(alloc: Global, faults: Faults) -> io::Result<Connection<FileStore<D>>> {
         let files = Files {
@@ -157,6 +176,12 @@ impl<D: Faulty> Filed for FileStore<D> {
             db: D::blank(alloc, faults.db),
         };
         opened_at_last(alloc, files)
+    }
+
+    fn of_bytes(alloc: Global, bytes: &[u8]) -> io::Result<Connection<FileStore<D>>> {
+        let db = written(alloc, bytes)?;
+        let log = D::blank(alloc, NEVER);
+        opened(alloc, Files { log, db })
     }
 
     fn reopened(

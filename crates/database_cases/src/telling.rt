@@ -33,8 +33,64 @@ fn put_reply_to<K: Keeper>(
     requires { TellsDocket (K.told keeper.old) }
     ensures { TellsDocket (K.told keeper.new) }
 {
-    let reply = reply_to(alloc, keeper, asked(line));
+    let reply = reply_to(alloc, keeper, line);
     put_reply(text, &reply)
+}
+
+fn name_of(alloc: Global, name: &str) -> io::Result<Name> {
+    match Name::from_bytes(alloc, name.as_bytes()) {
+        Ok(name) => Ok(name),
+        Err(_) => Err(io::Error::from(io::ErrorKind::OutOfMemory)),
+    }
+}
+
+/// Puts a case behind the text.
+fn put_case(text: &mut String, case: &Result<Option<Case>, KeepFault>) -> io::Result<()> {
+    write!(text, "{case:?}")?;
+    Ok(())
+}
+
+/// Puts behind the text the case of this developer and reference, with its content.
+fn put_found<K: Keeper>(
+    alloc: Global,
+    keeper: &mut K,
+    names: (&str, &str),
+    text: &mut String,
+) -> io::Result<()>
+    requires { TellsDocket (K.told keeper.old) }
+    ensures { TellsDocket (K.told keeper.new) }
+{
+    let party = name_of(alloc, names.0)?;
+    let reference = name_of(alloc, names.1)?;
+    let case = keeper.find(alloc, &party, &reference);
+    put_case(text, &case)
+}
+
+/// The developer and the reference of a line that shows a case, as `100 1 ann show r1`.
+fn shown_in(line: &str) -> Option<(&str, &str)> {
+    let mut words = line.split(' ').skip(2);
+    let party = words.next()?;
+    if words.next()? != "show" {
+        return None;
+    }
+    Some((party, words.next()?))
+}
+
+/// Puts what the keeper replies to a line behind the text, and where it shows a case that case with its content.
+fn put_line<K: Keeper>(
+    alloc: Global,
+    keeper: &mut K,
+    line: &str,
+    text: &mut String,
+) -> io::Result<()>
+    requires { TellsDocket (K.told keeper.old) }
+    ensures { TellsDocket (K.told keeper.new) }
+{
+    put_reply_to(alloc, keeper, line, text)?;
+    match shown_in(line) {
+        Some(names) => put_found(alloc, keeper, names, text),
+        None => Ok(()),
+    }
 }
 
 /// Puts what the keeper replies to each line behind the text.
@@ -48,16 +104,9 @@ fn put_replies<K: Keeper>(
     ensures { TellsDocket (K.told keeper.new) }
 {
     for line in lines.lines() {
-        put_reply_to(alloc, keeper, line, text)?;
+        put_line(alloc, keeper, asked(line), text)?;
     }
     Ok(())
-}
-
-fn name_of(alloc: Global, name: &str) -> io::Result<Name> {
-    match Name::from_bytes(alloc, name.as_bytes()) {
-        Ok(name) => Ok(name),
-        Err(_) => Err(io::Error::from(io::ErrorKind::OutOfMemory)),
-    }
 }
 
 /// Puts behind the text how many cases without an entry a developer has.
@@ -73,12 +122,6 @@ fn put_count<K: Keeper>(
     let name = name_of(alloc, name)?;
     let count = keeper.queued(alloc, &name);
     write!(text, " {count:?}")?;
-    Ok(())
-}
-
-/// Puts a case behind the text.
-fn put_case(text: &mut String, case: &Result<Option<Case>, KeepFault>) -> io::Result<()> {
-    write!(text, "{case:?}")?;
     Ok(())
 }
 

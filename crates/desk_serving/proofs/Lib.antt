@@ -1,3 +1,4 @@
 pub mod Connections
+pub mod Handed
 pub mod Obeyed
 pub mod Runs

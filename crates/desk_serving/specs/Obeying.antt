@@ -4,6 +4,7 @@ use Rattle.case_rules.specs.declared.case.Case.{Case}
 use Rattle.case_rules.specs.declared.case.Content.{Content}
 use Rattle.case_rules.specs.declared.command.Command.{Command}
 use Rattle.case_rules.specs.declared.reply.Reply.{Reply}
+use Rattle.case_rules.specs.declared.reply.Reply.TheVariants as replies
 use Rattle.case_rules.specs.declared.reply.Plan.{Plan}
 use Rattle.case_rules.specs.declared.reply.Plan.TheVariants.{Say, Do, Judge}
 use Rattle.case_rules.specs.Rules.{Session}
@@ -12,6 +13,7 @@ use Rattle.case_rules.specs.Cases.{after as changed_by}
 use Rattle.case_rules.specs.Plans.{settled}
 use Rattle.case_rules.specs.Desk.{Judgement, Turn, plan_over, reply_to, cases_then, decision_by}
 use Rattle.case_rules.specs.Docket.{IsDocket}
+use Rattle.case_keeper.specs.Viewing.{without_content}
 use Rattle.desk_serving.specs.declared.judge.Judged.{Judged}
 
 abbrev pub judgement_of : Judged → Judgement
@@ -45,6 +47,31 @@ abbrev pub Obeys : (Content → Judgement → Type 0) → Session → Command �
 Obeys finds session command None after reply = after ≡ None
 Obeys finds session command (Some cases) after reply =
     (judgement : Judgement) × IsObeyed finds (turn_in session judgement command) cases after reply
+
+-- a reply as it is handed on: of a case that is shown all but its content
+abbrev pub handed : Reply → Reply
+handed (replies.Added reference) = replies.Added reference
+handed (replies.Kept reference state) = replies.Kept reference state
+handed (replies.Decided developer reference outcome) = replies.Decided developer reference outcome
+handed (replies.Shown case) = replies.Shown (without_content case)
+handed (replies.Text report) = replies.Text report
+handed (replies.Appealed reference) = replies.Appealed reference
+handed (replies.Ruled developer reference word) = replies.Ruled developer reference word
+handed (replies.Lines lines) = replies.Lines lines
+handed (replies.No refusal) = replies.No refusal
+
+-- Where the cases are told, the command was carried out as the machine says, and its reply is handed on.
+abbrev pub HandsOn : (Content → Judgement → Type 0) → Session → Command → Option (List Case) → Option (List Case)
+    → Reply → Type 0
+HandsOn finds session command None after reply = after ≡ None
+HandsOn finds session command (Some cases) after reply =
+    (whole : Reply) × (reply ≡ handed whole) × Obeys finds session command (Some cases) after whole
+
+-- a plan with its reply as it is handed on
+abbrev pub handed_plan : Plan → Plan
+handed_plan (Say reply) = Say (handed reply)
+handed_plan (Do change reply) = Do change (handed reply)
+handed_plan (Judge case) = Judge case
 
 -- A case was judged, and the decision on it kept.
 pub record IsSettled (finds : Content → Judgement → Type 0) (session : Session) (case : Case)

@@ -3,10 +3,10 @@ ghost use Rattle.std.specs.Prelude.{◌≡◌, ℕ, List, Some, IfOk, IfErr, Ok}
 ghost use Rattle.case_rules.specs.declared.case.Case.{Case};
 ghost use Rattle.case_rules.specs.Rules.{session_of};
 ghost use Rattle.case_rules.specs.Desk.{Judgement, decision_by, plan_over};
-ghost use Rattle.case_rules.specs.Docket.{IsDocket, IsFormed, Fits, TakesDecision};
-ghost use Rattle.case_rules.specs.Plans.{IsPlanFor, JudgesTaking, settled};
+ghost use Rattle.case_rules.specs.Docket.{IsFormed, Fits, TakesDecision};
+ghost use Rattle.case_rules.specs.Plans.{JudgesTaking, settled};
 ghost use Rattle.case_keeper.specs.Keeper.{KeepCause, told_after};
-ghost use Rattle.desk_serving.specs.Obeying.{TellsDocket, judgement_of, Obeys, IsSettled};
+ghost use Rattle.desk_serving.specs.Obeying.{TellsDocket, judgement_of, HandsOn, IsSettled, handed_plan};
 
 use crate::judge::{Desk, Judge, Judged};
 use case_keeper::{KeepFault, Keeper, view_for};
@@ -28,12 +28,8 @@ fn planned<K: Keeper, J: Judge>(
 ) -> Result<Plan, KeepFault>
     requires { IsFormed command.now }
     ensures over { IfOk result (λ plan. (cases : List Case) → K.told keeper.old ≡ Some cases
-        → plan ≡ plan_over (session_of party.now desk.now.office.appeal_days day (J.edition desk.now.judge)) command.now
-        cases) }
-    ensures follows { IfOk result (λ plan. (judgement : Judgement) (cases : List Case) → IsDocket cases
-        → K.told keeper.old ≡ Some cases
-        → IsPlanFor (session_of party.now desk.now.office.appeal_days day (J.edition desk.now.judge)) judgement
-        command.now cases plan) }
+        → plan ≡ handed_plan (plan_over (session_of party.now desk.now.office.appeal_days day
+        (J.edition desk.now.judge)) command.now cases)) }
     ensures takes { IfOk result (λ plan. JudgesTaking (session_of party.now desk.now.office.appeal_days day
         (J.edition desk.now.judge)) plan) }
     ensures told { K.told keeper.new ≡ K.told keeper.old }
@@ -123,7 +119,7 @@ fn obeyed<K: Keeper, J: Judge>(
     requires ready { J.ready desk.now.judge }
     requires docket { TellsDocket (K.told keeper.old) }
     requires formed { IsFormed command.now }
-    ensures obeys { IfOk result (λ reply. Obeys (J.finds desk.now.judge)
+    ensures obeys { IfOk result (λ reply. HandsOn (J.finds desk.now.judge)
         (session_of party.now desk.now.office.appeal_days day
         (J.edition desk.now.judge)) command.now (K.told keeper.old) (K.told keeper.new) reply) }
     ensures err { IfErr result (λ _. K.told keeper.new ≡ K.told keeper.old) }
@@ -137,8 +133,8 @@ fn obeyed<K: Keeper, J: Judge>(
     }
 }
 
-/// Carries a command out, once, and gives the desk's reply. After an `Err` the cases are as before: `Failed` comes only
-/// where the keeper's count rose, and `Memory` where memory ran out.
+/// Carries a command out, once, and gives the desk's reply, where a case is shown without its content. After an `Err`
+/// the cases are as before: `Failed` comes only where the keeper's count rose, and `Memory` where memory ran out.
 pub fn obey<K: Keeper, J: Judge>(
     alloc: Global,
     desk: &Desk<J>,
@@ -150,7 +146,7 @@ pub fn obey<K: Keeper, J: Judge>(
     requires ready { J.ready desk.now.judge }
     requires docket { TellsDocket (K.told keeper.old) }
     requires formed { IsFormed command.now }
-    ensures obeys { IfOk result (λ reply. Obeys (J.finds desk.now.judge)
+    ensures obeys { IfOk result (λ reply. HandsOn (J.finds desk.now.judge)
         (session_of party.now desk.now.office.appeal_days day
         (J.edition desk.now.judge)) command.now (K.told keeper.old) (K.told keeper.new) reply) }
     ensures docket { TellsDocket (K.told keeper.new) }

@@ -2,17 +2,17 @@ ghost use Rattle.std.specs.Prelude.{◌≡◌, ◌⊎◌, List, None, Some, true
 ghost use Rattle.case_rules.specs.Cases.{is_named, is_queued, queued_of, own_lines, open_lines};
 ghost use Rattle.case_rules.specs.declared.case.Case.{Case};
 ghost use Rattle.case_rules.specs.Docket.{Fits};
-ghost use Rattle.case_keeper.specs.Keeper.{Tells, told_after, KeepCause};
+ghost use Rattle.case_keeper.specs.Keeper.{Tells, history_of, told_after, KeepCause};
 ghost use Rattle.journal_reading.specs.Keeping.{IsReady, IsSafe, NoOther};
 ghost use Rattle.journal_reading.specs.Opening.{Answers, HoldsCases, OpenCause, Spares};
 ghost use Rattle.journal_keeper.specs.Causes.{CountsBy, IsUnopenable, Misfits};
 ghost use Rattle.journal_keeper.specs.State.{told_cases, all_faults, Outlasts};
 
 use crate::adding::add;
-use crate::looking::{appealed, first_queued, found, listed, queued};
+use crate::looking::{appealed, first_queued, found, history, listed, queued};
 use crate::readying::{make_ready, total};
 use case_keeper::{KeepFault, Keeper};
-use case_rules::{Case, Change, Line};
+use case_rules::{Case, Change, Entry, Line};
 use disks::Disk;
 use journal_reading::{OpenFault, Opened, opened_journal};
 use std::alloc::Global;
@@ -123,6 +123,26 @@ impl<D: Disk + Drop> Keeper for JournalKeeper<D> {
     {
         self.make_ready(alloc)?;
         found(alloc, &mut self.opened, party, reference)
+    }
+
+    fn history(
+        &mut self,
+        alloc: Global,
+        party: &Name,
+        reference: &Name,
+    ) -> Result<Option<Shared<Entry>>, KeepFault>
+        ensures answer { Tells (history_of party.now reference.now) (told_cases self.old) result }
+        ensures told { told_cases self.new ≡ told_cases self.old }
+        ensures cause { KeepCause (all_faults self.old) (all_faults self.new) result }
+        ensures outlasts { Outlasts NoOther self.old self.new }
+        ensures safe_now { OnOk result (IfSome self.new.told (IsSafe self.new.opened)) }
+        ensures held { OnOk result (IfSome self.old.told HoldsCases) }
+        ensures spares { Spares self.old.told self.new.told }
+        ensures counts { CountsBy (IsUnopenable self.old.opened self.old.told)
+            self.old.faults self.new.faults self.old.own self.new.own result }
+    {
+        self.make_ready(alloc)?;
+        history(alloc, &mut self.opened, party, reference)
     }
 
     fn first_queued(&mut self, alloc: Global) -> Result<Option<Case>, KeepFault>

@@ -1,11 +1,12 @@
 //! Look-ups of an open journal: the keeper in memory answers.
 ghost use Rattle.std.specs.Prelude.{◌≡◌, [], true, Err, find, IfOk, IfSome, OnErr};
 ghost use Rattle.case_rules.specs.Cases.{is_named, is_queued, queued_of, own_lines, open_lines};
+ghost use Rattle.case_keeper.specs.Keeper.{history_of};
 ghost use Rattle.journal_reading.specs.Keeping.{IsReady};
 ghost use Rattle.journal_keeper.specs.Adding.{HasTheSame, HoldsTheSame};
 
 use case_keeper::{KeepFault, Keeper};
-use case_rules::{Case, Line};
+use case_rules::{Case, Entry, Line};
 use journal_reading::Opened;
 use std::alloc::Global;
 use vet_base::{Name, Shared};
@@ -42,6 +43,40 @@ pub(crate) fn found(
         return Err(KeepFault::Memory);
     };
     found_in(alloc, journal, party, reference)
+}
+
+fn history_in(
+    alloc: Global,
+    opened: &mut Opened,
+    party: &Name,
+    reference: &Name,
+) -> Result<Option<Shared<Entry>>, KeepFault>
+    requires { opened.old.held.failing ≡ [] }
+    ensures answer { IfOk result (λ entries. entries ≡ history_of party.now reference.now opened.old.held.cases) }
+    ensures same { HasTheSame opened.old opened.new }
+    ensures memory { OnErr result (result ≡ Err KeepFault.Memory) }
+{
+    opened.held.history(alloc, party, reference)
+}
+
+/// The entries of the case of this developer and reference.
+pub(crate) fn history(
+    alloc: Global,
+    opened: &mut Option<Opened>,
+    party: &Name,
+    reference: &Name,
+) -> Result<Option<Shared<Entry>>, KeepFault>
+    requires ready { IsReady opened.old }
+    requires unfailing { IfSome opened.old (λ o. o.held.failing ≡ []) }
+    ensures answer { IfSome opened.old (λ o.
+        IfOk result (λ entries. entries ≡ history_of party.now reference.now o.held.cases)) }
+    ensures same { HoldsTheSame opened.old opened.new }
+    ensures memory { OnErr result (result ≡ Err KeepFault.Memory) }
+{
+    let Some(journal) = opened else {
+        return Err(KeepFault::Memory);
+    };
+    history_in(alloc, journal, party, reference)
 }
 
 fn first_queued_in(alloc: Global, opened: &mut Opened) -> Result<Option<Case>, KeepFault>

@@ -1,7 +1,7 @@
 ghost use Rattle.kept_cases.specs.Kept.{of_kept};
 
 use case_keeper::{KeepFault, Keeper};
-use case_rules::{Case, Change, Line};
+use case_rules::{Case, Change, Entry, Line};
 use std::alloc::Global;
 use vet_base::{Name, Shared};
 
@@ -26,6 +26,18 @@ impl<T: Keeper + Drop, J: Keeper + Drop> Keeper for KeptCases<T, J> {
         match self {
             KeptCases::Tables(keeper) => keeper.find(alloc, party, reference),
             KeptCases::Journal(keeper) => keeper.find(alloc, party, reference),
+        }
+    }
+
+    fn history(
+        &mut self,
+        alloc: Global,
+        party: &Name,
+        reference: &Name,
+    ) -> Result<Option<Shared<Entry>>, KeepFault> {
+        match self {
+            KeptCases::Tables(keeper) => keeper.history(alloc, party, reference),
+            KeptCases::Journal(keeper) => keeper.history(alloc, party, reference),
         }
     }
 

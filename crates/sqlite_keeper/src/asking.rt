@@ -16,7 +16,7 @@ fn if_named(case: Option<Case>, party: &Name, reference: &Name) -> Result<Option
             if case.is_named(party, reference) {
                 Ok(Some(case))
             } else {
-                Err(Refusal::Database)
+                Err(Refusal::Inconsistent)
             }
         }
     }
@@ -45,7 +45,7 @@ fn if_queued(case: Option<Case>) -> Result<Option<Case>, Refusal>
             if case.is_queued() {
                 Ok(Some(case))
             } else {
-                Err(Refusal::Database)
+                Err(Refusal::Inconsistent)
             }
         }
     }

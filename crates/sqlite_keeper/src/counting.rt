@@ -15,7 +15,7 @@ pub fn counting<T>(faults: &mut u64, done: Result<T, Refusal>) -> Result<T, Keep
     match done {
         Ok(value) => Ok(value),
         Err(Refusal::Memory) => Err(KeepFault::Memory),
-        Err(Refusal::Database) => {
+        Err(Refusal::Database | Refusal::Inconsistent) => {
             *faults = faults.saturating_add(1);
             Err(KeepFault::Failed)
         }

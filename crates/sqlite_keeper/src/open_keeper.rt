@@ -1,12 +1,12 @@
 ghost use Rattle.std.specs.Prelude.{◌≡◌, true, find, IfOk, IfSome};
 ghost use Rattle.case_rules.specs.Cases.{is_named, is_queued, queued_of, own_lines, open_lines};
-ghost use Rattle.case_keeper.specs.Keeper.{Tells, told_after, KeepCause};
+ghost use Rattle.case_keeper.specs.Keeper.{Tells, history_of, told_after, KeepCause};
 ghost use Rattle.sqlite_keeper.specs.Counting.{untold, counted};
 
 use crate::asking::{named, queued};
 use crate::counting::counting;
 use case_keeper::{KeepFault, Keeper};
-use case_rules::{Case, Change, Line};
+use case_rules::{Case, Change, Entry, Line};
 use case_tables::Database;
 use sqlite::{Alter, Connection};
 use std::alloc::Global;
@@ -67,6 +67,21 @@ impl<S: Alter + Drop> Keeper for OpenKeeper<S> {
         counting(&mut self.faults, named(found, party, reference))
     }
 
+    fn history(
+        &mut self,
+        alloc: Global,
+        party: &Name,
+        reference: &Name,
+    ) -> Result<Option<Shared<Entry>>, KeepFault>
+        ensures answer { Tells (history_of party.now reference.now) untold result }
+        ensures told { untold ≡ untold }
+        ensures cause { KeepCause self.old.faults self.new.faults result }
+        ensures counted { self.new.faults ≡ counted self.old.faults result }
+    {
+        let found = self.database.history(alloc, party, reference);
+        counting(&mut self.faults, found)
+    }
+
     fn first_queued(&mut self, alloc: Global) -> Result<Option<Case>, KeepFault>
         ensures answer { Tells (find is_queued) untold result }
         ensures queued { IfOk result (λ found. IfSome found (λ case. is_queued case ≡ true)) }
@@ -78,13 +93,13 @@ impl<S: Alter + Drop> Keeper for OpenKeeper<S> {
         counting(&mut self.faults, queued(found))
     }
 
-    fn queued(&mut self, _alloc: Global, party: &Name) -> Result<u64, KeepFault>
+    fn queued(&mut self, alloc: Global, party: &Name) -> Result<u64, KeepFault>
         ensures answer { Tells (queued_of party.now) untold result }
         ensures told { untold ≡ untold }
         ensures cause { KeepCause self.old.faults self.new.faults result }
         ensures counted { self.new.faults ≡ counted self.old.faults result }
     {
-        let count = self.database.queued(party);
+        let count = self.database.queued(alloc, party);
         counting(&mut self.faults, count)
     }
 
@@ -108,12 +123,12 @@ impl<S: Alter + Drop> Keeper for OpenKeeper<S> {
         counting(&mut self.faults, lines)
     }
 
-    fn apply(&mut self, _alloc: Global, change: &Change) -> Result<(), KeepFault>
+    fn apply(&mut self, alloc: Global, change: &Change) -> Result<(), KeepFault>
         ensures told { untold ≡ told_after change.now untold result }
         ensures cause { KeepCause self.old.faults self.new.faults result }
         ensures counted { self.new.faults ≡ counted self.old.faults result }
     {
-        let done = self.database.apply(change);
+        let done = self.database.apply(alloc, change);
         counting(&mut self.faults, done)
     }
 

@@ -6,16 +6,16 @@ use Rattle.case_rules.specs.declared.case.Case.{Case}
 use Rattle.case_rules.specs.declared.case.Content.{Content}
 use Rattle.case_rules.specs.declared.case.Decision.{Decision}
 use Rattle.case_rules.specs.declared.case.Entry.{Entry}
-use Rattle.case_rules.specs.declared.command.Command.TheVariants.{Report}
+use Rattle.case_rules.specs.declared.command.Command.TheVariants.{Report, Show, Submit}
 use Rattle.case_rules.specs.declared.command.View.{View}
 use Rattle.case_rules.specs.declared.reply.Change.TheVariants.{Add, Decide}
 use Rattle.case_rules.specs.Cases.{after, entry_of, name_cmp, own_lines, queued_of}
-use Rattle.case_rules.specs.Docket.{Shows}
 use Rattle.case_rules.specs.Rules.{Session}
 use Rattle.case_keeper.specs.declared.keeper.KeepFault.TheVariants.{Failed}
 use Rattle.case_keeper.specs.declared.placing.CaseIndex.{CaseIndex}
-use Rattle.case_keeper.specs.Keeper.{KeepCause, told_after}
+use Rattle.case_keeper.specs.Keeper.{KeepCause, history_of, told_after}
 use Rattle.case_keeper.specs.MemoryKeeper.{CountsCall, IsIndex, Kept}
+use Rattle.case_keeper.specs.Viewing.{ShowsFor, without_content}
 
 -- a case of a developer under a reference, with these entries
 abbrev pub case_of : Content → List ℕ → List ℕ → List Entry → Case
@@ -44,7 +44,20 @@ pub record KeepsCases (content : Content) (decision : Decision) : Type 0 where
   pub own : (appeal : Appeal) → own_lines (codes "a") (case_of content (codes "b") (codes "r") (record { decision = decision; appeal = Some appeal; ruling = None } ∷ []) ∷ []) ≡ []
   -- nor its report (else the case of that name, where it is named as a developer)
   pub own_report : (session : Session) (view : View) → session.party.name ≡ codes "a" → view.found ≡ Some (case_of content (codes "b") (codes "b") [])
-      → Shows session (Report (codes "b")) view (case_of content (codes "b") (codes "b") [] ∷ []) → ⊥
+      → ShowsFor session (Report (codes "b")) view (case_of content (codes "b") (codes "b") [] ∷ []) → ⊥
+  -- its entries are told of a case (else it is not there, or has none)
+  pub history : history_of (codes "a") (codes "r") (case_of content (codes "a") (codes "r") (entry_of decision ∷ []) ∷ [])
+      ≡ Some (entry_of decision ∷ [])
+  -- and not those of another's of this reference (else they are)
+  pub own_history : history_of (codes "a") (codes "r") (case_of content (codes "b") (codes "r") [] ∷ []) ≡ None
+  -- a case is shown without its content (else all of it is loaded)
+  pub bare : (session : Session) (view : View) → session.party.name ≡ codes "a" → content.manifest ≡ 1 ∷ []
+      → view.found ≡ Some (case_of content (codes "a") (codes "r") [])
+      → ShowsFor session (Show (codes "r")) view (case_of content (codes "a") (codes "r") [] ∷ []) → ⊥
+  -- but not where a submission is compared with it (else with nothing)
+  pub compared : (session : Session) (view : View) → session.party.name ≡ codes "a" → content.manifest ≡ 1 ∷ []
+      → view.found ≡ Some (without_content (case_of content (codes "a") (codes "r") []))
+      → ShowsFor session (Submit (codes "r") content) view (case_of content (codes "a") (codes "r") [] ∷ []) → ⊥
   -- where no case was added no name is noted (else one stays noted after want of memory)
   pub forgotten : (index : CaseIndex) → get name_cmp index.places (codes "a", codes "r") ≡ Some 0 → IsIndex [] index → ⊥
 

@@ -1,7 +1,7 @@
 use Rattle.std.proofs.Common.{◌≡◌, List, Option, Some, sym, subst, ◌∙◌}
 use Rattle.case_rules.specs.declared.reply.Plan.{Plan}
 use Rattle.case_rules.specs.Rules.{session_of}
-use Rattle.desk_serving.proofs.Obeyed.{IsOver, Follows, said, done_if, judged_if, fits, settled_fits}
+use Rattle.desk_serving.proofs.Obeyed.{IsOver, said, done_if, judged_if, fits, settled_fits}
 use Rattle.desk_serving.proofs.obeying.obeyed.Goals as goal
 
 pub kept-requires : goal.kept-requires
@@ -9,7 +9,7 @@ kept-requires g c = λ cases is.
     let session = session_of c.args.party.now c.args.desk.now.office.appeal_days c.args.day (g.J.Judge.edition c.args.desk.now.judge) in
     let before = g.K.Keeper.told c.args.keeper.now in
     fits session c.args.command.now before c.in-Do.change c.in-Do.reply c.requires.docket
-    (subst (Follows session c.args.command.now before) c.in-Do.is c.in_ok-plan.ensures.follows)
+    (subst (IsOver session c.args.command.now before) c.in-Do.is c.in_ok-plan.ensures.over)
     cases (sym c.in_ok-plan.ensures.told ∙ is)
 
 pub decided-requires-clause-fits : goal.decided-requires-clause-fits
@@ -17,7 +17,7 @@ decided-requires-clause-fits g c = λ judgement cases is.
     let session = session_of c.args.party.now c.args.desk.now.office.appeal_days c.args.day (g.J.Judge.edition c.args.desk.now.judge) in
     let before = g.K.Keeper.told c.args.keeper.now in
     settled_fits session c.args.command.now before c.in-Judge.case c.requires.docket
-    (subst (Follows session c.args.command.now before) c.in-Judge.is c.in_ok-plan.ensures.follows)
+    (subst (IsOver session c.args.command.now before) c.in-Judge.is c.in_ok-plan.ensures.over)
     judgement cases (sym c.in_ok-plan.ensures.told ∙ is)
 
 pub returns-in-Say-clause-obeys : goal.returns-in-Say-clause-obeys
@@ -26,7 +26,6 @@ returns-in-Say-clause-obeys g c =
     let before = g.K.Keeper.told c.args.keeper.now in
     said (g.J.Judge.finds c.args.desk.now.judge) session c.args.command.now before _ c.in-Say.reply c.requires.docket
     (subst (IsOver session c.args.command.now before) c.in-Say.is c.in_ok-plan.ensures.over)
-    (subst (Follows session c.args.command.now before) c.in-Say.is c.in_ok-plan.ensures.follows)
     c.in_ok-plan.ensures.told
 
 pub returns-in-Do-clause-obeys : goal.returns-in-Do-clause-obeys
@@ -36,7 +35,6 @@ returns-in-Do-clause-obeys g c =
     done_if (g.J.Judge.finds c.args.desk.now.judge) session c.args.command.now before _ _ c.in-Do.change c.in-Do.reply
     c.kept.result c.requires.docket
     (subst (IsOver session c.args.command.now before) c.in-Do.is c.in_ok-plan.ensures.over)
-    (subst (Follows session c.args.command.now before) c.in-Do.is c.in_ok-plan.ensures.follows)
     c.in_ok-plan.ensures.told c.kept.ensures.reply c.kept.ensures.told
 
 pub returns-in-Judge-clause-obeys : goal.returns-in-Judge-clause-obeys
@@ -46,5 +44,4 @@ returns-in-Judge-clause-obeys g c =
     judged_if (g.J.Judge.finds c.args.desk.now.judge) session c.args.command.now before _ _ c.in-Judge.case
     c.decided.result c.requires.docket
     (subst (IsOver session c.args.command.now before) c.in-Judge.is c.in_ok-plan.ensures.over)
-    (subst (Follows session c.args.command.now before) c.in-Judge.is c.in_ok-plan.ensures.follows)
     c.in_ok-plan.ensures.told c.decided.ensures.settles
