@@ -86,8 +86,8 @@ where
 /// machine brings a value of a listed source to a listed sink unless the app's declaration names that pair, or comes to
 /// what is not modelled.
 ///
-/// The crew finds what follows in an app, with as many workers as the office says. No answer depends on it, or on how
-/// its workers take turns.
+/// The crew finds what follows in an app, with as many workers as the office says. With more than one a further thread
+/// judges ahead what is handed in. No answer depends on either, or on how they take turns.
 pub fn serve<F, O, K, D, C, T, L>(
     alloc: Global,
     words: &[String],

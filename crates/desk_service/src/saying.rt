@@ -17,9 +17,10 @@ use crate::outside::{Outside, Status};
 use crate::texts::{door_fault, read_fault, refused, served};
 use case_keeper::Keeper;
 use desk_links::{Clock, Door, DoorFault};
-use desk_serving::{Desk, serve_door};
+use desk_serving::Desk;
 use desk_words::Serving;
 use heard_files::{Files, Sink};
+use judged_ahead::serve_ahead;
 use std::alloc::Global;
 use std::marker::Sync;
 use std::sync::Wait;
@@ -53,7 +54,7 @@ fn closed(alloc: Global, taken: Result<u32, DoorFault>) -> Result<(Status, Vec<u
     }
 }
 
-/// Takes connections at a desk.
+/// Takes connections at a desk. With more than one worker what is handed in is judged ahead.
 fn taken<F, O, K, D, C, T, L>(
     alloc: Global,
     desk: Desk<OfficeLists>,
@@ -84,7 +85,8 @@ where
 {
     a_clear_decision_is_of_a_safe_app();
     an_added_decision_is_a_verdict();
-    let crew = crew.of(desk.office.workers);
+    let workers = desk.office.workers;
+    let crew = crew.of(workers);
     let by = |parts: &Parts| -> Result<JudgedApp, Memory>
         ensures { IfOk result (IsJudged parts.now) }
     { judged(alloc, parts, &crew) };
@@ -95,9 +97,11 @@ where
             by,
         },
     };
-    serve_door(
+    serve_ahead(
+        crew.rt,
         alloc,
-        &desk,
+        workers,
+        desk,
         &mut outside.keeper,
         &mut outside.door,
         &mut outside.clock,

@@ -26,9 +26,10 @@ use Rattle.desk_http.specs.declared.asked.Asked.{Asked}
 use Rattle.desk_http.specs.declared.asked.HttpFault.{HttpFault}
 use Rattle.desk_http.specs.declared.reply.Answer.{Answer}
 use Rattle.desk_answers.specs.Answers.{answer_of}
-use Rattle.desk_serving.specs.declared.responding.Due.TheVariants.{Command as ToCommand, Nothing}
+use Rattle.desk_serving.specs.declared.responding.Due.{Due}
+use Rattle.desk_serving.specs.declared.responding.Due.TheVariants.{Command as ToCommand, Other as ToOther, StoreFailed, NoMemory, Nothing}
 use Rattle.desk_serving.specs.Obeying.{HandsOn, handed, handed_plan}
-use Rattle.desk_serving.specs.Responding.{Setting, session_in, IsCommand, CarriesOut, Responds}
+use Rattle.desk_serving.specs.Responding.{Setting, session_in, IsCommand, CarriesOut, Responds, SaysReply}
 
 -- No rule but one looks at the content of a case that is there, or shows the case.
 report_bare : (party : Party) (found : Option Case)
@@ -154,28 +155,34 @@ handed_answer role (replies.No refusal) = refl
 -- So what is due to a request is by the machine's own reply.
 module _ (finds : Content → Judgement → Type 0) (setting : Setting) (request : Result Asked HttpFault)
     (party : Party) (command : Command) where
-  pub responds_by : (before after : Option (List Case)) (reply : Reply) (answer : Answer)
+  responds_by : (before after : Option (List Case)) (reply : Reply) (answer : Answer)
       → IsCommand setting.office request party command
       → HandsOn finds (session_in setting party) command before after reply
       → answer ≡ answer_of party.role reply → Responds finds setting before after request (ToCommand answer)
   responds_by None after reply answer is hands says =
-      (party, (reply, (record { command = command; is = is; obeys = hands }, says)))
+      (party, reply, record { command = command; is = is; obeys = hands }, says)
   responds_by (Some cases) after reply answer is hands says = (
     party,
-    (
-      hands.0,
-      (
-        record { command = command; is = is; obeys = hands.1.1 },
-        says ∙ ap (answer_of party.role) hands.1.0 ∙ handed_answer party.role hands.0,
-      ),
-    ),
+    hands.0,
+    record { command = command; is = is; obeys = hands.2 },
+    says ∙ ap (answer_of party.role) hands.1 ∙ handed_answer party.role hands.0,
   )
 
-  pub responds_nothing : (before after : Option (List Case)) (reply : Reply)
+  responds_nothing : (before after : Option (List Case)) (reply : Reply)
       → IsCommand setting.office request party command
       → HandsOn finds (session_in setting party) command before after reply
       → Responds finds setting before after request Nothing
   responds_nothing None after reply is hands =
-      inr (party, (reply, record { command = command; is = is; obeys = hands }))
+      inr (party, reply, record { command = command; is = is; obeys = hands })
   responds_nothing (Some cases) after reply is hands =
-      inr (party, (hands.0, record { command = command; is = is; obeys = hands.1.1 }))
+      inr (party, hands.0, record { command = command; is = is; obeys = hands.2 })
+
+  pub responds_if : (before after : Option (List Case)) (reply : Reply) (due : Due)
+      → IsCommand setting.office request party command
+      → HandsOn finds (session_in setting party) command before after reply
+      → SaysReply party.role reply due → Responds finds setting before after request due
+  responds_if before after reply (ToCommand answer) is hands says = responds_by before after reply answer is hands says
+  responds_if before after reply (ToOther answer) is hands says = absurd says
+  responds_if before after reply (StoreFailed answer) is hands says = absurd says
+  responds_if before after reply (NoMemory answer) is hands says = absurd says
+  responds_if before after reply Nothing is hands says = responds_nothing before after reply is hands

@@ -12,9 +12,8 @@ use Rattle.case_rules.specs.declared.reply.Plan.TheVariants.{Say, Do, Judge}
 use Rattle.case_rules.specs.Cases.{after}
 use Rattle.case_rules.specs.Rules.{Session, answered}
 use Rattle.case_rules.specs.Desk.{Judgement, Turn, decision_by, view_of, plan_over, desk, cases_after}
-use Rattle.case_rules.specs.Docket.{IsDocket, IsFormed, Fits}
+use Rattle.case_rules.specs.Docket.{IsDocket, Fits}
 use Rattle.case_rules.specs.Plans.{IsPlanFor, settled}
-use Rattle.case_rules.specs.Laws.{AreFormed}
 use Rattle.case_rules.proofs.Planned.{plan_for}
 use Rattle.case_keeper.specs.declared.keeper.KeepFault.{KeepFault}
 use Rattle.case_keeper.specs.Keeper.{told_after}
@@ -44,7 +43,7 @@ same_done change made reply other e = (cc, cc)
 
 say_from : (plan : Plan) (reply : Reply) → Say reply ≡ handed_plan plan
     → (whole : Reply) × (plan ≡ Say whole) × (reply ≡ handed whole)
-say_from (Say whole) reply e = (whole, (refl, same_said reply (handed whole) e))
+say_from (Say whole) reply e = (whole, refl, same_said reply (handed whole) e)
 say_from (Do change other) reply e = let both : Say reply ≡ Do change (handed other) = e in absurd cc
 say_from (Judge case) reply e = let both : Say reply ≡ Judge case = e in absurd cc
 
@@ -53,7 +52,7 @@ do_from : (plan : Plan) (change : Change) (reply : Reply) → Do change reply �
 do_from (Say other) change reply e = let both : Do change reply ≡ Say (handed other) = e in absurd cc
 do_from (Do made whole) change reply e =
     let same = same_done change made reply (handed whole) e in
-    (whole, (ap (λ (c : Change). Do c whole) (sym same.0), same.1))
+    (whole, ap (λ (c : Change). Do c whole) (sym same.0), same.1)
 do_from (Judge case) change reply e = let both : Do change reply ≡ Judge case = e in absurd cc
 
 judge_from : (plan : Plan) (case : Case) → Judge case ≡ handed_plan plan → plan ≡ Judge case
@@ -84,10 +83,10 @@ said finds session command None now reply docket over same = same
 said finds session command (Some cases) now reply docket over same =
     let plan = plan_over session command cases in
     let from = say_from plan reply (over cases refl) in
-    let is = subst (IsPlanFor session any_judgement command cases) from.1.0
+    let is = subst (IsPlanFor session any_judgement command cases) from.1
     (does session command any_judgement cases docket) in
-    let found = subst (λ (p : Plan). FindsIn finds p any_judgement) (sym from.1.0) tt in
-    (from.0, (from.1.1, obeyed_so finds session command cases cases now any_judgement from.0 found is same))
+    let found = subst (λ (p : Plan). FindsIn finds p any_judgement) (sym from.1) tt in
+    (from.0, from.2, obeyed_so finds session command cases cases now any_judgement from.0 found is same)
 
 done : (finds : Content → Judgement → Type 0) (session : Session) (command : Command)
     (before now : Option (List Case)) (change : Change) (reply : Reply) → TellsDocket before
@@ -97,14 +96,12 @@ done finds session command None now change reply docket over changed = changed
 done finds session command (Some cases) now change reply docket over changed =
     let plan = plan_over session command cases in
     let from = do_from plan change reply (over cases refl) in
-    let is = subst (IsPlanFor session any_judgement command cases) from.1.0
+    let is = subst (IsPlanFor session any_judgement command cases) from.1
     (does session command any_judgement cases docket) in
-    let found = subst (λ (p : Plan). FindsIn finds p any_judgement) (sym from.1.0) tt in (
+    let found = subst (λ (p : Plan). FindsIn finds p any_judgement) (sym from.1) tt in (
       from.0,
-      (
-        from.1.1,
-        obeyed_so finds session command cases (after change cases) now any_judgement from.0 found is.0.desk changed,
-      ),
+      from.2,
+      obeyed_so finds session command cases (after change cases) now any_judgement from.0 found is.0.desk changed,
     )
 
 judged : (finds : Content → Judgement → Type 0) (session : Session) (command : Command)
@@ -120,11 +117,8 @@ judged finds session command (Some cases) now case reply docket over settles =
     let is = subst (IsPlanFor session judgement command cases) from (does session command judgement cases docket) in
     let found = subst (λ (p : Plan). FindsIn finds p judgement) (sym from) settles.found in (
       made.1,
-      (
-        settles.reply_is,
-        obeyed_so finds session command cases (after made.0 cases) now judgement made.1 found is.does.desk
-            settles.after_is,
-      ),
+      settles.reply_is,
+      obeyed_so finds session command cases (after made.0 cases) now judgement made.1 found is.does.desk settles.after_is,
     )
 
 -- a change of a plan fits
@@ -133,7 +127,7 @@ pub fits : (session : Session) (command : Command) (before : Option (List Case))
     → Fits change cases
 fits session command before change reply docket over cases is =
     let from = do_from (plan_over session command cases) change reply (over cases is) in
-    (subst (IsPlanFor session any_judgement command cases) from.1.0
+    (subst (IsPlanFor session any_judgement command cases) from.1
     (does session command any_judgement cases (subst TellsDocket is docket))).0.fits
 
 -- the decision on a case that is to be judged fits
@@ -148,23 +142,23 @@ settled_fits session command before case docket over judgement cases is =
 
 -- the law of lists of commands
 abbrev pub DocketsStay : Type 0
-DocketsStay = (turns : List Turn) (cases : List Case) → AreFormed turns → IsDocket cases → IsDocket (cases_after turns cases)
+DocketsStay = (turns : List Turn) (cases : List Case) → IsDocket cases → IsDocket (cases_after turns cases)
 
 docket_by : DocketsStay → (finds : Content → Judgement → Type 0) (session : Session) (command : Command)
-    (before now : Option (List Case)) (reply : Reply) → IsFormed command → TellsDocket before
+    (before now : Option (List Case)) (reply : Reply) → TellsDocket before
     → HandsOn finds session command before now reply → TellsDocket now
-docket_by law finds session command None now reply formed docket hands = subst TellsDocket (sym hands) tt
-docket_by law finds session command (Some cases) now reply formed docket hands =
-    let obeys = hands.1.1 in
-    subst TellsDocket (sym obeys.1.after_is) (law (turn_in session obeys.0 command ∷ []) cases (formed, tt) docket)
+docket_by law finds session command None now reply docket hands = subst TellsDocket (sym hands) tt
+docket_by law finds session command (Some cases) now reply docket hands =
+    let obeys = hands.2 in
+    subst TellsDocket (sym obeys.1.after_is) (law (turn_in session obeys.0 command ∷ []) cases docket)
 
 pub docket_then : DocketsStay → (finds : Content → Judgement → Type 0) (session : Session) (command : Command)
-    (before now : Option (List Case)) (r : Result Reply KeepFault) → IsFormed command → TellsDocket before
+    (before now : Option (List Case)) (r : Result Reply KeepFault) → TellsDocket before
     → IfOk r (λ reply. HandsOn finds session command before now reply) → IfErr r (λ fault. now ≡ before)
     → TellsDocket now
-docket_then law finds session command before now (Ok reply) formed docket hands err =
-    docket_by law finds session command before now reply formed docket hands
-docket_then law finds session command before now (Err fault) formed docket hands err = subst TellsDocket (sym err) docket
+docket_then law finds session command before now (Ok reply) docket hands err =
+    docket_by law finds session command before now reply docket hands
+docket_then law finds session command before now (Err fault) docket hands err = subst TellsDocket (sym err) docket
 
 pub done_if : (finds : Content → Judgement → Type 0) (session : Session) (command : Command)
     (before middle now : Option (List Case)) (change : Change) (reply : Reply) (r : Result Reply KeepFault)

@@ -6,6 +6,7 @@ use Rattle.case_rules.specs.declared.case.Case.{Case}
 use Rattle.case_rules.specs.declared.case.Content.{Content}
 use Rattle.case_rules.specs.declared.command.Command.{Command}
 use Rattle.store_office.specs.declared.party.Party.{Party}
+use Rattle.store_office.specs.declared.party.Role.{Role}
 use Rattle.case_rules.specs.declared.reply.Reply.{Reply}
 use Rattle.case_rules.specs.Rules.{Session, session_of}
 use Rattle.case_rules.specs.Desk.{Judgement}
@@ -71,6 +72,14 @@ Responds finds setting before after request (NoMemory answer) = (answer ≡ erro
 Responds finds setting before after request Nothing =
     (after ≡ before)
     ⊎ ((party : Party) × (reply : Reply) × CarriesOut finds setting before after request party reply)
+
+-- What a party of this role is answered to a reply, or nothing.
+abbrev pub SaysReply : Role → Reply → Due → Type 0
+SaysReply role reply (ToCommand answer) = answer ≡ answer_of role reply
+SaysReply role reply (ToOther answer) = ⊥
+SaysReply role reply (StoreFailed answer) = ⊥
+SaysReply role reply (NoMemory answer) = ⊥
+SaysReply role reply Nothing = Unit {0}
 
 -- That memory ran out is said, or nothing.
 abbrev pub SaysNoMemory : Due → Type 0

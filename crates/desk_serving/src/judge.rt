@@ -33,6 +33,9 @@ pub trait Judge {
     fn judge(&self, alloc: Global, content: &Content) -> Result<Judged, Memory>
         requires { ready self.now }
         ensures { IfOk result (λ judged. finds self.now content.now (judgement_of judged)) };
+
+    /// A case with this content is in the queue: who judges apps may begin. No answer depends on it.
+    fn ahead(&self, _content: &Content) {}
 }
 
 /// A desk that serves: its office, and who judges for it.

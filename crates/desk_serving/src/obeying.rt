@@ -90,9 +90,17 @@ fn decided<K: Keeper, J: Judge>(
     Ok(reply)
 }
 
+/// Tells who judges of a case that is in the queue now.
+fn told_ahead<J: Judge>(judge: &J, change: &Change) {
+    if let Change::Add(case) = change {
+        judge.ahead(&case.content);
+    }
+}
+
 /// Keeps a change.
-fn kept<K: Keeper>(
+fn kept<K: Keeper, J: Judge>(
     alloc: Global,
+    judge: &J,
     keeper: &mut K,
     change: Change,
     reply: Reply,
@@ -103,6 +111,7 @@ fn kept<K: Keeper>(
     ensures cause { KeepCause (K.fault_count keeper.old) (K.fault_count keeper.new) result }
 {
     keeper.apply(alloc, &change)?;
+    told_ahead(judge, &change);
     Ok(reply)
 }
 
@@ -128,7 +137,7 @@ fn obeyed<K: Keeper, J: Judge>(
     let plan = planned(alloc, desk, keeper, day, party, command)?;
     match plan {
         Plan::Say(reply) => Ok(reply),
-        Plan::Do(change, reply) => kept(alloc, keeper, change, reply),
+        Plan::Do(change, reply) => kept(alloc, &desk.judge, keeper, change, reply),
         Plan::Judge(case) => decided(alloc, desk, keeper, day, party, &case),
     }
 }

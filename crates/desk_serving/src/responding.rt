@@ -7,17 +7,17 @@ ghost use Rattle.desk_http.specs.declared.asked.Asked.{Asked};
 ghost use Rattle.desk_http.specs.declared.asked.HttpFault.{HttpFault};
 ghost use Rattle.desk_serving.specs.Obeying.{TellsDocket};
 ghost use Rattle.desk_serving.specs.Responding.{setting_of, IsCommand, Responds, IsCoded, RaisesStore};
-ghost use Rattle.desk_serving.specs.Responding.{SaysStoreFailed, SaysNoMemory, SaysOther};
+ghost use Rattle.desk_serving.specs.Responding.{SaysReply, SaysStoreFailed, SaysNoMemory, SaysOther};
 
 use crate::judge::{Desk, Judge};
 use crate::obeying::obey;
 use case_keeper::{KeepFault, Keeper};
-use case_rules::Command;
+use case_rules::{Command, Reply};
 use desk_answers::{answer_of, answer_to_fault, no_memory, store_failed};
 use desk_http::{Answer, Asked, HttpFault};
 use desk_routes::{Turn, command_of};
 use std::alloc::Global;
-use store_office::Party;
+use store_office::{Party, Role};
 
 /// What is to be sent, by what it says.
 #[derive(Drop)]
@@ -56,6 +56,17 @@ fn out_of_store(alloc: Global) -> Due
     }
 }
 
+/// The answer to a reply, where there is memory for it.
+fn replied(alloc: Global, role: Role, reply: &Reply) -> Due
+    ensures says { SaysReply role reply.now result }
+    ensures coded { IsCoded result }
+{
+    match answer_of(alloc, role, reply) {
+        Ok(answer) => Due::Command(answer),
+        Err(_) => Due::Nothing,
+    }
+}
+
 /// Carries a command out, and gives what is due to it.
 fn commanded<K: Keeper, J: Judge>(
     alloc: Global,
@@ -77,10 +88,7 @@ fn commanded<K: Keeper, J: Judge>(
     ensures never_falls { K.fault_count keeper.old ≤ K.fault_count keeper.new }
 {
     match obey(alloc, desk, keeper, day, party, command) {
-        Ok(reply) => match answer_of(alloc, party.role, &reply) {
-            Ok(answer) => Due::Command(answer),
-            Err(_) => Due::Nothing,
-        },
+        Ok(reply) => replied(alloc, party.role, &reply),
         Err(KeepFault::Failed) => out_of_store(alloc),
         Err(KeepFault::Memory) => out_of_memory(alloc),
     }

@@ -1,5 +1,5 @@
 -- The facts hold by what the definitions say.
-use Rattle.std.proofs.Common.{◌≡◌, ℕ, List, [], ◌∷◌, Option, Some, None, refl, ap, arith, lit<}
+use Rattle.std.proofs.Common.{◌≡◌, ℕ, suc, List, [], ◌∷◌, length, Option, Some, None, refl, ap, arith, lit<}
 use Rattle.desk_links.specs.Links.{Told}
 use Rattle.std.specs.Fmt.{digits}
 use Rattle.base64.proofs.OnLiterals.{base64_on_literals}
@@ -63,10 +63,17 @@ replies_tell = record {
   not_risen = λ h. omega (arith, h);
 }
 
+-- the conversations that are left, where they are told
+abbrev left_by : Option Told → List (List ℕ)
+left_by None = []
+left_by (Some t) = t.left
+
 pub links_tell : LinksTell
 links_tell = record {
   kept = refl;
   begun = refl;
+  once = λ h. let one : 1 ≡ length h.1 = ap length (ap left_by h.3) in
+      let none : 1 ≡ suc (length h.1) = ap length h.2 in omega (arith, one, none);
   dialled = refl;
   missed = refl;
   failure = refl;

@@ -1,6 +1,6 @@
 -- What links, doors, callers and clocks tell of some calls. Behind each fact stands what a slip would tell.
-use Rattle.std.specs.Prelude.{◌≡◌, ℕ, true, false, List, [], ◌∷◌, Some, IfSome}
-use Rattle.desk_links.specs.Links.{Talk, Told, without_first, with_written, closed, opened, missed_once}
+use Rattle.std.specs.Prelude.{◌≡◌, ℕ, true, false, List, [], ◌∷◌, Some, IfSome, Ok}
+use Rattle.desk_links.specs.Links.{Talk, Told, OpensTold, without_first, with_written, closed, opened, missed_once}
 use Rattle.desk_links.specs.Memory.{Numbered, Taped, given_count, fails_next, counted, written_in}
 
 abbrev pub talk : List ℕ → Talk
@@ -34,6 +34,8 @@ pub record LinksTell : Type 0 where
   pub kept : closed (present [] (72 ∷ [])) ≡ behind (talk (72 ∷ []) ∷ [])
   -- one that was opened has begun (else it would not have)
   pub begun : opened (71 ∷ []) [] (before 0) ≡ present (71 ∷ []) []
+  -- one that was opened is not left (else it would be handed out twice)
+  pub once : OpensTold (before 0) (Some (opened (71 ∷ []) ((71 ∷ []) ∷ []) (before 0))) (Ok true) → ⊥
   -- a dial ends the conversation before it, which is kept (else it would be lost)
   pub dialled : opened (71 ∷ []) [] calling ≡ record { coming = 71 ∷ []; written = []; begun = true; ended = talk (72 ∷ []) ∷ []; left = []; missed = 0 }
   -- an opening that failed is told (else none was missed)

@@ -1,16 +1,19 @@
 -- What becomes of a command over one case.
-use Rattle.std.proofs.Common.{◌≡◌, ℕ, ◌<◌, List, [], ◌∷◌, ap, sym, ◌∙◌, arith, lit<, length, codes, replicate}
+use Rattle.std.proofs.Common.{◌≡◌, ℕ, ◌<◌, List, [], ◌∷◌, Option, Some, ap, sym, ◌∙◌, arith, lit<, length, codes, replicate}
 use Rattle.std.proofs.lemmas.Option.{same_Some}
 use Rattle.case_rules.specs.declared.case.Case.{Case}
 use Rattle.case_rules.specs.declared.case.Content.{Content}
 use Rattle.case_rules.specs.declared.case.Decision.{Decision}
 use Rattle.case_rules.specs.declared.case.Entry.{Entry}
 use Rattle.case_rules.specs.declared.case.OutcomeWord.TheVariants.{Clear, Flagged}
+use Rattle.case_rules.specs.declared.command.Command.TheVariants.{Show}
 use Rattle.case_rules.specs.declared.reply.Reply.{Reply}
+use Rattle.case_rules.specs.declared.reply.Reply.TheVariants as replies
 use Rattle.case_rules.specs.Cases.{with_entry}
 use Rattle.case_rules.specs.Desk.{Judgement, decision_by}
-use Rattle.case_rules.specs.Rules.{submit, decide}
-use Rattle.run_witness.specs.Commands.{bob, queued, session, content, Decides, anything, finds_flagged, CommandsTell}
+use Rattle.case_rules.specs.Rules.{submit, decide, show}
+use Rattle.desk_serving.specs.Obeying.{HandsOn, handed}
+use Rattle.run_witness.specs.Commands.{ada, bob, queued, filled, session, content, Decides, anything, finds_flagged, CommandsTell}
 
 abbrev first : List ℕ → ℕ
 first [] = 0
@@ -33,11 +36,12 @@ kept_is : (finds : Content → Judgement → Type 0) (d : Decision) (reply : Rep
     → (judgement : Judgement) × finds content judgement × (d ≡ decision_by (session bob) judgement)
 unfolding decide
 kept_is finds d reply h =
-    let judgement = h.0 in
+    let obeys = h.2 in
+    let judgement = obeys.0 in
     let made : Decision = decision_by (session bob) judgement in
     let same : with_entry d queued ∷ [] ≡ with_entry made queued ∷ [] =
-    same_Some (with_entry d queued ∷ []) (with_entry made queued ∷ []) h.1.after_is in
-    (judgement, h.1.found, ap (decided d) same)
+    same_Some (with_entry d queued ∷ []) (with_entry made queued ∷ []) obeys.1.after_is in
+    (judgement, obeys.1.found, ap (decided d) same)
 
 own_reviewer : (d : Decision) (reply : Reply) → d.reviewer ≡ codes "ada" → Decides anything d reply → ⊥
 own_reviewer d reply is h =
@@ -57,11 +61,29 @@ own_outcome d reply is h =
     let clash : Clear ≡ Flagged = sym is ∙ ap (λ (e : Decision). e.outcome) made.2 ∙ made.1 in
     cc
 
+-- the case that a reply shows
+abbrev shown : Reply → Case
+shown (replies.Added reference) = queued
+shown (replies.Kept reference state) = queued
+shown (replies.Decided developer reference outcome) = queued
+shown (replies.Shown case) = case
+shown (replies.Text report) = queued
+shown (replies.Appealed reference) = queued
+shown (replies.Ruled developer reference word) = queued
+shown (replies.Lines lines) = queued
+shown (replies.No refusal) = queued
+
+without_content : (case : Case) (after : Option (List Case))
+    → HandsOn anything (session ada) (Show (codes "a1")) (Some (filled ∷ [])) after (replies.Shown case) → case ≡ queued
+unfolding show
+without_content case after h = ap shown (h.1 ∙ ap handed h.2.1.reply_is)
+
 pub commands_tell : CommandsTell
 unfolding submit
 commands_tell = record {
   own_reviewer = own_reviewer;
   own_lists = own_lists;
   own_outcome = own_outcome;
-  kept = λ reply h. let clash : 0 ≡ 1 = ap length (same_Some [] _ h.1.after_is) in below 0 1 (lit< tt) clash;
+  kept = λ reply h. let clash : 0 ≡ 1 = ap length (same_Some [] _ h.2.1.after_is) in below 0 1 (lit< tt) clash;
+  without_content = without_content;
 }
