@@ -10,7 +10,7 @@ use Rattle.case_rules.specs.declared.case.Ruling.{Ruling}
 use Rattle.case_rules.specs.declared.reply.Change.{Change}
 use Rattle.case_rules.specs.declared.reply.Change.TheVariants as changes
 use Rattle.case_rules.specs.Cases.{is_named, is_open, amended, after, last, with_entry, with_appeal, with_ruling, appeal_entry, rule_entry}
-use Rattle.case_rules.specs.Docket.{IsCase, IsDocket, IsEntry, IsHistory, Fits, TakesDecision, is_appeal_text}
+use Rattle.case_rules.specs.Docket.{IsDocket, IsEntry, IsHistory, Fits, TakesDecision, is_appeal_text}
 use Rattle.store_office.specs.Reference.{is_reference}
 use Rattle.std.specs.Prelude.{IsTrue}
 use Rattle.case_rules.proofs.Finds.{found_fails, missed_behind, missed_amended}
@@ -64,7 +64,7 @@ changed_by_name test f (c ∷ cases) case docket is =
 pub record Amends (test : Case → Bool) (f : Case → Case) (cases : List Case) : Type 0 where
   pub party : (case : Case) → (f case).party ≡ case.party
   pub reference : (case : Case) → (f case).reference ≡ case.reference
-  pub right : (case : Case) → find test cases ≡ Some case → IsCase case → IsCase (f case)
+  pub right : (case : Case) → find test cases ≡ Some case → IsHistory case.entries → IsHistory (f case).entries
 
 docket_amended : (test : Case → Bool) (f : Case → Case) (cases : List Case) → IsDocket cases → Amends test f cases
     → IsDocket (amended test f cases)
@@ -90,7 +90,7 @@ docket_amended test f (c ∷ cases) docket amends =
       }),
     )
 
-docket_added : (cases : List Case) (case : Case) → IsDocket cases → IsCase case
+docket_added : (cases : List Case) (case : Case) → IsDocket cases → IsHistory case.entries
     → find (is_named case.party case.reference) cases ≡ None → IsDocket (cases ++ case ∷ [])
 docket_added [] case docket is none = (is, refl, tt)
 docket_added (c ∷ cases) case docket is none =
@@ -112,53 +112,41 @@ pub some_and : {A : Type 0} (o : Option A) (x : A) (P : A → Type 0) → IsSome
 some_and None x P h is = absurd h
 some_and (Some y) x P h is = subst P (same_Some y x is) h
 
-appealed_entry : (appeal : Appeal) (entry : Entry) → IsTrue (is_appeal_text appeal.text)
-    → IsEntry (appeal_entry appeal entry)
-appealed_entry appeal entry formed = record { appeal = formed; ruling = λ none. absurd (false≢true none) }
+appealed_entry : (appeal : Appeal) (entry : Entry) → IsEntry (appeal_entry appeal entry)
+appealed_entry appeal entry = λ none. absurd (false≢true none)
 
 -- an entry with an appeal may have a ruling
-ruled_entry : (ruling : Ruling) (entry : Entry) → is_some entry.appeal ≡ true → IsEntry entry
-    → IsEntry (rule_entry ruling entry)
-ruled_entry ruling entry appealed is =
-    record { appeal = is.appeal; ruling = λ none. absurd (both entry.appeal appealed none) }
+ruled_entry : (ruling : Ruling) (entry : Entry) → is_some entry.appeal ≡ true → IsEntry (rule_entry ruling entry)
+ruled_entry ruling entry appealed = λ none. absurd (both entry.appeal appealed none)
   where
     both : (o : Option Appeal) → is_some o ≡ true → is_none o ≡ true → ⊥
     both None some none = false≢true some
     both (Some appeal) some none = false≢true none
 
 pub docket_after : (change : Change) (cases : List Case) → IsDocket cases → Fits change cases
-    → IsFormedChange change → IsDocket (after change cases)
-docket_after (changes.Add case) cases docket fits formed =
-    docket_added cases case docket (record { reference = formed; history = subst IsHistory (sym fits.1) tt }) fits.0
-docket_after (changes.Decide party reference decision) cases docket fits formed =
+    → IsDocket (after change cases)
+docket_after (changes.Add case) cases docket fits =
+    docket_added cases case docket (subst IsHistory (sym fits.1) tt) fits.0
+docket_after (changes.Decide party reference decision) cases docket fits =
     docket_amended (is_named party reference) (with_entry decision) cases docket (record {
       party = λ _. refl;
       reference = λ _. refl;
       right = λ case is right. let takes = some_and _ case (TakesDecision decision) fits is in
-          record {
-            reference = right.reference;
-            history = history_grows case.entries decision right.history takes.0 takes.1;
-          };
+          history_grows case.entries decision right takes.0 takes.1;
     })
-docket_after (changes.Appeal party reference appeal) cases docket fits formed =
+docket_after (changes.Appeal party reference appeal) cases docket fits =
     docket_amended (is_named party reference) (with_appeal appeal) cases docket (record {
       party = λ _. refl;
       reference = λ _. refl;
-      right = λ case is right. record {
-        reference = right.reference;
-        history = history_changes (appeal_entry appeal) (λ _. refl) case.entries right.history
-            (λ entry ends old. appealed_entry appeal entry formed);
-      };
+      right = λ case is right. history_changes (appeal_entry appeal) (λ _. refl) case.entries right
+          (λ entry ends old. appealed_entry appeal entry);
     })
-docket_after (changes.Rule party reference ruling) cases docket fits formed =
+docket_after (changes.Rule party reference ruling) cases docket fits =
     docket_amended (is_named party reference) (with_ruling ruling) cases docket (record {
       party = λ _. refl;
       reference = λ _. refl;
-      right = λ case is right. record {
-        reference = right.reference;
-        history = history_changes (rule_entry ruling) (λ _. refl) case.entries right.history (λ entry ends old.
-            let open_last = some_and _ entry (λ e. is_open e ≡ true)
-            (some_and _ case (λ c. IsSomeAnd (last c.entries) (λ e. is_open e ≡ true)) fits is) ends in
-            ruled_entry ruling entry (and_parts (is_some entry.appeal) (is_none entry.ruling) open_last).0 old);
-      };
+      right = λ case is right. history_changes (rule_entry ruling) (λ _. refl) case.entries right (λ entry ends old.
+          let open_last = some_and _ entry (λ e. is_open e ≡ true)
+          (some_and _ case (λ c. IsSomeAnd (last c.entries) (λ e. is_open e ≡ true)) fits is) ends in
+          ruled_entry ruling entry (and_parts (is_some entry.appeal) (is_none entry.ruling) open_last).0);
     })

@@ -15,7 +15,7 @@ apart : (entry : Entry) (decision : Decision) → is_under decision.lists entry 
 apart entry decision differs = same_back decision.lists entry.decision.lists ∙ differs
 
 new_entry : (decision : Decision) → IsEntry (entry_of decision)
-new_entry decision = record { appeal = tt; ruling = λ _. refl }
+new_entry decision = λ _. refl
 
 pub history_grows : (entries : List Entry) (decision : Decision) → IsHistory entries
     → list_any (is_under decision.lists) entries ≡ false → is_open_by (last entries) ≡ false

@@ -2,6 +2,7 @@ pub mod Connected
 pub mod Dockets
 pub mod Effects
 pub mod Finds
+pub mod Formed
 pub mod Histories
 pub mod Inverted
 pub mod Lasting

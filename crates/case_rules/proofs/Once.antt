@@ -17,11 +17,9 @@ use Rattle.case_rules.specs.declared.reply.Plan.TheVariants.{Say, Do, Judge}
 use Rattle.case_rules.specs.Cases.{same_content, is_named, state_of, queued_of}
 use Rattle.case_rules.specs.Rules.{Session, ◌>>=◌, allow, is_developer, submit, submit_anew, answered, told}
 use Rattle.case_rules.specs.Desk.{Judgement, Turn, speaks_of, view_of, decision_by, carried, desk, cases_then, cases_after}
-use Rattle.case_rules.specs.Docket.{IsDocket, IsFormed}
+use Rattle.case_rules.specs.Docket.{IsDocket}
 use Rattle.case_rules.specs.Plans.{settled}
-use Rattle.case_rules.specs.Laws.{AreFormed}
 use Rattle.case_rules.proofs.Dockets.{docket_after}
-use Rattle.case_rules.proofs.Effects.{effect}
 use Rattle.case_rules.proofs.Planned.{plan_for}
 
 same_content_itself : (content : Content) → same_content content content ≡ true
@@ -60,31 +58,29 @@ same_again session judgement reference content cases case role is bytes =
     (queued_of session.party.name cases)
     (holds (is_developer session.party.role) role) is bytes)
 
-docket_by : (turn : Turn) (cases : List Case) (answer : Result Plan Refusal) → IsFormed turn.command → IsDocket cases
+docket_by : (turn : Turn) (cases : List Case) (answer : Result Plan Refusal) → IsDocket cases
     → answered turn.session turn.command (view_of turn.session turn.command cases) ≡ answer
     → IsDocket (cases_then turn cases)
-docket_by turn cases (Err refusal) formed docket is =
+docket_by turn cases (Err refusal) docket is =
     subst IsDocket
     (sym (ap (λ (s : Reply × List Case). s.1)
     (plan_for turn.session turn.judgement turn.command cases (Err refusal) docket is))) docket
-docket_by turn cases (Ok (Say reply)) formed docket is =
+docket_by turn cases (Ok (Say reply)) docket is =
     subst IsDocket
     (sym (ap (λ (s : Reply × List Case). s.1)
     (plan_for turn.session turn.judgement turn.command cases (Ok (Say reply)) docket is))) docket
-docket_by turn cases (Ok (Do change reply)) formed docket is =
+docket_by turn cases (Ok (Do change reply)) docket is =
     let does = (plan_for turn.session turn.judgement turn.command cases (Ok (Do change reply)) docket is).0 in
     subst IsDocket (sym (ap (λ (s : Reply × List Case). s.1) does.desk))
-    (docket_after change cases docket does.fits
-    ((effect turn.session turn.command cases (Do change reply) is).formed formed))
-docket_by turn cases (Ok (Judge case)) formed docket is =
+    (docket_after change cases docket does.fits)
+docket_by turn cases (Ok (Judge case)) docket is =
     let does = (plan_for turn.session turn.judgement turn.command cases (Ok (Judge case)) docket is).does in
     subst IsDocket (sym (ap (λ (s : Reply × List Case). s.1) does.desk))
-    (docket_after (settled case (decision_by turn.session turn.judgement)).0 cases docket does.fits tt)
+    (docket_after (settled case (decision_by turn.session turn.judgement)).0 cases docket does.fits)
 
-pub dockets : (turns : List Turn) (cases : List Case) → AreFormed turns → IsDocket cases
-    → IsDocket (cases_after turns cases)
-dockets [] cases formed docket = docket
-dockets (turn ∷ turns) cases formed docket =
-    dockets turns (cases_then turn cases) formed.1
+pub dockets : (turns : List Turn) (cases : List Case) → IsDocket cases → IsDocket (cases_after turns cases)
+dockets [] cases docket = docket
+dockets (turn ∷ turns) cases docket =
+    dockets turns (cases_then turn cases)
     (docket_by turn cases (answered turn.session turn.command
-    (view_of turn.session turn.command cases)) formed.0 docket refl)
+    (view_of turn.session turn.command cases)) docket refl)

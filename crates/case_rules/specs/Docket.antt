@@ -1,6 +1,6 @@
 -- What holds of every list of cases that the desk makes, what a change needs, and what a command has to be.
 use Rattle.std.specs.Prelude.{◌≡◌, ℕ, Bool, true, false, ◌&&◌, List, [], ◌∷◌, None, IsTrue, IsSomeAnd, IfSome, is_none, length, find, nat_le}
-use Rattle.std.specs.List.{list_any}
+use Rattle.std.specs.List.{list_any, AllByRecursion}
 use Rattle.store_office.specs.Reference.{is_reference}
 use Rattle.case_rules.specs.declared.case.Case.{Case}
 use Rattle.case_rules.specs.declared.case.Decision.{Decision}
@@ -73,10 +73,9 @@ Fits (changes.Decide party reference decision) cases =
 Fits (changes.Appeal party reference appeal) cases = IsSomeAnd (find (is_named party reference) cases) TakesAppeal
 Fits (changes.Rule party reference ruling) cases = IsSomeAnd (find (is_named party reference) cases) TakesRuling
 
--- The entry's appeal has its form, and a ruling stands on an appeal.
-pub record IsEntry (entry : Entry) : Type 0 where
-  pub appeal : IfSome entry.appeal (λ appeal. IsTrue (is_appeal_text appeal.text))
-  pub ruling : is_none entry.appeal ≡ true → is_none entry.ruling ≡ true
+-- A ruling stands on an appeal.
+abbrev pub IsEntry : Entry → Type 0
+IsEntry entry = is_none entry.appeal ≡ true → is_none entry.ruling ≡ true
 
 -- No two entries are under one edition, and only the last has an open appeal.
 abbrev pub IsHistory : List Entry → Type 0
@@ -85,11 +84,19 @@ IsHistory (entry ∷ []) = IsEntry entry
 IsHistory (entry ∷ next ∷ entries) = IsEntry entry × (is_open entry ≡ false)
     × (list_any (is_under entry.decision.lists) (next ∷ entries) ≡ false) × IsHistory (next ∷ entries)
 
-pub record IsCase (case : Case) : Type 0 where
-  pub reference : IsTrue (is_reference case.reference)
-  pub history : IsHistory case.entries
-
--- No two cases have one name.
+-- No two cases have one name. It is what changes keep that fit, whatever their references and texts.
 abbrev pub IsDocket : List Case → Type 0
 IsDocket [] = Unit {0}
-IsDocket (case ∷ cases) = IsCase case × (find (is_named case.party case.reference) cases ≡ None) × IsDocket cases
+IsDocket (case ∷ cases) = IsHistory case.entries × (find (is_named case.party case.reference) cases ≡ None) × IsDocket cases
+
+-- The text of an appeal has its form.
+abbrev pub IsFormedEntry : Entry → Type 0
+IsFormedEntry entry = IfSome entry.appeal (λ appeal. IsTrue (is_appeal_text appeal.text))
+
+-- The reference of a case and the texts of its appeals have their form.
+pub record IsFormedCase (case : Case) : Type 0 where
+  pub reference : IsTrue (is_reference case.reference)
+  pub texts : AllByRecursion IsFormedEntry case.entries
+
+abbrev pub AreFormedCases : List Case → Type 0
+AreFormedCases cases = AllByRecursion IsFormedCase cases

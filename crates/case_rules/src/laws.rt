@@ -1,15 +1,15 @@
 ghost use Rattle.std.specs.Prelude.{◌≡◌, ◌≤◌, ◌<◌, ◌+◌, ℕ, List, Some, find, true, IsTrue, map};
 ghost use Rattle.std.specs.List.{AllByRecursion};
-ghost use Rattle.case_rules.specs.Cases.{is_named, rows_of, state_of};
+ghost use Rattle.case_rules.specs.Cases.{is_named, rows_of, state_of, after};
 ghost use Rattle.case_rules.specs.Rules.{Session, is_developer};
 ghost use Rattle.case_rules.specs.Desk.{Judgement, Turn, desk, reply_to, cases_then, cases_after, replies_to};
-ghost use Rattle.case_rules.specs.Docket.{IsDocket};
+ghost use Rattle.case_rules.specs.Docket.{IsDocket, Fits, AreFormedCases};
 ghost use Rattle.case_rules.specs.Laws.{KeepsCases, AllBy, AllByOthers, AreFormed};
 ghost use Rattle.case_rules.specs.Runs.{Standing, Connection, IsDeskRun, turns_of, replies_in, failures_in};
 ghost use Rattle.case_rules.specs.Earlier.{EarlierCase, IsEarlierCase, IsEarlierCommand};
 ghost use Rattle.case_rules.specs.Earlier.{earlier_desk, raised, raised_reply};
 
-use crate::{Case, Command, Content, Refusal, Reply};
+use crate::{Case, Change, Command, Content, Refusal, Reply};
 
 /// A submission that comes again changes nothing, a case is decided at most once under one edition
 /// of the lists, and no later command changes or removes what was decided, appealed or ruled.
@@ -22,8 +22,17 @@ pub fn each_thing_is_done_once()
         → desk session judgement (Command.Submit reference content) cases
         ≡ (Reply.Kept reference (state_of case), cases) }
     ensures one_decision_an_edition { (turns : List Turn) (cases : List Case)
-        → AreFormed turns → IsDocket cases → IsDocket (cases_after turns cases) }
+        → IsDocket cases → IsDocket (cases_after turns cases) }
     ensures nothing_is_lost { (turns : List Turn) (cases : List Case) → KeepsCases cases (cases_after turns cases) }
+{}
+
+/// A change that fits keeps what is asked of the cases of a desk, whatever its reference and its text. Where references
+/// and texts of commands have their form, those of the cases keep it.
+pub fn what_fits_keeps_a_docket()
+    ensures docket { (change : Change) (cases : List Case)
+        → Fits change cases → IsDocket cases → IsDocket (after change cases) }
+    ensures forms { (turns : List Turn) (cases : List Case)
+        → AreFormed turns → AreFormedCases cases → AreFormedCases (cases_after turns cases) }
 {}
 
 /// What a developer is answered depends on that developer's own cases alone, and the commands of
