@@ -6,6 +6,7 @@ Building it unproved takes two or three minutes and begins when this module is i
 from __future__ import annotations
 
 import os
+import re
 import subprocess
 import unittest
 from concurrent.futures import Future, ThreadPoolExecutor
@@ -13,6 +14,7 @@ from pathlib import Path
 from typing import Callable, Iterable, TypeVar
 
 from tests.support import EXAMPLES, ROOT, expected
+from vet_tools.certificate import Certificate
 
 PROVED = ROOT / "crates" / "vet" / "out" / "vet"
 UNPROVED = ROOT / "crates" / "vet_undecided" / "out" / "unproved"
@@ -54,6 +56,16 @@ def answer(folder: Path, *words: str) -> tuple[int, str]:
     ran = subprocess.run([str(program()), *words], cwd=folder, capture_output=True, check=False,
                          stdin=subprocess.DEVNULL, env=CHECKED)
     return ran.returncode, ran.stdout.decode()
+
+
+def by_cells(folder: Path, name: str) -> None:
+    """Has an app there judged by the second set of rules: its lists allow one row less than follow by the first."""
+    table = folder / f"{name}.cert"
+    answer(folder, "certify", name, table.name)
+    rows = Certificate.read(str(table)).count
+    lists = folder / name / "lists.toml"
+    few = f'rows = {rows - 1}\nlarge = "cells"'
+    lists.write_text(re.sub(r"^rows = [0-9]+$", few, lists.read_text(), count=1, flags=re.MULTILINE))
 
 
 _WORKERS = ThreadPoolExecutor(os.cpu_count() or 1)

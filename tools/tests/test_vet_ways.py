@@ -2,11 +2,12 @@
 from __future__ import annotations
 
 import json
+import shutil
 import unittest
 from pathlib import Path
 
-from tests.program import answer, at_once, program
-from tests.support import DATA, EXAMPLES, ToolCase, expected
+from tests.program import answer, at_once, by_cells, program
+from tests.support import DATA, EXAMPLES, FolderCase, ToolCase, expected
 from vet_tools import story
 from vet_tools.explanation import Explanation, explain
 from vet_tools.why import way_text
@@ -14,17 +15,24 @@ from vet_tools.why import way_text
 LONG = "many_methods"
 
 
-def told(name: str) -> Explanation:
+def told(name: str, folder: Path = EXAMPLES) -> Explanation:
     """An example explained with the stories of its findings."""
-    status, text = answer(EXAMPLES, "story", name)
+    status, text = answer(folder, "story", name)
     report, stories = story.parse(text)
     assert report.outcome.status == status
-    return explain(report, EXAMPLES / name, stories)
+    return explain(report, folder / name, stories)
 
 
-def due() -> dict[str, list[str]]:
+def told_by_cells(name: str, folder: Path) -> Explanation:
+    """The same of a copy in the folder, by the second set of rules."""
+    shutil.copytree(EXAMPLES / name, folder / name)
+    by_cells(folder, name)
+    return told(name, folder)
+
+
+def due(file: str = "ways.txt") -> dict[str, list[str]]:
     """The steps of the one finding of each example but the longest, by hand from the sources: `PLACE: WHAT`."""
-    blocks = (DATA / "ways.txt").read_text().strip().split("\n\n")
+    blocks = (DATA / file).read_text().strip().split("\n\n")
     return {lines[0]: lines[1:] for lines in (block.split("\n") for block in blocks)}
 
 
@@ -50,6 +58,20 @@ class Ways(unittest.TestCase):
         self.assertEqual("   2. device_id is passed to a.part0.Id0.step0(java.lang.Object), and on by 5 calls:",
                          heads[1])
         self.assertEqual("  63. device_id goes to network", heads[-1])
+
+
+class WaysByCells(FolderCase):
+    def test_each_example_is_told_so_by_the_second_set_too(self) -> None:
+        steps_of = {**due(), **due("ways_by_cells.txt")}
+        found = at_once(lambda name: told_by_cells(name, self.folder), [*steps_of, LONG])
+        for (name, steps), one in zip(steps_of.items(), found):
+            with self.subTest(name):
+                finding, = one.findings
+                self.assertEqual(steps, [f"{step.where}: {step.says}" for step in finding.way])
+                self.assertEqual([], one.faults)
+        finding, = found[-1].findings
+        self.assertEqual(1 + 200 + 20 * 2 + 1, len(finding.way))
+        self.assertTrue(all(step.essential for step in finding.way if step.says.startswith("device_id ")))
 
 
 class Hostile(ToolCase):

@@ -27,6 +27,18 @@ STORY = "".join(f"{line}\n" for line in (
     f"8 rule 27 from 6: 14{NODE.format(4)}000d000000",
     f"9 rule 3 from 7: 03{NODE.format(4)}000000000000",
     f"10 rule 31 from 8 9: 120002{NODE.format(4)}"))
+# The same by the second set: the result of the call, made by the instruction at 0 of method 0, has an element of the
+# category, so that it holds it, and goes into register 0.
+RESULT = "040000000000000000"
+BY_CELLS = "".join(f"{line}\n" for line in (
+    "story 12",
+    *STORY.split("\n")[1:7],
+    f"7 rule 34 from 5: 02{NODE.format(3)}00000100{RESULT}",
+    f"8 rule 35 from 5: 17{RESULT}0000000000",
+    f"9 rule 27 from 6: 14{NODE.format(4)}000d000000",
+    f"10 rule 3 from 7: 02{NODE.format(4)}00000000{RESULT}",
+    f"11 rule 14 from 8: 18{RESULT}00",
+    f"12 rule 31 from 9 10 11: 120002{NODE.format(4)}"))
 WAY = f"""device_id -> network at {PLACE} @4
     what goes to network: argument 1 (v0)
    1. device_id is taken by vendor.Device.id()
@@ -43,6 +55,8 @@ class Reading(unittest.TestCase):
         story, = parse_stories(STORY)
         self.assertEqual(StoryLine(0, (), (14, 0, 0)), story.line(1))
         self.assertEqual(StoryLine(31, (8, 9), (18, 0, 2, 0, 0, 1, 0, 4)), story.line(10))
+        story, = parse_stories(BY_CELLS)
+        self.assertEqual(StoryLine(35, (5,), (23, 4, 0, 0, 0, 0)), story.line(8))
 
     def test_a_report_stands_before_its_stories(self) -> None:
         _, answer = expected()[NAME]
@@ -97,13 +111,24 @@ class Order(unittest.TestCase):
         story = story_of((), (1,), (1,), (1,))
         self.assertEqual([2, 4, 3], self.order(story, (2, enters, inside), (3, later, None), (4, inside, None)))
 
+    def test_what_enters_a_method_from_one_instruction_stands_together(self) -> None:
+        enters, inside, later = Node(self.CALLER, 0, 7), Node(self.CALLEE, 1, 3), Node(self.CALLER, 0, 9)
+        story = story_of((), (1,), (1,), (1,))
+        self.assertEqual([2, 4, 3], self.order(story, (2, enters, inside), (3, later, None), (4, enters, inside)))
+
+    def test_a_line_stands_behind_that_on_which_it_is_said_to_rest(self) -> None:
+        story = story_of((), (1,), (1,), (1,))
+        turns = [Turn(number, Node(self.CALLER, 0, pc)) for number, pc in ((2, 2), (3, 6), (4, 4))]
+        self.assertEqual([2, 4, 3], ordered(story, turns))
+        self.assertEqual([2, 3, 4], ordered(story, turns, [(3, 4)]))
+
 
 class Ways(ToolCase):
     def test_a_way_goes_from_where_the_value_is_taken_to_where_it_goes(self) -> None:
         status, answer = expected()[NAME]
         self.answer(NAME, status, answer + STORY)
-        for words in ([], ["--story", "-"]):
-            done = self.run_tool("why", str(EXAMPLES / NAME), *words, stdin=answer + STORY)
+        for words, told in (([], STORY), (["--story", "-"], STORY), (["--story", "-"], BY_CELLS)):
+            done = self.run_tool("why", str(EXAMPLES / NAME), *words, stdin=answer + told)
             self.assertEqual((status, ""), (done.returncode, done.stderr))
             self.assertTrue(done.stdout.startswith("flagged 1\nEach way is a derivation"), done.stdout)
             self.assertTrue(done.stdout.endswith(f"\n\n{WAY}"), done.stdout)
@@ -122,20 +147,21 @@ class Ways(ToolCase):
 
     def test_sarif_and_page_have_the_way(self) -> None:
         status, answer = expected()[NAME]
-        self.answer(NAME, status, answer + STORY)
         report = self.folder / "report.txt"
         report.write_text(answer)
         words = [str(EXAMPLES / NAME), "--ways", "--report", str(report)]
-        done = self.run_tool("sarif", *words)
-        self.assertEqual(status, done.returncode, done.stderr)
-        flow, = json.loads(done.stdout)["runs"][0]["results"][0]["codeFlows"]
-        steps = flow["threadFlows"][0]["locations"]
-        self.assertEqual(["device_id is taken by vendor.Device.id()", "device_id goes to network"],
-                         [step["location"]["message"]["text"] for step in steps])
         page = self.folder / "app.html"
-        done = self.run_tool("page", *words, "-o", str(page))
-        self.assertEqual(status, done.returncode, done.stderr)
-        self.assertIn("device_id is taken", page.read_text())
+        for told in (STORY, BY_CELLS):
+            self.answer(NAME, status, answer + told)
+            done = self.run_tool("sarif", *words)
+            self.assertEqual(status, done.returncode, done.stderr)
+            flow, = json.loads(done.stdout)["runs"][0]["results"][0]["codeFlows"]
+            steps = flow["threadFlows"][0]["locations"]
+            self.assertEqual(["device_id is taken by vendor.Device.id()", "device_id goes to network"],
+                             [step["location"]["message"]["text"] for step in steps])
+            done = self.run_tool("page", *words, "-o", str(page))
+            self.assertEqual(status, done.returncode, done.stderr)
+            self.assertIn("device_id is taken", page.read_text())
         report.write_text(answer.replace("@4", "@5"))
         self.assertIn("is not the report", self.run_tool("sarif", *words).stderr)
 

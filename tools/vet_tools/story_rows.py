@@ -1,14 +1,22 @@
-"""What a row of a story names: the instruction, the method, the object that is somewhere, and the one that holds it."""
+"""What a row of a story names: the instruction, the method, the object that is somewhere, and the one that holds it.
+
+A story is by one of the two sets of rules (`docs/RULES.md`). By the first, a row that says where the value is has the
+path by which something leads to it; by the second it says it of a value itself, of a cell of an object, or of an object
+from which the value is reached.
+"""
 from __future__ import annotations
 
 from vet_tools.certificate import Flat, Kind, Node, SiteKind, activation_of, node_of, site_of
 
-# The kinds of rows that say where the value is, and where an object is.
-VALUES = frozenset({Kind.TAINT, Kind.STATIC_TAINT, Kind.EFFECT, Kind.METHOD_EFFECT, Kind.EXIT_TAINT, Kind.COMP_TAINT,
-                    Kind.HANDED_TAINT, Kind.ARRIVE})
+# The kinds of rows that say where the value is, those of the second set among them, and where an object is.
+LABELS = frozenset({Kind.LABEL, Kind.STATIC_LABEL, Kind.CELL_LABEL, Kind.HOLDS, Kind.EXIT_LABEL})
+CELLS = frozenset({Kind.CELL_LABEL, Kind.HOLDS})
+VALUES = LABELS | {Kind.TAINT, Kind.STATIC_TAINT, Kind.EFFECT, Kind.METHOD_EFFECT, Kind.EXIT_TAINT, Kind.COMP_TAINT,
+                   Kind.HANDED_TAINT, Kind.ARRIVE}
 OBJECTS = frozenset({Kind.POINTS, Kind.CELL, Kind.BACK, Kind.STATIC_POINTS, Kind.EXIT_POINTS, Kind.HANDED})
-_WITH_NODE = frozenset({Kind.REACHED, Kind.POINTS, Kind.TAINT, Kind.CALLS, Kind.EFFECT, Kind.UNKNOWN, Kind.USES})
-_WITH_ACTIVATION = frozenset({Kind.METHOD_EFFECT, Kind.EXIT_POINTS, Kind.EXIT_TAINT, Kind.CALLED_BY})
+_WITH_NODE = frozenset({Kind.REACHED, Kind.POINTS, Kind.TAINT, Kind.CALLS, Kind.EFFECT, Kind.UNKNOWN, Kind.USES,
+                        Kind.LABEL})
+_WITH_ACTIVATION = frozenset({Kind.METHOD_EFFECT, Kind.EXIT_POINTS, Kind.EXIT_TAINT, Kind.CALLED_BY, Kind.EXIT_LABEL})
 
 
 def node(row: Flat) -> Node | None:
@@ -34,7 +42,7 @@ def entered(row: Flat) -> Node | None:
 
 
 def keys(row: Flat) -> int:
-    """How many keys the path has by which the value is reached, in a row that says where the value is."""
+    """How many keys the path has by which the value is reached, in a row of the first set that says where it is."""
     kind = row[0]
     if kind == Kind.ARRIVE:
         return 0
@@ -60,7 +68,7 @@ def changed(row: Flat) -> Flat | None:
     """The site whose objects hold the value, of a row that names one."""
     if row[0] == Kind.COMP_TAINT:
         return (int(SiteKind.COMPONENT), row[1])
-    if row[0] in (Kind.EFFECT, Kind.METHOD_EFFECT, Kind.HANDED_TAINT):
+    if row[0] in (Kind.EFFECT, Kind.METHOD_EFFECT, Kind.HANDED_TAINT, Kind.CELL_LABEL, Kind.HOLDS):
         return site_of(_behind(row))[0]
     return None
 

@@ -29,6 +29,10 @@ _BEGINS = frozenset({40, 41, 42, 43, 45})
 _MADE, _PUTS, _GETS, _MAKES = frozenset({5, 34}), frozenset({6, 8, 14, 37, 38}), frozenset({7, 33}), frozenset({4, 35})
 # What is not told of components and shared objects: there is one of each, so it does not matter how it came there.
 _HOW = frozenset({Kind.POINTS, Kind.EXIT_POINTS})
+_ALONE = frozenset({SiteKind.COMPONENT, SiteKind.SHARED})
+# Rules by which an object is the value: the result of the call that takes it or is made of it, and a parameter. By the
+# first set such an object leads to the value, by the second it has the label in a cell and goes on as an object.
+_IS_VALUE = frozenset({35, 42, 43})
 LONG = 4  # so many calls one behind the other are told as one
 
 Sites = tuple[Flat | None, ...]
@@ -85,7 +89,8 @@ class _Telling:
     def steps(self) -> tuple[Step, ...]:
         """The way, from where the value is taken to where it goes."""
         values = self._values()
-        control = self._control([one.number for one in values if one.first or self._rule(one.number) == 9])
+        self.objects.take_as(self.finding.source, (site for one in values for site in self._becomes(one)))
+        control = self._control([one.number for one in values if self._is_begin(one)])
         objects = self._of_objects([one.number for one in values] + control)
         self.objects.told(site for number in sorted({*objects, *(one.number for one in values)})
                           for site in self._sites(self.story.line(number).row))
@@ -93,11 +98,32 @@ class _Telling:
         told += [self._object(number) for number in objects]
         told += self._entries(control, told)
         by_number = {one.number: one for one in told}
-        order = ordered(self.story, [Turn(one.number, one.node, one.entered) for one in told])
-        return tuple(self._step(one) for one in _together([by_number[number] for number in order]))
+        order = ordered(self.story, [Turn(one.number, one.node, one.entered) for one in told],
+                        self._behind(values, objects))
+        return tuple(self._step(one) for one in _together(_once([by_number[number] for number in order])))
 
     def _rule(self, number: int) -> int:
         return self.story.line(number).rule
+
+    def _becomes(self, one: _Value) -> Sites:
+        """The object that is the value from this line on, by the second set, where one is."""
+        row = self.story.line(one.number).row
+        return one.sites if row[0] == Kind.CELL_LABEL and self._rule(one.number) in _IS_VALUE else ()
+
+    def _behind(self, values: Sequence[_Value], objects: Sequence[int]) -> list[tuple[int, int]]:
+        """Pairs of a line by which an object is the value, and of one that tells later where that object is."""
+        since = {site: one.number for one in values for site in self._becomes(one)}
+        found = [(since.get(story_rows.held(self.story.line(number).row), number), number) for number in objects]
+        return [(first, later) for first, later in found if first < later]
+
+    def _is_begin(self, one: _Value) -> bool:
+        """Is it to be told how control comes there, since no step says how the value or what holds it does: where it
+        begins, is read from a static, or comes out of a cell of a component or shared object?"""
+        if one.first or self._rule(one.number) == 9:
+            return True
+        out = self._rule(one.number) != 14 and any(
+            line.row[0] in story_rows.CELLS for _, line in self._premises(one.number))
+        return out and one.before[0] is not None and one.before[0][0] in _ALONE
 
     def _tells(self, number: int) -> bool:
         line = self.story.line(number)
@@ -125,6 +151,8 @@ class _Telling:
     def _holders(self, line: StoryLine, sites: Sites) -> Sites:
         """The objects that lead to the value, the outermost first, by those that did before the line."""
         site = story_rows.changed(line.row)
+        if line.row[0] in story_rows.LABELS:
+            return () if site is None else (site,)
         if line.rule in _PUTS:
             sites = (site, *sites)
         elif line.rule == 39:
@@ -149,14 +177,15 @@ class _Telling:
                     continue
                 seen.add(number)
                 site = story_rows.held(line.row)
-                alone = site[0] in (SiteKind.COMPONENT, SiteKind.SHARED) and line.row[0] in _HOW
+                alone = site[0] in _ALONE and line.row[0] in _HOW
                 if alone:
                     continue
                 if line.rule in OBJECT:
                     found[number] = site
                 todo.append(number)
         going = {site for number, site in found.items() if self._rule(number) not in _MADE}
-        return [number for number, site in found.items() if self._rule(number) not in _MADE or site in going]
+        return [number for number, site in found.items()
+                if self._rule(number) not in _MADE or site in going and not self.objects.is_value(site)]
 
     def _sites(self, row: Flat) -> list[Flat]:
         """The objects that a line may name."""
@@ -174,7 +203,8 @@ class _Telling:
             at: int | None = number
             while at is not None and at not in found:
                 line = self.story.line(at)
-                if line.row[0] in (Kind.REACHED, Kind.CALLS) and line.rule in _CALLS | {43}:
+                enters = line.row[0] == Kind.POINTS and line.rule == 23
+                if enters or line.row[0] in (Kind.REACHED, Kind.CALLS) and line.rule in _CALLS | {43}:
                     found[at] = None
                 at = self._before(at)
         return list(found)
@@ -216,11 +246,15 @@ class _Telling:
         line = self.story.line(number)
         rows = [line.row, *(one.row for _, one in self._premises(number))]
         node = story_rows.node(line.row) if line.row[0] == Kind.ARRIVE else (
-            story_rows.entered(line.row) if line.rule in _BEGINS else self._first_node(number))
+            self._begun(line.row) if line.rule in _BEGINS else self._first_node(number))
         node = node or next((one for one in map(story_rows.entered, rows) if one is not None), None)
         if node is None:
             raise IndexError(number)
         return node
+
+    def _begun(self, row: Flat) -> Node | None:
+        """The beginning of the method that the system or the library begins, where a row says what it begins with."""
+        return story_rows.entered(row) or self.objects.begun(story_rows.changed(row))
 
     def _value(self, one: _Value) -> _Told:
         line, source = self.story.line(one.number), self.finding.source
@@ -236,15 +270,15 @@ class _Telling:
         site = story_rows.held(row)
         holder = story_rows.holder(row) if row[0] == Kind.CELL else next(
             (story_rows.holder(line.row) for _, line in self._premises(number) if line.row[0] == Kind.CELL), None)
-        return self._told(number, OBJECT[self._rule(number)], False, it=self.objects.the(site),
+        return self._told(number, OBJECT[self._rule(number)], self.objects.is_value(site), it=self.objects.the(site),
                           new=self.objects.new(site), holder=self.objects.the(holder))
 
     def _told(self, number: int, words: str, essential: bool, **more: str) -> _Told:
         line, node = self.story.line(number), self._node(number)
         instruction = self.code.numbered[node.method].at(node.pc)
-        into = story_rows.entered(line.row)
+        into = self._begun(line.row) if line.rule in _BEGINS else story_rows.entered(line.row)
         ended = next((story_rows.entered(one.row) for _, one in self._premises(number)
-                      if one.row[0] in (Kind.CALLED_BY, Kind.EXIT_TAINT, Kind.EXIT_POINTS)), None)
+                      if one.row[0] in (Kind.CALLED_BY, Kind.EXIT_TAINT, Kind.EXIT_POINTS, Kind.EXIT_LABEL)), None)
         says = words.format_map({
             "field": field_of(instruction), "method": method_name(self.code, into),
             "call": call_name(instruction.called if instruction else None),
@@ -261,6 +295,14 @@ class _Telling:
             return Step(place, words, method=method, essential=one.essential)
         return Step(place, words, method.at(one.node.pc), method.line_at(one.node.pc), method, one.essential,
                     line.rule in _CALLS)
+
+
+def _once(found: list[_Told]) -> list[_Told]:
+    """Without what was told before of the same step: by the second set an object is where it is read, line by line."""
+    kept: dict[tuple[Node, str, Node | None], _Told] = {}
+    for one in found:
+        kept.setdefault((one.node, one.words, one.entered), one)
+    return list(kept.values())
 
 
 def _together(found: list[_Told]) -> list[_Told]:

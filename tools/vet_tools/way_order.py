@@ -1,7 +1,8 @@
 """In which order the steps of a way are told: each behind those on which it rests, and else as a run would go.
 
-Where several may come next it is one in the method in which the last was, by its address; else the earliest of the
-story whose method has been entered, where a step says that it is entered at all.
+Where several may come next it is one that enters the same method from the same instruction as the last; else one in
+the method in which the last was, by its address; else the earliest of the story whose method has been entered, where a
+step says that it is entered at all.
 """
 from __future__ import annotations
 
@@ -41,6 +42,8 @@ class _Ready:
         self.entered: set[Activation] = set()
         self.by_address: dict[Activation, list[tuple[int, int]]] = {}
         self.by_number: list[int] = []
+        self.entering: dict[tuple[Node, Activation], list[int]] = {}
+        self.last: tuple[Node, Activation] | None = None
         self.parked: dict[Activation, list[int]] = {}
         self.late: list[int] = []
         self.done: set[int] = set()
@@ -51,6 +54,8 @@ class _Ready:
         key = activation(turn.node)
         heappush(self.by_address.setdefault(key, []), (turn.node.pc, number))
         heappush(self.by_number, number)
+        if turn.entered is not None:
+            heappush(self.entering.setdefault((turn.node, activation(turn.entered)), []), number)
 
     def waits(self, key: Activation) -> bool:
         """Is an activation entered by a step that is still to come?"""
@@ -58,6 +63,11 @@ class _Ready:
 
     def take(self) -> Turn | None:
         """The next one, where there is one."""
+        beside = self.entering.get(self.last, []) if self.last else []
+        while beside:
+            number = heappop(beside)
+            if number not in self.done:
+                return self._taken(number)
         here = self.by_address.get(self.now, []) if self.now else []
         while here:
             number = heappop(here)[1]
@@ -83,6 +93,7 @@ class _Ready:
         turn = self.turns[number]
         self.done.add(number)
         self.now = activation(turn.node if turn.entered is None else turn.entered)
+        self.last = None if turn.entered is None else (turn.node, self.now)
         if turn.entered is not None:
             self.entered.add(self.now)
             for parked in self.parked.pop(self.now, []):
@@ -90,8 +101,9 @@ class _Ready:
         return turn
 
 
-def ordered(story: Story, turns: Iterable[Turn]) -> list[int]:
-    """The numbers of the lines that are told, in the order in which they are."""
+def ordered(story: Story, turns: Iterable[Turn], behind: Iterable[tuple[int, int]] = ()) -> list[int]:
+    """The numbers of the lines that are told, in the order in which they are; of each pair the second rests on the
+    first besides, which stands before it in the story."""
     ready = _Ready(turns)
     followers: list[list[int]] = [[] for _ in range(len(story.lines) + 1)]
     wanting = [0] * (len(story.lines) + 1)
@@ -99,6 +111,9 @@ def ordered(story: Story, turns: Iterable[Turn]) -> list[int]:
         for premise in set(line.premises):
             followers[premise].append(number)
             wanting[number] += 1
+    for first, later in behind:
+        followers[first].append(later)
+        wanting[later] += 1
     found: list[int] = []
     free = [number for number in range(1, len(wanting)) if not wanting[number]]
     while True:

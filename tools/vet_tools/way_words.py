@@ -110,23 +110,38 @@ class Objects:
     def __init__(self, story: Story, code: DexCode, names: Names) -> None:
         self.story, self.code, self.names = story, code, names
         self._parameters: dict[Flat, str] = {}
+        self._begun: dict[Flat, Node] = {}
         for line in story.lines:
             if line.row[0] == Kind.POINTS and 40 <= line.rule <= 45:
-                self._parameter(story_rows.held(line.row), story_rows.node(line.row))
+                self._parameter(story_rows.held(line.row), story_rows.entered(line.row))
         self._said: dict[Flat, str] = {}
+        self._values: dict[Flat, str] = {}
 
     def _parameter(self, site: Flat, node: Node | None) -> None:
-        if site[0] != SiteKind.PARAMETER or node is None:
+        if site[0] != SiteKind.PARAMETER or node is None or site[1:-1] != node.context:
             return
+        self._begun.setdefault(site, node)
         method = self.code.numbered[node.method]
         kinds = split_types(method.descriptor)[0]
         kinds = kinds if method.static else (method.class_name, *kinds)
         if site[-1] < len(kinds):
             self._parameters.setdefault(site, kinds[site[-1]])
 
+    def begun(self, site: Flat | None) -> Node | None:
+        """The beginning of the method that is begun with the object of this site as a parameter."""
+        return None if site is None else self._begun.get(site)
+
+    def take_as(self, value: str, sites: Iterable[Flat | None]) -> None:
+        """Sets that the objects of these sites are the value itself."""
+        self._values.update((site, value) for site in sites if site is not None)
+
+    def is_value(self, site: Flat | None) -> bool:
+        """Is an object of this site the value itself?"""
+        return site in self._values
+
     def class_of(self, site: Flat) -> str:
         """The class of a site as Java writes it; empty where it is not known."""
-        if site[0] == SiteKind.NODE:
+        if site[0] in (SiteKind.NODE, SiteKind.MADE):
             kind = type_of(self.code.numbered[site[-2]].at(site[-1]))
         elif site[0] == SiteKind.COMPONENT:
             kind = self.names.components[site[1]].class_name if site[1] < len(self.names.components) else ""
@@ -139,7 +154,7 @@ class Objects:
         of_class: dict[str, list[Flat]] = {}
         for site in sites:
             known = of_class.setdefault(self._plain(site), [])
-            if site not in known:
+            if site not in known and not self.is_value(site):
                 known.append(site)
         for name, known in of_class.items():
             for number, site in enumerate(known, 1):
@@ -156,11 +171,13 @@ class Objects:
 
     def the(self, site: Flat | None) -> str:
         """How an object is called, once it was told."""
-        return "an object" if site is None else f"the {self._said.get(site) or self._plain(site)}"
+        if site is None:
+            return "an object"
+        return self._values.get(site) or f"the {self._said.get(site) or self._plain(site)}"
 
     def carried(self, site: Flat | None, value: str) -> str:
         """The value, or the object of this site that holds it."""
-        return value if site is None else f"{self.the(site)} that holds {value}"
+        return value if site is None or self.is_value(site) else f"{self.the(site)} that holds {value}"
 
     def new(self, site: Flat) -> str:
         """How an object is called where it is made."""
