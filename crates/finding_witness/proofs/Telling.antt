@@ -69,10 +69,10 @@ later_context first = by_place first.place first.there.there first.before
     by_place zero is before = let e : arrives 1 4 ≡ arrives 2 4 = same_Some (arrives 1 4) (arrives 2 4) is in let n : 1 ≡ 2 = ap event_in e in absurd (omega (arith, n))
     by_place (suc place) is before = before 0 (arrives 1 4) (omega arith) (record { there = refl }) (tells_itself 1 4 (free 4))
 
-left_out : (table : FlowTable) (story : List StoryLine) → AreStoriesOf no_app two_categories undeclared table (sent_at 0 ∷ sent_at 4 ∷ []) (story ∷ []) → ⊥
-left_out table story are = by_goals are.goals are.first are.told
+left_out : (table : FlowTable) (one other : Finding) (story : List StoryLine) → AreStoriesOf no_app two_categories undeclared table (one ∷ other ∷ []) (story ∷ []) → ⊥
+left_out table one other story are = by_goals are.goals are.first are.told
   where
-    by_goals : (goals : List Row) → AreFirstArrivals no_app two_categories undeclared table.rows (sent_at 0 ∷ sent_at 4 ∷ []) goals → AreStories (FollowsBy table.analysis no_app two_categories) (Starts no_app) goals (story ∷ []) → ⊥
+    by_goals : (goals : List Row) → AreFirstArrivals no_app two_categories undeclared table.rows (one ∷ other ∷ []) goals → AreStories (FollowsBy table.analysis no_app two_categories) (Starts no_app) goals (story ∷ []) → ⊥
     by_goals [] first told = first
     by_goals (a ∷ []) first told = first.1
     by_goals (a ∷ b ∷ goals) first told = told.1

@@ -65,9 +65,9 @@ pub record FindingsAreTold : Type 0 where
       ⊥
   -- nor one of a declared pair
   pub of_declared : Tells no_app two_categories declared (sent_at 4) (arrives 1 4) → ⊥
-  -- two findings have two stories (else one is left out where they share a row)
-  pub left_out : (table : FlowTable) (story : List StoryLine) →
-      AreStoriesOf no_app two_categories undeclared table (sent_at 0 ∷ sent_at 4 ∷ []) (story ∷ []) →
+  -- two findings have two stories, whatever they are (else one is left out where they share a row)
+  pub left_out : (table : FlowTable) (one other : Finding) (story : List StoryLine) →
+      AreStoriesOf no_app two_categories undeclared table (one ∷ other ∷ []) (story ∷ []) →
       ⊥
   -- and none of no finding (else one too many is told)
   pub one_more : (table : FlowTable) (story : List StoryLine) →

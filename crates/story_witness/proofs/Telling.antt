@@ -46,6 +46,9 @@ not_given rows f = elim f [ ]
 not_by : (rows : List Row) → Follows 4 rows other → ⊥
 not_by rows f = elim f [ ]
 
+not_by_last : (rows : List Row) → Follows 255 rows other → ⊥
+not_by_last rows f = elim f [ ]
+
 not_by_none : (rows : List Row) (row : Row) → Follows 0 rows row → ⊥
 not_by_none rows row f = elim f [ ]
 
@@ -125,6 +128,7 @@ stories_tell = record {
   no_start = record { place = 0; counted = refl; line = line 0 None other; there = record { there = refl }; wrong = no_start_right; before = none_right (line 0 None other ∷ []) };
   not_given = bad_at_two (line 3 (One 1) last) [] not_given_right;
   other_rule = bad_at_two (line 4 (One 1) other) [] (wrong_by (begin ∷ []) (line 4 (One 1) other) (λ e. absurd cc) (not_by (start ∷ [])));
+  no_rule = bad_at_two (line 255 (One 1) other) [] (wrong_by (begin ∷ []) (line 255 (One 1) other) (λ e. absurd cc) (not_by_last (start ∷ [])));
   itself = bad_at_two (line 3 (One 2) other) [] (wrong_by (begin ∷ []) (line 3 (One 2) other) (λ e. absurd cc) (λ none. none));
   later = bad_at_two (line 8 (Two 1 3) last) (moved ∷ []) (wrong_by (begin ∷ []) (line 8 (Two 1 3) last) (λ e. absurd cc) (λ none. none));
   before_all = bad_at_two (line 3 (One 0) other) [] (wrong_by (begin ∷ []) (line 3 (One 0) other) (λ e. absurd cc) (λ none. none));

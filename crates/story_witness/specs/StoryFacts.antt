@@ -49,9 +49,10 @@ pub record StoriesTell : Type 0 where
   pub empty : IsFirstFault Follows Begins [] Empty
   -- a row that is no start is not told as one (else rule 0 gives every row)
   pub no_start : Faulty (line 0 None other ∷ []) 1
-  -- nothing gives the row by that rule (else the row alone is looked at, or the rule is not)
+  -- nothing gives the row by that rule, or by one that there is not (else the row alone is looked at, or no rule is)
   pub not_given : Faulty (begin ∷ line 3 (One 1) last ∷ []) 2
   pub other_rule : Faulty (begin ∷ line 4 (One 1) other ∷ []) 2
+  pub no_rule : Faulty (begin ∷ line 255 (One 1) other ∷ []) 2
   -- a line does not follow from itself, from a later one, or from none (else any row of the story serves)
   pub itself : Faulty (begin ∷ line 3 (One 2) other ∷ []) 2
   pub later : Faulty (begin ∷ line 8 (Two 1 3) last ∷ moved ∷ []) 2
