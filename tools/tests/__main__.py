@@ -19,7 +19,7 @@ from unittest import SkipTest
 
 TESTS = Path(__file__).resolve().parent
 # The modules that take longest begin first; those that need the program come last, since it may have to be built.
-DEAREST = ("vet_script", "reviewer", "unpack", "make_lists",
+DEAREST = ("vet_script", "reviewer", "unpack", "make_lists", "vet_second",
            "vet_submit", "vet_lists", "vet_answers", "vet_device", "vet_certificates", "vet_commands", "vet_ways",
            "vet_story", "vet_code")
 NEEDS_PROGRAM = "\nfrom tests.program import"

@@ -143,8 +143,8 @@ NO_START = refused(f"no start {LIVE[0].hex()}")
 STRANGERS = [live(1, 0), live(2, 0)]
 
 
-class TableTest(FolderTest):
-    """What the checker says of tables of a small app, whole and spoilt, which certificates of the test's own bring."""
+class SmallAppTest(FolderTest):
+    """A test with the small app, whose certificates it makes itself."""
 
     def put_app(self) -> None:
         for name in ("manifest.toml", "layouts.toml", "lists.toml", "classes.dex"):
@@ -155,6 +155,10 @@ class TableTest(FolderTest):
         """The digest of these files of the app, or of those of an app with one DEX file."""
         contents = [(self.folder / "D" / name).read_bytes() for name in names or PARTS]
         return hashlib.sha256(b"".join(u4(len(content)) + content for content in contents)).digest()
+
+
+class TableTest(SmallAppTest):
+    """What the checker says of tables of a small app, whole and spoilt, which certificates of the test's own bring."""
 
     def said_of(self, tables: list[list[bytes]]) -> list[tuple[int, str]]:
         digest = self.digest()
@@ -246,7 +250,7 @@ class TableTest(FolderTest):
         self.assertEqual(refused(f"digest {'00' * 32} {self.digest(*parts).hex()}"), said)
 
 
-class SecondSetTest(TableTest):
+class SecondSetTest(SmallAppTest):
     """Certificates of tables by the second set, by which no register of the small app has a row: none is read."""
 
     ROWS = [REACHED, *LIVE]
