@@ -9,6 +9,7 @@ ratios to the size before, and the first line that the program printed, or how i
 """
 import multiprocessing
 import os
+import re
 import resource
 import shutil
 import struct
@@ -228,7 +229,66 @@ def library_statics(n):
     return strict(with_main(dex, gets(True, n, [dex.field('Llib/S;', f'f{i}', 'Lx;') for i in range(n)])))
 
 
+def by_cells(dex, rows):
+    """The app under the sample's lists with so many rows, which ask for the second analysis."""
+    with open(f'{here}/../examples/lists.toml') as lists:
+        dex.lists = re.sub(r'(?m)^rows = .*', f'rows = {rows}\nlarge = "cells"', lists.read())
+    return dex
+
+
+OBJECT = 'Ljava/lang/Object;'
+NEW, TO_STATIC, FROM_STATIC, TO_FIELD, FROM_FIELD, MOVE = 0x22, 0x69, 0x62, 0x5B, 0x54, 0x09
+IF_ZERO, GOTO = 0x38, 0x2A
+
+
+def made_and_kept(dex, register, static):
+    """An object is made, and goes from that register into the static field."""
+    return unit(NEW | register << 8, dex.type('La/Held;'), TO_STATIC | register << 8, dex.field('La/Held;', static, OBJECT))
+
+
+def readers_of_one(n):
+    """A register that is read at so many places, which all follow one write of it."""
+    dex = DexFile()
+    reads = unit(TO_STATIC, dex.field('La/Held;', 's', OBJECT)) * n
+    units = unit(NEW, dex.type('La/Held;')) + reads + unit(RETURN_VOID)
+    return by_cells(with_main(dex, code_item(3, 2, units), True), 100)
+
+
+def readers_of_each(n):
+    """So many writes of a register, and behind each of them the same places, as many, at which it is read."""
+    dex = DexFile()
+    reads = unit(TO_STATIC, dex.field('La/Held;', 's', OBJECT)) * n
+    writes = b''.join(unit(IF_ZERO | 1 << 8, 7, NEW, dex.type('La/Held;')) + struct.pack('<Hi', GOTO, 7 * (n - i) - 4)
+                      for i in range(n))
+    return by_cells(with_main(dex, code_item(4, 2, writes + reads + unit(RETURN_VOID)), True), 100_000)
+
+
+def readers_far_away(n):
+    """So many registers, all written before all are read."""
+    dex = DexFile()
+    units = unit(NEW, dex.type('La/Held;')) + b''.join(unit(MOVE, 2 + i, 0) for i in range(n))
+    units += b''.join(unit(MOVE, 1, 2 + i) for i in range(n)) + unit(RETURN_VOID)
+    return by_cells(with_main(dex, code_item(n + 4, 2, units), True), 100_000)
+
+
+def readers_of_gets(n):
+    """So many objects that each hold as many others, which a get brings to as many places."""
+    dex = DexFile()
+    dex.add_class('La/Held;')
+    field = dex.field('La/Held;', 'f', OBJECT)
+    units = b''.join(made_and_kept(dex, 0, 'a') + made_and_kept(dex, 0, 'b') for _ in range(n))
+    units += unit(FROM_STATIC | 1 << 8, dex.field('La/Held;', 'a', OBJECT))
+    units += unit(FROM_STATIC | 2 << 8, dex.field('La/Held;', 'b', OBJECT))
+    units += unit(TO_FIELD | 2 << 8 | 1 << 12, field, FROM_FIELD | 3 << 8 | 1 << 12, field)
+    units += unit(TO_STATIC | 3 << 8, dex.field('La/Held;', 'c', OBJECT)) * n + unit(RETURN_VOID)
+    return by_cells(with_main(dex, code_item(6, 2, units), True), 16 * n * n // 5)
+
+
 CASES = {
+    'readers_of_one': (30_000, readers_of_one),
+    'readers_of_each': (4_000, readers_of_each),
+    'readers_far_away': (4_000, readers_far_away),
+    'readers_of_gets': (200, readers_of_gets),
     'sget_missing': (20_000, missing(True)),
     'iget_missing': (20_000, missing(False)),
     'sget_far_above': (15_000, far_above),
