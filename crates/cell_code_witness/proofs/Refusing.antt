@@ -8,15 +8,16 @@ use Rattle.vet_base.specs.Members.{In}
 use Rattle.fact_rows.specs.declared.context.Node.{Node}
 use Rattle.fact_rows.specs.declared.site.Site.{Site}
 use Rattle.fact_rows.specs.declared.row.Row.{Row}
-use Rattle.fact_rows.specs.declared.row.Row.TheVariants.{Points, Label, Back, CellLabel, Holds}
+use Rattle.fact_rows.specs.declared.row.Row.TheVariants.{Reached, Points, Label, Back, CellLabel, Holds}
 use Rattle.flow_rules.specs.Nodes.{at_pc, Acts, GoesOn}
 use Rattle.flow_rules.specs.Rules.{Each}
 use Rattle.rule_ground.specs.declared.conclusion.Conclusion.{Conclusion}
 use Rattle.rule_ground.specs.Given.{of_one, of_two, concludes}
 use Rattle.rule_ground.specs.Exact.{IsListed}
 use Rattle.rule_ground.specs.Hits.{Among}
-use Rattle.cell_rules.specs.LocalRules.{LocalRule, move_points, get_label, put_label}
+use Rattle.cell_rules.specs.LocalRules.{LocalRule, move_points, new_points, fill_points, get_label, put_label}
 use Rattle.cell_rules.specs.HeapRules.{HeapRule, cell_holds, lift_holds}
+use Rattle.cell_rules.specs.Making.{made_at}
 use Rattle.cell_rules.specs.Reading.{ReadAt}
 use Rattle.cell_step_rules.specs.CellStepGiven.{StepRule}
 use Rattle.cell_code_witness.specs.Refused.{IsRefused, AreRefused, WrongListsAreRefused}
@@ -123,6 +124,25 @@ module _ (app : App) (lists : Lists) where
       another (Points n x s ∷ []) (Points n x s) (concludes 3 (of_one (Points n x s)) (Points (at_pc n u) d s))
       (inl (move_points d {s = s} acts is_one goes read)) (inl refl, tt) (inl refl) other
 
+  -- the site of what a step makes that is reached
+  abbrev MadeBy : Row → List Row → Type 0
+  MadeBy (Points m d s) (Reached n ∷ []) = s ≡ made_at app n
+  MadeBy row premises = Unit {0}
+
+  step_makes : {rule : ℕ} {premises : List Row} {row : Row} → LocalRule app lists rule premises row → MadeBy row premises
+  step_makes (new_points acts goes read) = refl
+  step_makes (fill_points acts goes read) = refl
+  step_makes other = tt
+
+  made_otherwise : {n : Node} {d v : ℕ} {s : Site} → s ≢ made_at app n →
+      IsRefused app lists (Reached n ∷ []) (Reached n) (concludes 5 (of_one (Reached n)) (Points (at_pc n v) d s) ∷ [])
+  made_otherwise {n = n} {d = d} {v = v} {s = s} other just =
+      by_either (just.sound (concludes 5 (of_one (Reached n)) (Points (at_pc n v) d s)) (inl refl)).by
+    where
+      by_either : StepRule app lists 5 (Reached n ∷ []) (Points (at_pc n v) d s) → ⊥
+      by_either (inl rule) = other (step_makes rule)
+      by_either (inr rule) = let none = heap_rule_is rule in absurd (omega arith)
+
   are_refused : AreRefused app lists
   are_refused = record {
     no_put_on_object = no_put_on_object;
@@ -132,6 +152,7 @@ module _ (app : App) (lists : Lists) where
     no_climb_by_holder = no_climb_by_holder;
     put_elsewhere = put_elsewhere;
     got_elsewhere = got_elsewhere;
+    made_otherwise = made_otherwise;
     one_reader = one_reader;
   }
 

@@ -8,12 +8,13 @@ use Rattle.vet_base.specs.Members.{In}
 use Rattle.fact_rows.specs.declared.context.Node.{Node}
 use Rattle.fact_rows.specs.declared.site.Site.{Site}
 use Rattle.fact_rows.specs.declared.row.Row.{Row}
-use Rattle.fact_rows.specs.declared.row.Row.TheVariants.{Points, Label, Back, CellLabel, Holds}
+use Rattle.fact_rows.specs.declared.row.Row.TheVariants.{Reached, Points, Label, Back, CellLabel, Holds}
 use Rattle.flow_rules.specs.Nodes.{at_pc, Acts, GoesOn}
 use Rattle.rule_ground.specs.declared.conclusion.Conclusion.{Conclusion}
 use Rattle.rule_ground.specs.Given.{of_one, of_two, concludes}
 use Rattle.rule_ground.specs.Exact.{IsJust}
 use Rattle.rule_ground.specs.Hits.{Among}
+use Rattle.cell_rules.specs.Making.{made_at}
 use Rattle.cell_rules.specs.Reading.{ReadAt}
 use Rattle.cell_step_rules.specs.CellStepGiven.{StepRule}
 
@@ -45,6 +46,10 @@ module _ (app : App) (lists : Lists) where
         j ≢ k →
         IsRefused (Points n o s ∷ CellLabel s j l ∷ []) (Points n o s)
         (concludes 7 (of_two (Points n o s) (CellLabel s j l)) (Label (at_pc n u) d l) ∷ [])
+    -- a new object that is told apart otherwise than by what makes it: finer, or coarser
+    pub made_otherwise : {n : Node} {d v : ℕ} {s : Site} →
+        s ≢ made_at app n →
+        IsRefused (Reached n ∷ []) (Reached n) (concludes 5 (of_one (Reached n)) (Points (at_pc n v) d s) ∷ [])
     -- what is moved stands at one step alone, of two that read the register
     pub one_reader : {n : Node} {d x pc u v : ℕ} {ds : List ℕ} {s : Site} →
         Acts app n (Move ds x) →

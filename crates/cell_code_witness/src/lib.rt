@@ -4,18 +4,20 @@
 #![tactic(auto)]
 
 ghost use Rattle.cell_code_witness.specs.Refused.{WrongListsAreRefused};
-ghost use Rattle.cell_code_witness.specs.RefusedCalls.{CallsWithLabelsGiveSome};
+ghost use Rattle.cell_code_witness.specs.RefusedCalls.{WrongListsOfCallsAreRefused};
 
 /// Not what the rules of steps give: a list without the label of a put, from either side; one without
 /// what a cell's label lets an object reach, or without what holds that object; a list in which a put
-/// or a get takes another key than its own; and one of a move with one reader, where there are two.
+/// or a get takes another key than its own; one in which a new object is told apart otherwise than by
+/// what makes it; and one of a move with one reader, where there are two.
 pub fn wrong_lists_are_refused()
     ensures { WrongListsAreRefused }
 {}
 
-/// Nothing is not what the rules of library calls give: where a label or what is reached from an object
-/// comes to a sink position, or to one from which a result of a reference type is joined, from either
-/// side; and of a copy of labelled elements, from each of the rows that it takes.
-pub fn calls_with_labels_give_some()
-    ensures { CallsWithLabelsGiveSome }
+/// Not what the rules of library calls give with any of the rows from which it follows: a list without what
+/// comes to a sink from a position, without the label that a joined result has of a position or of a source,
+/// where it is read or as its element, or without the label that a put, a store or a copy makes one of an
+/// element; and one in which a joined result holds its label in another object, or a copy goes to another.
+pub fn wrong_lists_of_calls_are_refused()
+    ensures { WrongListsOfCallsAreRefused }
 {}
