@@ -1,6 +1,6 @@
 -- A set of rows that is closed under all of the second rules but that what an object holds is reached from it.
-use Rattle.std.proofs.Common.{◌≡◌, ◌≢◌, ◌≤◌, ℕ, Bool, true, false, List, [], Some, None, refl, sym, subst, arith}
-use Rattle.std.specs.Prelude.{if◌then◌else◌, IsFalse}
+use Rattle.std.proofs.Common.{◌≡◌, ◌≢◌, ◌≤◌, ℕ, List, [], None, refl, sym, subst, arith}
+use Rattle.std.specs.Prelude.{IsFalse}
 use Rattle.std.specs.List.{AllByRecursion}
 use Rattle.std.proofs.lemmas.Option.{none-some}
 use Rattle.vet_base.specs.Members.{In, IsAt}
@@ -10,12 +10,12 @@ use Rattle.app_machine.specs.declared.method.Act.TheVariants.{Join, Move, New, F
 use Rattle.app_machine.specs.declared.lists.SummaryId.{SummaryId}
 use Rattle.app_machine.specs.declared.app.App.{App}
 use Rattle.app_machine.specs.Names.{Name, is_reference}
-use Rattle.app_machine.specs.Lookups.{ActAt, class_named}
+use Rattle.app_machine.specs.Lookups.{ActAt}
 use Rattle.app_machine.specs.State.{result_register, exception_register}
 use Rattle.fact_rows.specs.declared.context.Ctx.{Ctx}
 use Rattle.fact_rows.specs.declared.context.Node.{Node}
 use Rattle.fact_rows.specs.declared.site.Site.{Site}
-use Rattle.fact_rows.specs.declared.site.Site.TheVariants.{At, Made, Param, Component, Shared as SharedAt}
+use Rattle.fact_rows.specs.declared.site.Site.TheVariants.{Param, Component, Shared as SharedAt}
 use Rattle.fact_rows.specs.declared.row.Row.{Row}
 use Rattle.fact_rows.specs.declared.row.Row.TheVariants.{Points, Label, CellLabel, Holds, Arrive}
 use Rattle.flow_rules.specs.EventRules.{ComesToLive, by_callback, by_click}
@@ -31,11 +31,12 @@ use Rattle.cell_rules.specs.CallRules as call
 use Rattle.cell_rules.specs.LibraryRules as library
 use Rattle.cell_rules.specs.EventRules as event
 use Rattle.cell_rules.specs.HandedRules as handed
-use Rattle.cell_rules.specs.Making.{makes_of_app, keeps_context, made_at}
+use Rattle.cell_rules.specs.Making.{made_at}
 use Rattle.cell_rules.specs.Rules.{Follows, by_kept, by_local, by_heap, by_call, by_library, by_event, by_handed}
 use Rattle.cell_proof.proofs.Positions.{position_read}
-use Rattle.cell_witness.specs.Missing.{IsClimb, IsInner, OnlyInner}
+use Rattle.cell_witness.specs.Missing.{IsClimb, IsMadeAtTwo, OnlyInner}
 use Rattle.cell_witness.proofs.Closing.{no_callback, no_handed}
+use Rattle.cell_witness.proofs.MadeAtTwo.{keeps, made_there, there_made}
 use Rattle.cell_witness.proofs.Scenes.{acts_at, argument_behind, event_behind}
 
 -- Acts at an address: register 1 gets what is made at 2 and register 2 what is made elsewhere, and nothing else; a label is put
@@ -65,7 +66,7 @@ kept_inner row is = tt
 far : (r : ℕ) → 3 ≤ r → (r ≢ 1) × (r ≢ 2)
 far r beyond = ((λ same. omega arith), (λ same. omega arith))
 
-far_points : (r : ℕ) (s : Site) → 3 ≤ r → (r ≡ 1 → IsInner s) × (r ≡ 2 → IsInner s → ⊥)
+far_points : (r : ℕ) (s : Site) → 3 ≤ r → (r ≡ 1 → IsMadeAtTwo s) × (r ≡ 2 → IsMadeAtTwo s → ⊥)
 far_points r s beyond = let other = far r beyond in ((λ one. absurd (other.0 one)), (λ two inner. other.1 two))
 
 module _ (steps : List Step) (all : AllByRecursion (λ (s : Step). Inner s.pc s.act) steps) where
@@ -75,28 +76,11 @@ module _ (steps : List Step) (all : AllByRecursion (λ (s : Step). Inner s.pc s.
   is_inner : {method pc : ℕ} {act : Act} → ActAt the_app method pc act → Inner pc act
   is_inner at = acts_at steps Inner all at
 
-  -- an object of this class is told apart by its node
-  keeps : (n : Node) {d : ℕ} {class : Name} → Acts the_app n (New d class None) → class ≡ own_box → keeps_context the_app n ≡ true
-  unfolding keeps_context activity_of class_named
-  keeps n {d} at same =
-      subst (λ o. elim o [ None ↦ false | Some s ↦ makes_of_app the_app s.act ] ≡ true) (sym at.there)
-      (subst (λ a. makes_of_app the_app a ≡ true) (sym at.same) (subst (λ c. makes_of_app the_app (New d c None) ≡ true) (sym same) refl))
-
-  made_there : (n : Node) → keeps_context the_app n ≡ true → n.pc ≡ 2 → IsInner (made_at the_app n)
-  made_there n told at = subst (λ b. IsInner (if b then At n else Made n.by.method n.pc)) (sym told) at
-
-  there_made : (n : Node) → IsInner (made_at the_app n) → n.pc ≡ 2
-  there_made n is = by_test (keeps_context the_app n) is
-    where
-      by_test : (b : Bool) → IsInner (if b then At n else Made n.by.method n.pc) → n.pc ≡ 2
-      by_test true at = at
-      by_test false none = absurd none
-
   new_inner : (n : Node) {d : ℕ} {class : Name} → Acts the_app n (New d class None) →
-      (d ≡ 1 → IsInner (made_at the_app n)) × (d ≡ 2 → IsInner (made_at the_app n) → ⊥)
+      (d ≡ 1 → IsMadeAtTwo (made_at the_app n)) × (d ≡ 2 → IsMadeAtTwo (made_at the_app n) → ⊥)
   new_inner n acts =
       let told = is_inner acts in
-      ((λ one. made_there n (keeps n acts told.1.0) (told.1.1.0 one)), (λ two is. told.1.1.1 two (there_made n is)))
+      ((λ one. made_there steps n (keeps steps n acts told.1.0) (told.1.1.0 one)), (λ two is. told.1.1.1 two (there_made steps n is)))
 
   -- a position of a call is register 2
   at_position : {n : Node} {u : SummaryId} (r : RowAt the_app small_lists n u) {i y : ℕ} → IsAt (places_of r) i y → y ≡ 2

@@ -1,8 +1,11 @@
 pub mod Scenes
 pub mod Runs
+pub mod MadeAtTwo
 pub mod Climbing
 pub mod Closing
 pub mod Unlabelled
+pub mod Drawing
+pub mod Copied
 pub mod Made
 pub mod Missing
 pub mod Readers

@@ -9,10 +9,13 @@ use Rattle.fact_rows.specs.declared.row.Row.{Row}
 use Rattle.flow_rules.specs.Rules.{Starts, the_application, a_component}
 use Rattle.machine_witness.specs.Apps.{small_lists}
 use Rattle.machine_witness.specs.Flows.{by_field, activity_of}
-use Rattle.cell_witness.specs.Missing.{MissesBut, MissesWithout, IsClimb, Without, OnlyInner, Unlabelled, at_once, in_object, in_nested, LeavingOutARuleMisses}
+use Rattle.cell_witness.specs.Copying.{copying_lists, by_copy}
+use Rattle.cell_witness.specs.Missing.{MissesBut, MissesWithout, IsClimb, Without, OnlyInner, Uncopied, Unlabelled, at_once, in_object, in_nested, LeavingOutARuleMisses}
 use Rattle.cell_witness.proofs.Runs.{label_posted, field_posted, object_posted, nested_posted}
 use Rattle.cell_witness.proofs.Climbing.{Inner, closed_inner}
 use Rattle.cell_witness.proofs.Closing.{Tame, closed_without}
+use Rattle.cell_witness.proofs.Copied.{Calm, closed_uncopied}
+use Rattle.cell_witness.proofs.Drawing.{copy_posted}
 use Rattle.cell_witness.proofs.Unlabelled.{closed_unlabelled}
 use Rattle.cell_witness.proofs.Scenes.{AllActs}
 
@@ -23,6 +26,10 @@ start_without x cells app row (a_component none there) = tt
 start_inner : (app : App) (row : Row) → Starts app row → OnlyInner row
 start_inner app row (the_application is) = tt
 start_inner app row (a_component none there) = tt
+
+start_uncopied : (app : App) (row : Row) → Starts app row → Uncopied row
+start_uncopied app row (the_application is) = tt
+start_uncopied app row (a_component none there) = tt
 
 start_unlabelled : (app : App) (row : Row) → Starts app row → Unlabelled row
 start_unlabelled app row (the_application is) = tt
@@ -49,6 +56,9 @@ not_two e = omega arith
 
 not_two_one : ◌≡◌ {A = ℕ} 1 2 → ⊥
 not_two_one e = omega arith
+
+not_three : ◌≡◌ {A = ℕ} 3 2 → ⊥
+not_three e = omega arith
 
 not_four : ◌≡◌ {A = ℕ} 4 2 → ⊥
 not_four e = omega arith
@@ -126,5 +136,38 @@ without_joins = record {
   misses = λ n none. none;
 }
 
+-- the result is taken to register 1
+taken_away : (d : ℕ) → In d (1 ∷ []) → d ≢ 2
+taken_away d (inl same) two = not_two_one (sym same ∙ two)
+taken_away d (inr none) two = absurd none
+
+-- register 2 is made at 2
+calm_copy : AllByRecursion (λ (s : Step). Calm s.pc s.act) by_copy.on_create
+calm_copy = (
+  (not_two, tt),
+  (
+    taken_away,
+    ((refl, (refl, refl)), ((not_three, refl), ((not_four, refl), (tt, tt)))),
+  ),
+)
+
+without_copies : MissesWithout (activity_of by_copy) copying_lists 39 Uncopied
+without_copies = record {
+  starts = start_uncopied (activity_of by_copy);
+  closed = closed_uncopied by_copy.on_create calm_copy;
+  world = copy_posted.world;
+  frames = copy_posted.frames;
+  run = copy_posted.run;
+  arrival = record { label = 0; sink = 1; method = 0; pc = 4 };
+  arrives = copy_posted.arrives;
+  misses = λ n none. none;
+}
+
 pub leaving_out_a_rule_misses : LeavingOutARuleMisses
-leaving_out_a_rule_misses = record { without_puts = without_puts; without_holds = without_holds; without_climb = without_climb; without_joins = without_joins }
+leaving_out_a_rule_misses = record {
+  without_puts = without_puts;
+  without_holds = without_holds;
+  without_climb = without_climb;
+  without_joins = without_joins;
+  without_copies = without_copies;
+}

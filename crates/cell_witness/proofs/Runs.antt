@@ -33,22 +33,22 @@ knows_both s = record {
 }
 
 -- a run that brings the label 0 to the sink 1 at the first method's pc
-pub record Brings (app : App) (pc : ℕ) : Type 0 where
+pub record Brings (app : App) (lists : Lists) (pc : ℕ) : Type 0 where
   pub world : World
   pub frames : List Frame
-  pub run : Run app small_lists world frames
+  pub run : Run app lists world frames
   pub arrives : In (record { label = 0; sink = 1; method = 0; pc = pc }) world.arrivals
 
-brings : {app : App} {w : World} {fs : List Frame} (pc : ℕ) → Run app small_lists w fs →
-    In (record { label = 0; sink = 1; method = 0; pc = pc }) w.arrivals → Brings app pc
+pub brings : {app : App} {lists : Lists} {w : World} {fs : List Frame} (pc : ℕ) → Run app lists w fs →
+    In (record { label = 0; sink = 1; method = 0; pc = pc }) w.arrivals → Brings app lists pc
 brings {w = w} {fs = fs} pc run there = record { world = w; frames = fs; run = run; arrives = there }
 
-pub label_posted : Brings (activity_of at_once) 2
+pub label_posted : Brings (activity_of at_once) small_lists 2
 unfolding activity_of step_at body_named method_with up
 label_posted =
     brings 2 (by_post (by_take (by_id (to_created small_lists (is_activity at_once refl)) (knows_both at_once) 1 refl) (0 ∷ []) 2 refl) (knows_both at_once) 0 3 refl refl) (inl refl)
 
-pub field_posted : Brings (activity_of by_field) 5
+pub field_posted : Brings (activity_of by_field) small_lists 5
 unfolding activity_of step_at body_named method_with up
 field_posted =
     brings 5 (by_post (by_get (by_put_of (by_new (by_take (by_id (to_created small_lists (is_activity by_field refl)) (knows_both by_field) 1 refl) (0 ∷ []) 2 refl) 1 own_box 3 refl) 1 field_key 0 4 refl) 2 1 field_key the_label 5 refl (entry_of refl (inl refl))) (knows_both by_field) 2 6 refl refl) (inl refl)
@@ -132,7 +132,7 @@ by_post_of_object {app} {lists} {w} {f} run known x p to ks e object leads only 
 
 -- its one entry has the label, or is an object whose one entry has it
 module _ {app : App} {lists : Lists} {w : World} {f : Frame} {fs : List Frame} (run : Run app lists w (f ∷ fs)) (known : Knows app lists) (x p to : ℕ) (k : KeyId) (e : step_at app f.method f.pc ≡ Some (step f.pc (Call Static post (x ∷ [])) (to ∷ []))) (object : f.registers x ≡ object_at (Some p)) where
-  by_post_of_one : EntryAt w.heap p k the_label → ((j : KeyId) (v : Value) → EntryAt w.heap p j v → v ≡ the_label) →
+  pub by_post_of_one : EntryAt w.heap p k the_label → ((j : KeyId) (v : Value) → EntryAt w.heap p j v → v ≡ the_label) →
       Run app lists (record w { arrivals = arrival_at f ∷ w.arrivals; handed = p ∷ w.handed }) (record f { pc = to; registers = write f.registers result_register blank } ∷ fs)
   by_post_of_one entry alone =
       by_post_of_object run known x p to (k ∷ []) e object (p, refl, (the_label, entry, inl refl)) (only_of_object w.heap p the_label alone (only_label w.heap))
@@ -148,12 +148,12 @@ one_entry : (u : Value) (j : KeyId) (v : Value) → In {A = KeyId × Value} (j, 
 one_entry u j v (inl same) = ap (λ (e : KeyId × Value). e.1) same
 one_entry u j v (inr none) = absurd none
 
-pub object_posted : Brings (activity_of in_object) 4
+pub object_posted : Brings (activity_of in_object) small_lists 4
 unfolding activity_of step_at body_named method_with up
 object_posted =
     brings 4 (by_post_of_one (by_put_of (by_new (by_take (by_id (to_created small_lists (is_activity in_object refl)) (knows_both in_object) 1 refl) (0 ∷ []) 2 refl) 1 own_box 3 refl) 1 field_key 0 4 refl) (knows_both in_object) 1 1 5 field_key refl refl (inl refl) (one_entry the_label)) (inl refl)
 
-pub nested_posted : Brings (activity_of in_nested) 6
+pub nested_posted : Brings (activity_of in_nested) small_lists 6
 unfolding activity_of step_at body_named method_with up
 nested_posted =
     brings 6 (by_post_of_nested (by_put_of (by_new (by_put_of (by_new (by_take (by_id (to_created small_lists (is_activity in_nested refl)) (knows_both in_nested) 1 refl) (0 ∷ []) 2 refl) 1 own_box 3 refl) 1 field_key 0 4 refl) 2 own_box 5 refl) 2 field_key 1 6 refl) (knows_both in_nested) 2 2 7 field_key refl refl 1 field_key (inl refl) (one_entry (object_at (Some 1))) (inl refl) (one_entry the_label)) (inl refl)

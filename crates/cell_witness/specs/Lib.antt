@@ -1,3 +1,4 @@
+pub mod Copying
 pub mod Made
 pub mod Missing
 pub mod Readers

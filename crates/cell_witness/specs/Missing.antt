@@ -10,12 +10,13 @@ use Rattle.fact_rows.specs.declared.context.Node.{Node}
 use Rattle.fact_rows.specs.declared.site.Site.{Site}
 use Rattle.fact_rows.specs.declared.site.Site.TheVariants.{At}
 use Rattle.fact_rows.specs.declared.row.Row.{Row}
-use Rattle.fact_rows.specs.declared.row.Row.TheVariants.{Points, Label, StaticLabel, CellLabel, Holds, ExitLabel, Arrive}
+use Rattle.fact_rows.specs.declared.row.Row.TheVariants.{Points, Label, Cell, Back, StaticLabel, CellLabel, Holds, ExitLabel, Arrive}
 use Rattle.flow_rules.specs.Rules.{Starts, Each}
 use Rattle.machine_witness.specs.Apps.{small_lists, step}
 use Rattle.machine_witness.specs.Acts.{field_key}
 use Rattle.machine_witness.specs.Flows.{Scene, scene, own_box, with_id, and_post, by_field, activity_of}
 use Rattle.cell_rules.specs.Rules.{Follows}
+use Rattle.cell_witness.specs.Copying.{copying_lists, by_copy}
 
 -- The rows have the starts and are closed under all rules but what is left out of them, and there is a run of which
 -- they have no row of an arrival.
@@ -65,20 +66,32 @@ Without x cells (Holds s l) = ⊥
 Without x cells (Arrive l sink n) = ⊥
 Without x cells row = Unit {0}
 
--- the objects that are made at 2
-abbrev pub IsInner : Site → Type 0
-IsInner (At n) = n.pc ≡ 2
-IsInner s = ⊥
+-- an object that is made at 2
+abbrev pub IsMadeAtTwo : Site → Type 0
+IsMadeAtTwo (At n) = n.pc ≡ 2
+IsMadeAtTwo s = ⊥
 
 -- Register 1 has no others, and register 2 none of these; neither has a label; labels are in these alone, and reached
 -- from these alone; and none arrives.
 abbrev pub OnlyInner : Row → Type 0
-OnlyInner (Points n r s) = (r ≡ 1 → IsInner s) × (r ≡ 2 → IsInner s → ⊥)
+OnlyInner (Points n r s) = (r ≡ 1 → IsMadeAtTwo s) × (r ≡ 2 → IsMadeAtTwo s → ⊥)
 OnlyInner (Label n r l) = (r ≢ 1) × (r ≢ 2)
-OnlyInner (CellLabel s k l) = IsInner s
-OnlyInner (Holds s l) = IsInner s
+OnlyInner (CellLabel s k l) = IsMadeAtTwo s
+OnlyInner (Holds s l) = IsMadeAtTwo s
 OnlyInner (Arrive l sink n) = ⊥
 OnlyInner row = Unit {0}
+
+-- Register 2 has no others than these, and no label; no object holds another one; labels are not in these, and not reached
+-- from these; and none arrives.
+abbrev pub Uncopied : Row → Type 0
+Uncopied (Points n r s) = r ≡ 2 → IsMadeAtTwo s
+Uncopied (Label n r l) = r ≢ 2
+Uncopied (Cell s k t) = ⊥
+Uncopied (Back t k s) = ⊥
+Uncopied (CellLabel s k l) = IsMadeAtTwo s → ⊥
+Uncopied (Holds s l) = IsMadeAtTwo s → ⊥
+Uncopied (Arrive l sink n) = ⊥
+Uncopied row = Unit {0}
 
 -- all rows that speak of no label
 abbrev pub Unlabelled : Row → Type 0
@@ -90,10 +103,11 @@ Unlabelled (ExitLabel a how l) = ⊥
 Unlabelled (Arrive l sink n) = ⊥
 Unlabelled row = Unit {0}
 
--- without puts, without what is reached from an object, or only what is reached by what it holds, and without joined
--- results
+-- without puts, without what is reached from an object, or only what is reached by what it holds, without joined results,
+-- and without copies
 pub record LeavingOutARuleMisses : Type 0 where
   pub without_puts : MissesWithout (activity_of by_field) small_lists 8 (Without 2 ⊥)
   pub without_holds : MissesWithout (activity_of in_object) small_lists 14 (Without 1 (Unit {0}))
   pub without_climb : MissesBut (activity_of in_nested) small_lists IsClimb OnlyInner
   pub without_joins : MissesWithout (activity_of at_once) small_lists 35 Unlabelled
+  pub without_copies : MissesWithout (activity_of by_copy) copying_lists 39 Uncopied

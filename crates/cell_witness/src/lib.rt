@@ -14,8 +14,8 @@ pub fn registers_are_read_where_they_keep_their_value()
 {}
 
 /// Without the rule of puts, without that of what is reached from an object, with only what its own cells
-/// have of the latter, and without that of joined results there is a set of rows that has the starts and
-/// is closed under all other rules, and has no row of an arrival in some run.
+/// have of the latter, without that of joined results, and without that of copies there is a set of rows
+/// that has the starts and is closed under all other rules, and has no row of an arrival in some run.
 pub fn leaving_out_a_rule_misses_what_arrives()
     ensures { LeavingOutARuleMisses }
 {}
