@@ -16,6 +16,9 @@ from pathlib import Path
 from tests.made_apk import ANDROID, MAIN, ROOT, RUNNABLE, TWO, dumped, entry, make, manifest, replaced, with_gaps
 from tests.support import FolderCase
 from vet_tools import unpack
+from vet_tools.app_classes import classes_of
+from vet_tools.progress import Progress
+from vet_tools.refusal import Refusal
 
 REAL = Path("/usr/share/doc/androguard/examples")
 LINEAR = f"<LinearLayout {ANDROID}>"
@@ -492,6 +495,28 @@ def components_by_aapt(apk: Path) -> set[tuple[str, str]]:
             whole = package + name if name.startswith(".") else name if "." in name else f"{package}.{name}"
             found.add((element.removesuffix("-alias"), "L" + whole.replace(".", "/") + ";"))
     return found
+
+
+class ClassesTest(unittest.TestCase):
+    """Names of classes, as the tables of a DEX file's header have them."""
+
+    def named(self, *files: bytes) -> set[str]:
+        return classes_of({f"{place}.dex": raw for place, raw in enumerate(files)}, Progress("unpack"))
+
+    def test_the_names_are_those_of_all_files(self) -> None:
+        self.assertEqual({"La/Later;", "La/Main;"}, self.named(RUNNABLE.read_bytes()))
+        self.assertEqual({"La/Main;", "La/Sender;"}, self.named(*[one.read_bytes() for one in TWO.glob("*.dex")]))
+
+    def test_a_file_whose_tables_lead_nowhere_is_refused(self) -> None:
+        raw = RUNNABLE.read_bytes()
+        strings, types, classes, most = 0x38, 0x40, 0x60, 0x7FFFFFFF
+        counts = ((strings, 0), (types, 0), (classes, most))
+        for place, number in (*counts, *((it + 4, most) for it, _ in counts)):
+            with self.subTest(place), self.assertRaises(Refusal):
+                self.named(raw[:place] + struct.pack("<I", number) + raw[place + 4:])
+        for end in (0, 0x60, 0x70, len(raw) // 4):
+            with self.subTest(end), self.assertRaises(Refusal):
+                self.named(raw[:end])
 
 
 @unittest.skipUnless(REAL.is_dir(), "Debian's androguard is installed without its examples")
