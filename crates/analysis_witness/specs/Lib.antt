@@ -1,0 +1,2 @@
+pub mod ByFlow
+pub mod OwnRules
