@@ -79,9 +79,10 @@ CAUSES: dict[CauseKind, Advice] = {
         "Make the object in code.",
         "Review the class by hand."),
     CauseKind.TOO_LARGE: Advice(
-        "More facts follow than the LIMIT of rows in the lists.",
+        'More facts follow than the LIMIT of rows in the lists; where these say large = "cells", by the second '
+        "analysis as well.",
         "Make the app smaller, for instance by leaving unused code out.",
-        "Raise rows, up to 4,000,000, and run again."),
+        'Raise rows, up to 4,000,000, or say large = "cells", and run again.'),
     CauseKind.HIDDEN: Advice(
         "A class further up has a method of this name and descriptor, which a device runs in its place; the machine "
         "takes this one.",
