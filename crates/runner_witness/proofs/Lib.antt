@@ -1,3 +1,4 @@
 mod Acting
+mod Beginning
 mod Calling
 mod Raising

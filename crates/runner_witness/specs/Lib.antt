@@ -1,3 +1,4 @@
 pub mod Acts
+pub mod Begins
 pub mod Calls
 pub mod Raises

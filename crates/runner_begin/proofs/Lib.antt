@@ -1,0 +1,12 @@
+mod Alike
+mod Answered
+mod Begun
+mod Carried
+mod Coming
+mod Few
+mod Labelled
+mod Laid
+mod Made
+mod Picked
+mod Planned
+mod Values
