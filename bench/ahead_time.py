@@ -9,7 +9,6 @@ the office has two workers, within 100 milliseconds; each report has to be the s
 is judged ahead has to end by itself with status 0 and `served 1`.
 """
 
-import base64
 import json
 import re
 import shutil
@@ -19,40 +18,21 @@ import tempfile
 import time
 
 from drawn_app import drawn
-from killed_desk import Desk, free_port, office_in
+from killed_desk import OwnDesk, app_of
 
 ANN, REX = "ann-may-submit-0001", "rex-may-decide-0003"
 
 
-def app_of(folder):
-    with open(f"{folder}/classes.dex", "rb") as f:
-        app = {"dex": [base64.b64encode(f.read()).decode()]}
-    for part in ("manifest", "layouts", "declaration"):
-        with open(f"{folder}/{part}.toml") as f:
-            app[part] = f.read()
-    return app
-
-
-class Office:
+class Office(OwnDesk):
     """A desk by so many workers and the lists of the app."""
 
     def __init__(self, program, app_folder, workers):
-        self.folder, port = tempfile.mkdtemp(), free_port()
-        office_in(self.folder, port)
+        super().__init__(program)
         shutil.copy(f"{app_folder}/lists.toml", self.folder)
         with open(f"{self.folder}/office.toml") as f:
             text = re.sub("(?m)^workers = .*", f"workers = {workers}", f.read())
         with open(f"{self.folder}/office.toml", "w") as f:
             f.write(text)
-        self.desk = Desk(program, self.folder, port)
-
-    def __enter__(self):
-        return self
-
-    def __exit__(self, *fault):
-        if self.desk.process and self.desk.process.poll() is None:
-            self.desk.kill()
-        shutil.rmtree(self.folder)
 
     def submit(self, app, reference):
         status, said = self.desk.asked(ANN, "POST", "/cases", {**app, "reference": reference})

@@ -13,13 +13,11 @@ import base64
 import hashlib
 import os
 import resource
-import shutil
 import signal
 import subprocess
 import sys
-import tempfile
 
-from killed_desk import Desk, flagged_app, free_port, office_in, text_at
+from killed_desk import Desk, OwnDesk, flagged_app, text_at
 
 EMPTY = b"VETJRNL1\0"
 ANN, REX = "ann-may-submit-0001", "rex-may-decide-0003"
@@ -40,23 +38,12 @@ class LimitedDesk(Desk):
         self.process = subprocess.Popen(self.words, stdout=subprocess.DEVNULL, preexec_fn=limited)
 
 
-class Row:
+class Row(OwnDesk):
     """A folder with an office, a desk in it, and what is compared."""
 
     def __init__(self, program, title, limit=None):
-        self.title, self.folder, port = title, tempfile.mkdtemp(), free_port()
-        office_in(self.folder, port)
-        words = (program, self.folder, port)
-        self.desk = Desk(*words) if limit is None else LimitedDesk(*words, limit)
-        self.journal = f"{self.folder}/desk.journal"
-
-    def __enter__(self):
-        return self
-
-    def __exit__(self, *fault):
-        if self.desk.process and self.desk.process.poll() is None:
-            self.desk.kill()
-        shutil.rmtree(self.folder)
+        super().__init__(program, Desk if limit is None else lambda *words: LimitedDesk(*words, limit))
+        self.title, self.journal = title, f"{self.folder}/desk.journal"
 
     def put(self, content):
         with open(self.journal, "wb") as f:

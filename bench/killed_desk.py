@@ -3,13 +3,13 @@
 
 usage: bench/killed_desk.py PROGRAM [KILLS [SEED]]
 
-PROGRAM is the built program, as crates/vet/out/vet. The desk is started in a copy of examples/office on a free port, first
-over a database and then over a journal. A developer submits apps and appeals, reviewers decide and rule, one request after
-the other, until the desk is killed (SIGKILL) at most 150 milliseconds after it listens. Then it is started anew and asked
-for the developer's cases. Every case has to be in the state that was last told, or, for the last request alone, which had
-no reply, in the state that it asked for. At the end `sqlite3` has to find the database whole, and a reading of the journal
-by its format has to find all changes, and nothing behind them. Ends with status 1 at the first case that is not as it is to
-be.
+PROGRAM is the built program, as crates/vet/out/vet. The desk is started in a copy of examples/office on a free port,
+first over a database and then over a journal. A developer submits apps and appeals, reviewers decide and rule, one
+request after the other, until the desk is killed (SIGKILL) at most 150 milliseconds after it listens. Then it is
+started anew and asked for the developer's cases. Every case has to be in the state that was last told, or, for the
+last request alone, which had no reply, in the state that it asked for. At the end `sqlite3` has to find the database
+whole, and a reading of the journal by its format has to find all changes, and nothing behind them. Ends with status 1
+at the first case that is not as it is to be.
 """
 
 import base64
@@ -80,15 +80,19 @@ class Desk:
         return int(front.split(b" ", 2)[1]), rest
 
 
-def flagged_app():
-    """An app against whose decision an appeal is taken."""
-    folder = f"{TOP}/examples/device_id_posted"
+def app_of(folder):
+    """The parts of a submission of the app in a folder."""
     with open(f"{folder}/classes.dex", "rb") as f:
         app = {"dex": [base64.b64encode(f.read()).decode()]}
     for part in ("manifest", "layouts", "declaration"):
         with open(f"{folder}/{part}.toml") as f:
             app[part] = f.read()
     return app
+
+
+def flagged_app():
+    """An app against whose decision an appeal is taken."""
+    return app_of(f"{TOP}/examples/device_id_posted")
 
 
 class Office:
@@ -163,6 +167,23 @@ def office_in(folder, port):
     return tomllib.loads("".join(lines))["party"]
 
 
+class OwnDesk:
+    """A desk with an office in a folder of its own: it is killed behind all, and the folder let go."""
+
+    def __init__(self, program, made=Desk):
+        self.folder, port = tempfile.mkdtemp(), free_port()
+        self.parties = office_in(self.folder, port)
+        self.desk = made(program, self.folder, port)
+
+    def __enter__(self):
+        return self
+
+    def __exit__(self, *fault):
+        if self.desk.process and self.desk.process.poll() is None:
+            self.desk.kill()
+        shutil.rmtree(self.folder)
+
+
 def whole_database(folder, states):
     said = subprocess.run(
         ["sqlite3", f"{folder}/desk.sqlite", "PRAGMA integrity_check"], capture_output=True, text=True, check=True
@@ -196,13 +217,12 @@ def whole_journal(folder, states):
 
 
 def killed(program, kills, seed, keeper):
-    rng, port, folder = random.Random(seed), free_port(), tempfile.mkdtemp()
-    if keeper == "journal":
-        open(f"{folder}/desk.journal", "wb").close()
-    desk = Desk(program, folder, port)
-    office = Office(desk, office_in(folder, port), rng)
-    more = 0
-    try:
+    rng = random.Random(seed)
+    with OwnDesk(program) as own:
+        if keeper == "journal":
+            open(f"{own.folder}/desk.journal", "wb").close()
+        desk, more = own.desk, 0
+        office = Office(desk, own.parties, rng)
         for _ in range(kills):
             desk.start()
             desk.connected().close()
@@ -213,17 +233,13 @@ def killed(program, kills, seed, keeper):
             desk.start()
             more += office.look(last)
             desk.kill()
-        {"database": whole_database, "journal": whole_journal}[keeper](folder, office.states)
+        {"database": whole_database, "journal": whole_journal}[keeper](own.folder, office.states)
         if not office.states:
             raise SystemExit(f"{keeper}: the desk told of no case before it was killed; it is too slow to say anything")
         print(
             f"{keeper}: {kills} kills, {len(office.states)} cases: all that was told as kept was there, "
             f"{more} times one change more"
         )
-    finally:
-        if desk.process and desk.process.poll() is None:
-            desk.kill()
-        shutil.rmtree(folder)
 
 
 def main():
