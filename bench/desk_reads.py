@@ -3,10 +3,11 @@
 
 usage: bench/desk_reads.py [MB [CASES]]
 
-Starts the built program (crates/vet/out/vet, or the one that VET_DESK names) over a database that SQLite's own library made:
-CASES decided cases (100) of which each has a DEX file of so many megabytes (1), and one with 48. Prints how many bytes the
-desk has read for its first request, and for each request about the large case, with the time that it took. Ends with status
-1 where one that needs no content has read more than 300,000.
+Starts the built program (crates/vet/out/vet, or the one that VET_DESK names) over a database that SQLite's own
+library made: CASES decided cases (100) of which each has a DEX file of so many megabytes (1), and one with 48. Prints
+how many bytes the desk has read for its first request, and for each request about the large case, with the time that
+it took and the most memory that the desk has held until then. Ends with status 1 where one that needs no content has
+read more than 300,000.
 """
 
 import json
@@ -63,7 +64,8 @@ def main():
             before, begun = desk.bytes_read(), time.monotonic()
             status, _, _ = desk.ask(who, method, path, None if body is None else json.dumps(body))
             read = desk.bytes_read() - before
-            print(f"{name:8} {status} {read:>12,} bytes {1000 * (time.monotonic() - begun):8.1f} ms")
+            took, held = 1000 * (time.monotonic() - begun), desk.most_memory() // 1_000_000
+            print(f"{name:8} {status} {read:>12,} bytes {took:8.1f} ms {held:5} MB held")
             if name not in ("first", "review"):
                 worst = max(worst, read)
     finally:

@@ -103,6 +103,13 @@ class DeskAtWork:
                 return int(line.removeprefix("rchar: "))
         raise AssertionError("the kernel does not tell what was read")
 
+    def most_memory(self) -> int:
+        """The most bytes of memory that the desk has held until now."""
+        for line in Path(f"/proc/{self._process.pid}/status").read_text().splitlines():
+            if line.startswith("VmHWM:"):
+                return int(line.split()[1]) * 1024
+        raise AssertionError("the kernel does not tell how much memory was held")
+
     def ask(self, who: str | None, method: str, path: str, body: str | None = None) -> tuple[int, str, bytes]:
         """Status, content type and body of the reply to a request."""
         connection = http.client.HTTPConnection("127.0.0.1", self.port, timeout=60)
