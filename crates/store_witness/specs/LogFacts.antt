@@ -4,12 +4,28 @@ use Rattle.std.specs.Option.{option_map}
 use Rattle.disks.specs.Disks.{Moment, Told, after, wrote, shortened, solid}
 use Rattle.gated_log.specs.declared.log.Gate.TheVariants.{Closed, Behind}
 use Rattle.gated_log.specs.declared.log.Log.{Log}
-use Rattle.gated_log.specs.Ends.{Stands, IsEnd, IsEmptyLog, LeavesFront, front_of}
+use Rattle.gated_log.specs.Ends.{Stands, IsEnd, IsEmptyLog, LeavesEither, LeavesFront, front_of}
 use Rattle.gated_log.specs.Format.{magic, u8_bytes, record_bytes, behind_gate}
 
 -- a log that ends at the offset in one closed gate
 abbrev pub closed : ℕ → Log
 closed end = record { end = end; gate = Closed }
+
+-- no records
+abbrev pub empty : List ℕ
+empty = magic ++ 0 ∷ []
+
+-- behind a write of a record without a byte, with its gate
+abbrev pub at_once : Moment
+at_once = wrote (solid empty) 8 10 (magic ++ (record_bytes [] ++ 0 ∷ []))
+
+-- behind a write of what stands behind its gate
+abbrev pub prepared : Moment
+prepared = wrote (solid empty) 9 9 (empty ++ behind_gate [])
+
+-- and behind one of the gate, with no sync between
+abbrev pub unsynced : Moment
+unsynced = wrote prepared 8 1 (magic ++ 1 ∷ behind_gate [])
 
 -- no records, and an open gate before the length of one of a byte, which is not there
 abbrev pub half : List ℕ
@@ -25,6 +41,14 @@ pub record LogsTell : Type 0 where
   -- a record that was added counts, be it one without a byte (else its gate is closed)
   pub added : (t u : Told) → t.now.bytes ≡ magic ++ 0 ∷ [] → u.now.bytes ≡ magic ++ 0 ∷ behind_gate []
       → front_of (closed 17) (Some u) ≡ option_map (λ front. front ++ record_bytes []) (front_of (closed 8) (Some t)) → ⊥
+  -- a record that was added stays (else it is told before the last sync, or behind one that failed)
+  pub stays : (t : Told) (end at n : ℕ) (bytes : List ℕ) → Stands (closed end) (after t (wrote t.now at n bytes)) → ⊥
+  -- a gate is written once its record is there to stay, since a crash may leave another record behind it (else both are
+  -- one write, or two with no sync between)
+  pub one_write : (past : List Moment)
+      → LeavesEither 8 [] (Some (holding empty past)) (Some (after (holding empty past) at_once)) → ⊥
+  pub no_sync : (past : List Moment)
+      → LeavesEither 8 [] (Some (holding empty past)) (Some (after (after (holding empty past) prepared) unsynced)) → ⊥
   -- where a gate was written and not synced, no closed one is there to stay (else it would be called closed)
   pub touched : (t : Told) (end : ℕ) (torn : List ℕ)
       → Stands (record { end = end; gate = Behind }) (after t (wrote t.now end 1 torn)) → ⊥
