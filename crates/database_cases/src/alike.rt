@@ -2,12 +2,10 @@
 
 ghost use Rattle.desk_serving.specs.Obeying.{TellsDocket};
 
-use crate::keepers::FileKeeper;
 use crate::late::fails_twice;
-use crate::store::LASTING;
-use crate::telling::{story, tells, tells_end, told_by_memory};
 use case_keeper::Keeper;
 use case_lines::change_of;
+use filed_keepers::{FileKeeper, LASTING, story, tells, tells_end, told_by_memory};
 use std::alloc::Global;
 use std::io;
 

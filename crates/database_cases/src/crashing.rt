@@ -2,11 +2,9 @@
 
 ghost use Rattle.desk_serving.specs.Obeying.{TellsDocket};
 
-use crate::keepers::FileKeeper;
-use crate::store::{Faults, stopping};
-use crate::telling::{asked, told};
 use case_keeper::{Keeper, MemKeeper};
 use case_lines::reply_to;
+use filed_keepers::{Faults, FileKeeper, asked, stopping, told};
 use std::alloc::Global;
 use std::io;
 

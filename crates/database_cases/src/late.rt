@@ -2,11 +2,9 @@
 
 ghost use Rattle.desk_serving.specs.Obeying.{TellsDocket};
 
-use crate::keepers::LateOne;
-use crate::store::LASTING;
-use crate::telling::{tells, told_by_memory};
 use case_keeper::{KeepFault, Keeper};
 use case_lines::due_in;
+use filed_keepers::{LASTING, LateOne, tells, told_by_memory};
 use sqlite_keeper::{LateKeeper, Opener};
 use std::alloc::Global;
 use std::io;

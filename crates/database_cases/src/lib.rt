@@ -4,22 +4,18 @@
 
 mod alike;
 mod crashing;
-mod keepers;
 mod late;
 mod lines;
-mod store;
 mod stumbling;
-mod telling;
 
 use crate::alike::{answers_as_memory, has_after, is_left, refusals_after};
 use crate::crashing::{Run, stops_of};
-use crate::keepers::{FileKeeper, LateOne, SlowOpener};
 use crate::late::asks_again;
 pub use crate::late::no_folder;
 use crate::lines::{due_in_text, due_over_http};
-use crate::store::{Faulty, Filed};
 use crate::stumbling::{opens_anew, stumbles_of};
 use failing_disk::Stumbling;
+use filed_keepers::{Faulty, FileKeeper, Filed, LateOne, SlowOpener};
 use sqlite::FileStore;
 use sqlite_disk::{Fuse, Memory};
 use sqlite_keeper::{LateKeeper, OpenKeeper};

@@ -3,12 +3,11 @@
 ghost use Rattle.std.specs.Prelude.{IfOk};
 ghost use Rattle.desk_serving.specs.Obeying.{TellsDocket};
 
-use crate::keepers::FileKeeper;
-use crate::store::LASTING;
 use case_keeper::Keeper;
 use case_lines::due_in;
 use desk_links::{FixedClock, MemLink};
 use desk_serving::{Desk, serve_one};
+use filed_keepers::{FileKeeper, LASTING};
 use serving_lines::{FirstByte, bytes_of, desk};
 use std::alloc::Global;
 use std::rt::Files;

@@ -4,11 +4,9 @@ ghost use Rattle.std.specs.Prelude.{IfOk};
 ghost use Rattle.desk_serving.specs.Obeying.{TellsDocket};
 
 use crate::crashing::{Run, done_of, is_told_after};
-use crate::keepers::{FileKeeper, LateOne};
-use crate::store::{Faults, stumbling};
-use crate::telling::told;
 use case_keeper::Keeper;
 use failing_disk::Stumble;
+use filed_keepers::{Faults, FileKeeper, LateOne, stumbling, told};
 use std::alloc::Global;
 use std::io;
 

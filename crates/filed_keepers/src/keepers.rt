@@ -4,7 +4,8 @@
 ghost use Rattle.std.specs.Prelude.{IfOk};
 ghost use Rattle.desk_serving.specs.Obeying.{TellsDocket};
 
-use crate::store::{Faults, Filed, LASTING};
+use crate::faults::{Faults, LASTING};
+use crate::store::Filed;
 use case_keeper::{KeepFault, Keeper};
 use case_rules::Change;
 use sqlite::{Alter, Connection, Error, ErrorCode, Row};

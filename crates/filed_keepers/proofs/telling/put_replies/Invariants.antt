@@ -1,5 +1,5 @@
 use Rattle.desk_serving.specs.Obeying.{TellsDocket}
-use Rattle.database_cases.proofs.telling.put_replies.Given as goal
+use Rattle.filed_keepers.proofs.telling.put_replies.Given as goal
 
 abbrev pub invariant-loop-line : goal.invariant-loop-line
 invariant-loop-line g l = TellsDocket (g.K.Keeper.told l.keeper)

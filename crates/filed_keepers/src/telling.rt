@@ -51,6 +51,21 @@ fn put_case(text: &mut String, case: &Result<Option<Case>, KeepFault>) -> io::Re
 }
 
 /// Puts behind the text the case of this developer and reference, with its content.
+fn put_named<K: Keeper>(
+    alloc: Global,
+    keeper: &mut K,
+    party: &Name,
+    reference: &Name,
+    text: &mut String,
+) -> io::Result<()>
+    requires { TellsDocket (K.told keeper.old) }
+    ensures { TellsDocket (K.told keeper.new) }
+{
+    let case = keeper.find(alloc, party, reference);
+    put_case(text, &case)
+}
+
+/// The same, where the names are texts.
 fn put_found<K: Keeper>(
     alloc: Global,
     keeper: &mut K,
@@ -62,18 +77,16 @@ fn put_found<K: Keeper>(
 {
     let party = name_of(alloc, names.0)?;
     let reference = name_of(alloc, names.1)?;
-    let case = keeper.find(alloc, &party, &reference);
-    put_case(text, &case)
+    put_named(alloc, keeper, &party, &reference, text)
 }
 
 /// The developer and the reference of a line that shows a case, as `100 1 ann show r1`.
 fn shown_in(line: &str) -> Option<(&str, &str)> {
     let mut words = line.split(' ').skip(2);
-    let party = words.next()?;
-    if words.next()? != "show" {
-        return None;
+    match (words.next(), words.next(), words.next()) {
+        (Some(party), Some("show"), Some(reference)) => Some((party, reference)),
+        _ => None,
     }
-    Some((party, words.next()?))
 }
 
 /// Puts what the keeper replies to a line behind the text, and where it shows a case that case with its content.
