@@ -22,7 +22,8 @@ ADVICE = {
     "appeal open": "A ruling on the appeal is due first.",
     "ruled already": "Somebody ruled on this appeal already.",
     "no appeal": "There is no appeal to rule on.",
-    "store failed": "The desk could not open or write its database. Does another program have it open? Then ask again.",
+    "store failed": "The desk could not open or write its database. Does another program have it open? See whether the "
+    "command was carried out all the same, as it may be where the disk failed last of all, and then ask again.",
     "no memory": "The desk ran out of memory. Ask again.",
 }
 
