@@ -1,0 +1,4 @@
+mod Laws
+mod Runs
+mod Steps
+mod Told

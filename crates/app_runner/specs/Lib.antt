@@ -1,0 +1,4 @@
+pub mod Known
+pub mod Laws
+pub mod Played
+pub mod Told
